@@ -1,0 +1,4 @@
+pub mod Separators
+pub mod Items
+pub mod Spelling
+pub mod Tokens
