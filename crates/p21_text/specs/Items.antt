@@ -91,3 +91,7 @@ pub data IsItems : ℕ → List ℕ → List Item → Type 0 where
 -- the items of a string's body: part 1 stands at its start
 abbrev pub ItemsOf : List ℕ → List Item → Type 0
 ItemsOf body items = IsItems 1 body items
+
+-- a text is the body of a string: it has items
+abbrev pub IsBody : List ℕ → Type 0
+IsBody body = ∥ ((items : List Item) × ItemsOf body items) ∥₁

@@ -2,3 +2,13 @@ pub mod Separators
 pub mod Items
 pub mod Spelling
 pub mod Tokens
+pub mod Gaps
+pub mod Runs
+pub mod Fronts
+pub mod Contents
+pub mod Laws
+pub mod ItemShapes
+pub mod Values
+pub mod Closing
+pub mod Meanings
+pub mod StringItems

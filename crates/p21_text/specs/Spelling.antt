@@ -1,7 +1,7 @@
 -- How each token is spelled.
-use Rattle.std.specs.Prelude.{◌≡◌, ◌≢◌, ℕ, ◌+◌, ◌-◌, ◌*◌, ◌<◌, ◌≤◌, ◌^◌, ◌⊎◌, List, [], ◌∷◌, ◌++◌, length}
+use Rattle.std.specs.Prelude.{◌≡◌, ℕ, ◌+◌, ◌-◌, ◌*◌, ◌<◌, ◌≤◌, ◌^◌, ◌⊎◌, List, [], ◌∷◌, ◌++◌, length}
 use Rattle.std.specs.List.{AllByRecursion}
-use Rattle.p21_text.specs.Items.{Item, ItemsOf, IsHexDigit}
+use Rattle.p21_text.specs.Items.{IsBody, IsHexDigit}
 use Rattle.p21_text.specs.declared.token.Token.{Token}
 use Rattle.p21_text.specs.declared.token.Token.TheVariants as variants
 
@@ -63,7 +63,6 @@ IsName [] = ⊥
 IsName (b ∷ rest) = IsUpper b × AllByRecursion (λ c. IsUpper c ⊎ IsDigit c) rest
 
 -- one Digit or more
--- 0 to 9
 abbrev pub IsDigits : List ℕ → Type 0
 IsDigits [] = ⊥
 IsDigits (b ∷ rest) = IsDigit b × AllByRecursion IsDigit rest
@@ -124,7 +123,7 @@ Spells text behind (keyword s) = (text ≡ s) × IsName s
 Spells text behind (user_keyword s) = (text ≡ s) × (n : List ℕ) × (s ≡ 33 ∷ n) × IsName n
 Spells text behind (int s) = (text ≡ s) × IsInt s
 Spells text behind (real s) = (text ≡ s) × IsReal s
-Spells text behind (str body) = (text ≡ 39 ∷ (body ++ 39 ∷ [])) × ((items : List Item) × ItemsOf body items) × NotBefore (λ b. b ≡ 39) behind
+Spells text behind (str body) = (text ≡ 39 ∷ (body ++ 39 ∷ [])) × IsBody body × NotBefore (λ b. b ≡ 39) behind
 Spells text behind (name n) = (digits : List ℕ) × (text ≡ 35 ∷ digits) × IsDigits digits × (n ≡ decimal_from 0 digits) × (n < 2 ^ 64) × NotBefore IsDigit behind
 Spells text behind (enumeration n) = (text ≡ 46 ∷ (n ++ 46 ∷ [])) × IsName n
 Spells text behind (binary s) = (text ≡ 34 ∷ (s ++ 34 ∷ [])) × IsBinary s

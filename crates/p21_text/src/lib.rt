@@ -1,6 +1,29 @@
 //! The tokens of the clear text encoding of ISO 10303-21, and the items of its strings.
 #![tactic(auto)]
 
+mod binary;
+mod body;
+mod bytes;
+mod front;
+mod instance_name;
+mod laws;
+mod meaning;
+mod next;
+mod number;
+mod separators;
+mod shape;
+mod str_items;
+mod string;
+#[cfg(test)]
+mod tests;
 mod token;
+mod units;
+mod word;
 
+pub use binary::binary_bits;
+pub use body::{items, string_items, string_len};
+pub use laws::{items_are_unique, one_first, one_list};
+pub use meaning::StrItem;
+pub use next::next_token;
+pub use str_items::StrItems;
 pub use token::{Lexed, Token};

@@ -1,7 +1,7 @@
 //! What a token is, and where one stands.
 
 /// A token of the clear text (ISO 10303-21, 6.4 and 7), which borrows its text from the source.
-#[derive(Clone, Copy, Debug)]
+#[derive(Clone, Copy, Debug, PartialEq, Eq)]
 pub enum Token<'a> {
     /// `ISO-10303-21`
     Iso,
@@ -44,7 +44,7 @@ pub enum Token<'a> {
 }
 
 /// A token and where it stands.
-#[derive(Clone, Copy, Debug)]
+#[derive(Clone, Copy, Debug, PartialEq, Eq)]
 pub struct Lexed<'a> {
     /// The place of the token's first byte, in bytes from the text's first byte.
     pub start: usize,

@@ -1,0 +1,47 @@
+//! How many messages a lane has room for.
+ghost use Rattle.std.specs.Prelude.{◌≡◌, ◌<◌, ◌≤◌};
+ghost use Rattle.std.specs.Option.{SomeIff};
+
+use std::marker::Model;
+
+/// The number of messages that a lane has room for, 1 to 4096.
+#[derive(Debug, Clone, Copy, PartialEq, Eq)]
+pub struct Capacity {
+    count: u32,
+}
+
+impl Model for Capacity {
+    ghost use Rattle.std.specs.Prelude.{ℕ, ◌<◌, ◌≤◌};
+
+    ghost Value = { ℕ };
+
+    ghost view = { λ c. c.count };
+
+    ghost invariant = { λ c. (0 < c.count) × (c.count ≤ 4096) };
+
+    ghost inverse = { λ n. record { count = n } };
+}
+
+impl Capacity {
+    /// The greatest capacity.
+    pub const MAX: u32 = 4096;
+
+    /// The capacity of `n` messages, or `None` where `n` is 0 or above `MAX`.
+    pub fn new(n: u32) -> Option<Capacity>
+        ensures { SomeIff result ((0 < n) × (n ≤ 4096)) n }
+    {
+        if 0 < n && n <= Capacity::MAX {
+            Some(Capacity { count: n })
+        } else {
+            None
+        }
+    }
+
+    /// How many messages it is.
+    pub fn get(self) -> u32
+        ensures value { result ≡ self }
+        ensures in_range { (0 < result) × (result ≤ 4096) }
+    {
+        self.count
+    }
+}

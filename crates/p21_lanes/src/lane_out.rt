@@ -1,0 +1,87 @@
+//! The end of a lane that takes items.
+ghost use Rattle.std.specs.Prelude.{◌≡◌};
+ghost use Rattle.rtrb.specs.Ring.{received as popped};
+ghost use Rattle.p21_lanes.specs.History.{has_end, EndIsLast};
+
+use crate::history::Message;
+use crate::lane_in::LaneIn;
+use rtrb::{Consumer, PopError};
+
+/// What `LaneOut::take` found.
+#[derive(Debug, Drop, PartialEq, Eq)]
+pub enum Taken<T> {
+    /// The oldest item that was not taken yet.
+    Item(T),
+    /// The end: nothing comes after it.
+    Ended,
+    /// No message yet. The other end may send more.
+    Nothing,
+}
+
+/// The end of a lane that takes items. It can move to another thread.
+#[derive(Drop)]
+pub struct LaneOut<T> {
+    consumer: Consumer<Message<T>>,
+    ended: bool,
+    ghost history: { EndIsLast (popped consumer) },
+    ghost end_taken: { ended ≡ has_end (popped consumer) },
+}
+
+impl<T: Drop> LaneOut<T> {
+    ghost use Rattle.std.specs.Prelude.{◌≡◌, List, [], ◌++◌, true};
+    ghost use Rattle.rtrb.specs.Ring.{received as popped};
+    ghost use Rattle.p21_lanes.specs.declared.history.Message.{Message};
+    ghost use Rattle.p21_lanes.specs.declared.lane_out.Taken.TheVariants.{Ended};
+    ghost use Rattle.p21_lanes.specs.LaneIn.{sent, IsUnchangedIn};
+    ghost use Rattle.p21_lanes.specs.LaneOut.{received, took_end, SameOut, IsUnchangedOut, Took};
+    ghost use Rattle.p21_lanes.specs.Lane.{IsLane};
+
+    // The end over the consumer of a new ring.
+    pub(crate) fn over(consumer: Consumer<Message<T>>) -> LaneOut<T>
+        requires { popped consumer ≡ [] }
+        ensures { result.consumer ≡ consumer }
+    {
+        LaneOut {
+            consumer,
+            ended: false,
+        }
+    }
+
+    /// Takes the oldest message, if this end sees one. Once the end was taken, the answer stays `Ended`.
+    #[tactic(auto, using(crate::proofs::HistoryLemmas::one_more))]
+    pub fn take(&mut self) -> Taken<T>
+        ensures lane { SameOut self.old self.new }
+        ensures took { Took result self.old self.new }
+        ensures again { took_end self.old ≡ true
+            → (result ≡ Ended) × (received self.new ≡ received self.old) }
+    {
+        if self.ended {
+            return Taken::Ended;
+        }
+        match self.consumer.pop() {
+            Ok(Message::Item(item)) => Taken::Item(item),
+            Ok(Message::End) => {
+                self.ended = true;
+                Taken::Ended
+            }
+            Err(PopError::Empty) => Taken::Nothing,
+        }
+    }
+
+    // Looks at what the other end sent. Only a thread that holds both ends can know that it sees all of it.
+    pub(crate) fn look_beside(&mut self, lane_in: &mut LaneIn<T>)
+        requires { IsLane lane_in.old self.old }
+        ensures lane_in { IsUnchangedIn lane_in.old lane_in.new }
+        ensures lane_out { IsUnchangedOut self.old self.new }
+        ensures in_order { (rest : List (Message T)) × (sent lane_in.new ≡ received self.new ++ rest) }
+    {
+        self.consumer.slots_beside(&mut lane_in.producer);
+    }
+
+    // Whether the end was taken.
+    pub(crate) fn took_end(&self) -> bool
+        ensures { result ≡ took_end self.now }
+    {
+        self.ended
+    }
+}

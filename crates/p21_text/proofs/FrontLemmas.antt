@@ -1,0 +1,75 @@
+-- The token at the front of a text, where it is one byte, or none begins, or the text is empty.
+use Rattle.std.proofs.Common.{◌≡◌, ℕ, zero-le, ◌<◌, ◌≤◌, List, [], ◌∷◌, length, take, drop, sym, ap, subst, arith}
+use Rattle.std.proofs.lemmas.List.{nil_from_length, length-take-le}
+use Rattle.p21_text.specs.Spelling.{Symbol, Spells, IsUpper}
+use Rattle.p21_text.specs.Spelling as token
+use Rattle.p21_text.specs.Contents.{IsContent}
+use Rattle.p21_text.specs.Tokens.{Front, IsLast}
+use Rattle.p21_text.specs.Tokens as tokens
+use Rattle.p21_text.specs.Runs.{IsNumberByte, FirstIs}
+use Rattle.p21_text.proofs.Shapes.{IsSingle, Shape, word, number, single, name, string, enumeration, binary, user, shape, front_by, none_by}
+use Rattle.p21_text.proofs.Groups.{BeginsNothing, only_single, only_nothing}
+
+pub end_front : (text : List ℕ) → length text ≡ 0 → Front text 0 token.end
+end_front text e = rw (nil_from_length text e) tokens.ended
+
+-- the byte c is a whole token
+pub single_front : (text tail : List ℕ) (b c : ℕ) (t : Symbol) → text ≡ b ∷ tail → b ≡ c → IsSingle c → Spells (c ∷ []) tail t → Front text 1 t
+single_front text tail b c t e f k s =
+    rw (e, f) (front_by (c ∷ tail) 1 t (omega arith) s (λ front behind g h. subst (λ n. n ≤ 1) (sym (only_single c tail front behind g k h)) (omega arith)))
+
+pub bad_front : (text tail : List ℕ) (b : ℕ) → text ≡ b ∷ tail → BeginsNothing b → Front text 0 token.bad
+bad_front text tail b e none = rw e (none_by (b ∷ tail) (λ h. cc) (λ front behind g h. only_nothing b tail front behind g none h))
+
+-- a token's bytes are the text's
+pub front_within : (text : List ℕ) (n : ℕ) (t : Symbol) → Front text n t → n ≤ length text
+front_within text n t (tokens.token l) = l.fits
+front_within text n t tokens.ended = omega arith
+front_within text n t (tokens.none some none) = zero-le
+
+first_some : (P : ℕ → Type 0) (s : List ℕ) → FirstIs P s → 0 < length s
+first_some P [] h = absurd h
+first_some P (b ∷ s) h = omega arith
+
+-- nothing spells a token by no byte
+pub shape_some : (front behind : List ℕ) → Shape front behind → 0 < length front
+shape_some front behind (word f h) = first_some IsUpper front f
+shape_some front behind (number f h) = first_some IsNumberByte front f
+shape_some front behind (single b e h) = omega (arith, ap length e)
+shape_some front behind (name ds e h v l) = omega (arith, ap length e)
+shape_some front behind (string body e h l) = omega (arith, ap length e)
+shape_some front behind (enumeration n e h) = omega (arith, ap length e)
+shape_some front behind (binary n e h) = omega (arith, ap length e)
+shape_some front behind (user n e h) = omega (arith, ap length e)
+
+pub front_some : (text : List ℕ) (n : ℕ) (t : Symbol) → Front text n t → ¬ (IsLast t) → 0 < n
+front_some text n t (tokens.token l) more =
+    subst (λ k. 0 < k) (length-take-le n text l.fits) (shape_some (take n text) (drop n text) (shape (take n text) (drop n text) t l.spelled))
+front_some text n t tokens.ended more = absurd (more tokens.at_end)
+front_some text n t (tokens.none some none) more = absurd (more tokens.at_bad)
+
+content_of : (front behind : List ℕ) (t : Symbol) → Spells front behind t → IsContent t
+content_of front behind token.iso h = tt
+content_of front behind token.end_iso h = tt
+content_of front behind (token.keyword s) h = h.1
+content_of front behind (token.user_keyword s) h = (h.1, h.2, h.3)
+content_of front behind (token.int s) h = h.1
+content_of front behind (token.real s) h = h.1
+content_of front behind (token.str s) h = h.1
+content_of front behind (token.name n) h = h.4
+content_of front behind (token.enumeration n) h = h.1
+content_of front behind (token.binary s) h = h.1
+content_of front behind token.dollar h = tt
+content_of front behind token.star h = tt
+content_of front behind token.lparen h = tt
+content_of front behind token.rparen h = tt
+content_of front behind token.comma h = tt
+content_of front behind token.equals h = tt
+content_of front behind token.semi h = tt
+content_of front behind token.end h = tt
+content_of front behind token.bad h = tt
+
+pub front_content : (text : List ℕ) (n : ℕ) (t : Symbol) → Front text n t → IsContent t
+front_content text n t (tokens.token l) = content_of (take n text) (drop n text) t l.spelled
+front_content text n t tokens.ended = tt
+front_content text n t (tokens.none some none) = tt

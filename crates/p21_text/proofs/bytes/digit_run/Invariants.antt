@@ -1,0 +1,7 @@
+use Rattle.std.proofs.Common.{take}
+use Rattle.std.specs.List.{AllByRecursion}
+use Rattle.p21_text.specs.Spelling.{IsDigit}
+use Rattle.p21_text.proofs.bytes.digit_run.Given as goal
+
+abbrev pub invariant-loop-i : goal.invariant-loop-i
+invariant-loop-i l = AllByRecursion IsDigit (take l.i l.text)

@@ -1,0 +1,38 @@
+//! Laws of the definitions: what each function ensures holds of every text. Nobody needs to call one.
+
+ghost use Rattle.std.specs.Prelude.{◌≡◌, ◌≤◌, List, length};
+ghost use Rattle.p21_text.specs.Items.{Item, ItemsOf};
+ghost use Rattle.p21_text.specs.Laws.{HasOneFirst, HasOneList};
+
+use crate::next::next_token;
+use crate::token::Token;
+
+/// From each place of a text exactly one token is the first.
+pub fn one_first(text: &[u8], at: usize)
+    requires { at ≤ length text.now }
+    ensures { HasOneFirst text.now at }
+{
+    // The token that exists is the one that is found.
+    let _first = next_token(text, at);
+}
+
+/// From each place of a text there is exactly one list of tokens.
+pub fn one_list(text: &[u8], at: usize)
+    requires { at ≤ length text.now }
+    ensures { HasOneList text.now at }
+{
+    // The list that exists is the one that is walked through.
+    let mut place = at;
+    loop {
+        let lexed = next_token(text, place);
+        match lexed.token {
+            Token::End | Token::Bad => return,
+            _ => place = lexed.after,
+        }
+    }
+}
+
+/// A body has the items of one list at most.
+pub fn items_are_unique(raw: &[u8])
+    ensures { (a b : List Item) → ItemsOf raw.now a → ItemsOf raw.now b → a ≡ b }
+{}

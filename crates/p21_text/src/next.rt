@@ -1,0 +1,38 @@
+//! The first token from a place on.
+
+ghost use Rattle.std.specs.Prelude.{◌<◌, ◌≤◌, length};
+ghost use Rattle.p21_text.specs.Spelling.{symbol};
+ghost use Rattle.p21_text.specs.Contents.{IsContent};
+ghost use Rattle.p21_text.specs.Tokens.{First, IsLast, placed};
+
+use crate::front::front;
+use crate::separators::gap;
+use crate::token::Lexed;
+
+/// The first token of a text from a place on, with where it starts and ends.
+///
+/// White bytes and comments are passed first. Where several spellings begin there, the longest is the token. At the
+/// end of the text it is `End`; where none begins it is `Bad`, and stands at the first byte that is no separator.
+/// Places are bytes from the text's first byte.
+#[inline]
+pub fn next_token(text: &[u8], at: usize) -> Lexed<'_>
+    requires { at ≤ length text.now }
+    ensures first { First text.now at (placed result) }
+
+    // What follows from `first`, for callers.
+    ensures behind { at ≤ result.start }
+    ensures ordered { result.start ≤ result.after }
+    ensures within { result.after ≤ length text.now }
+    ensures advances { ¬ (IsLast (symbol result.token)) → result.start < result.after }
+    ensures content { IsContent (symbol result.token) }
+{
+    let rest = &text[at..];
+    let gap = gap(rest);
+    let start = at + gap;
+    let (token, len) = front(&rest[gap..]);
+    Lexed {
+        start,
+        after: start + len,
+        token,
+    }
+}

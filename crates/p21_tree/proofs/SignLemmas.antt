@@ -1,0 +1,31 @@
+-- The tokens that the grammar names, found by the code.
+use Rattle.std.proofs.Common.{◌≡◌, ◌≢◌, ℕ, Bool, true, false, Option, Some, None, List, refl, sym, ap, subst, ◌∙◌}
+use Rattle.std.specs.Str.{bytes_eq}
+use Rattle.std.specs.Prelude.{if◌then◌else◌}
+use Rattle.std.proofs.lemmas.Slice.Eq.{bytes_eq-Decides}
+use Rattle.p21_text.specs.Spelling.{Symbol}
+use Rattle.p21_text.specs.Spelling as token
+use Rattle.p21_tree.specs.declared.signs.Sign.{Sign}
+use Rattle.p21_tree.specs.declared.signs.Sign.TheVariants as variants
+use Rattle.p21_tree.specs.Sentence.{header_word, endsec_word, data_word}
+use Rattle.p21_tree.specs.Signs.{sign_of, sign_in, keyword_sign_in}
+
+-- the sign that three tests give
+abbrev pub by_tests : Bool → Bool → Bool → Option Sign
+by_tests a b c = if a then Some variants.Header else (if b then Some variants.EndSec else (if c then Some variants.Data else None))
+
+pub tests_say : (k : List ℕ) (w : Sign) (a b c : Bool) → bytes_eq k header_word ≡ a → bytes_eq k endsec_word ≡ b → bytes_eq k data_word ≡ c → by_tests a b c ≡ Some w → token.keyword k ≡ sign_of w
+tests_say k w true b c ea eb ec e = let f : variants.Header ≡ w = cc in ap token.keyword ((bytes_eq-Decides k header_word).0 ea) ∙ ap sign_of f
+tests_say k w false true c ea eb ec e = let f : variants.EndSec ≡ w = cc in ap token.keyword ((bytes_eq-Decides k endsec_word).0 eb) ∙ ap sign_of f
+tests_say k w false false true ea eb ec e = let f : variants.Data ≡ w = cc in ap token.keyword ((bytes_eq-Decides k data_word).0 ec) ∙ ap sign_of f
+tests_say k w false false false ea eb ec e = absurd (cc)
+
+pub sign_says : (s : Symbol) (w : Sign) → sign_in s ≡ Some w → s ≡ sign_of w
+sign_says token.iso w e = let f : variants.Iso ≡ w = cc in ap sign_of f
+sign_says token.end_iso w e = let f : variants.EndIso ≡ w = cc in ap sign_of f
+sign_says (token.keyword k) w e = tests_say k w (bytes_eq k header_word) (bytes_eq k endsec_word) (bytes_eq k data_word) refl refl refl e
+sign_says token.lparen w e = let f : variants.Open ≡ w = cc in ap sign_of f
+sign_says token.equals w e = let f : variants.Equals ≡ w = cc in ap sign_of f
+sign_says token.semi w e = let f : variants.Semi ≡ w = cc in ap sign_of f
+sign_says token.end w e = let f : variants.End ≡ w = cc in ap sign_of f
+sign_says _ w e = absurd (cc)

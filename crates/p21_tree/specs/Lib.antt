@@ -1,0 +1,15 @@
+pub mod Tree
+pub mod Plain
+pub mod Bodies
+pub mod Grammar
+pub mod Sentence
+pub mod Fault
+pub mod Views
+pub mod Texts
+pub mod Machine
+pub mod Languages
+pub mod Parts
+pub mod Opened
+pub mod Signs
+pub mod Keywords
+pub mod Progress

@@ -1,0 +1,96 @@
+//! Reading the preface of a file, up to and including `DATA;`.
+
+ghost use Rattle.std.specs.Prelude.{◌≡◌, ℕ, ◌+◌, ◌≤◌, length, map, IfOk, IfErr, OnOk};
+ghost use Rattle.p21_tree.specs.declared.faults.Fault.{Fault};
+ghost use Rattle.p21_tree.specs.Views.{plain_entity, plain_preface};
+ghost use Rattle.p21_tree.specs.Sentence.{IsPreface, deepest};
+ghost use Rattle.p21_tree.specs.Parts.{EndsecOn, HeaderRest, Prefaces, IsBehindKey, IsHeaderBody, IsOpening, IsDataStart};
+ghost use Rattle.p21_tree.specs.Parts.{EntityRest};
+ghost use Rattle.p21_tree.specs.Progress.{Covers, Fails, OnGrammar};
+
+use crate::arguments::arguments;
+use crate::faults::{Fault, TreeError};
+use crate::headers::{HeaderEntity, Preface};
+use crate::keywords::keyword;
+use crate::signs::Sign;
+use crate::source::Source;
+use crate::tokens::{expect, is, refused, token};
+use std::alloc::Global;
+
+/// Reads a header entity behind its keyword, and gives it with the place behind it.
+fn entity<'a>(alloc: Global, source: Source<'a>, at: usize, keyword: &'a [u8]) -> Result<(HeaderEntity<'a>, usize), TreeError>
+    requires { at ≤ length source.text.now }
+    ensures ok { IfOk result (λ r. Covers (IsBehindKey keyword.now (plain_entity r.0)) source.entry at r.1) }
+    ensures behind { IfOk result (λ r. at ≤ r.1) }
+    ensures within { IfOk result (λ r. r.1 ≤ length source.entry.text.now) }
+    ensures fault { IfErr result (λ e. OnGrammar e (Fails EntityRest 63 source.entry at)) }
+{
+    let (params, after) = arguments(alloc, source, at, 63)?;
+    let semi = expect(source, after, Sign::Semi)?;
+    Ok((HeaderEntity { keyword, params }, semi.after))
+}
+
+/// Reads the header entities and the `ENDSEC` behind them, and gives them with the place behind it.
+fn entities<'a>(alloc: Global, source: Source<'a>, at: usize) -> Result<(Vec<HeaderEntity<'a>>, usize), TreeError>
+    requires { at ≤ length source.text.now }
+    ensures ok { IfOk result (λ r. Covers (λ ts. IsHeaderBody ts (map plain_entity r.0.items)) source.entry at r.1) }
+    ensures within { IfOk result (λ r. r.1 ≤ length source.entry.text.now) }
+    ensures fault { IfErr result (λ e. OnGrammar e (Fails HeaderRest 64 source.entry at)) }
+    // The faults of what follows are faults of the whole.
+    ensures rest { IfOk result (λ r. (f : Fault) → Fails EndsecOn 64 source.entry r.1 f → Fails HeaderRest 64 source.entry at f) }
+{
+    let mut entities = Vec::new(alloc);
+    let mut place = at;
+    'entities: loop {
+        let lexed = token(source, place);
+        if is(lexed.token, Sign::EndSec) {
+            return Ok((entities, lexed.after));
+        }
+        let Some(keyword) = keyword(lexed.token) else {
+            return Err(TreeError::Grammar(refused(source, lexed)));
+        };
+        let (read, after) = entity(alloc, source, lexed.after, keyword)?;
+        entities.push(read)?;
+        place = after;
+    }
+}
+
+/// Reads what stands before the header entities, and gives the place of `HEADER` in the file and the place behind.
+fn opening(source: Source<'_>) -> Result<(u64, usize), Fault>
+    ensures ok { IfOk result (λ r. Covers (λ ts. IsOpening ts r.0) source.entry 0 r.1) }
+    ensures within { IfOk result (λ r. r.1 ≤ length source.entry.text.now) }
+    ensures fault { IfErr result (Fails Prefaces 64 source.entry 0) }
+{
+    let iso = expect(source, 0, Sign::Iso)?;
+    let semi = expect(source, iso.after, Sign::Semi)?;
+    let header = expect(source, semi.after, Sign::Header)?;
+    let last = expect(source, header.after, Sign::Semi)?;
+    Ok((source.base + header.start as u64, last.after))
+}
+
+/// Reads what stands between the header's `ENDSEC` and the first instance, and gives the place behind.
+fn data_start(source: Source<'_>, at: usize) -> Result<usize, Fault>
+    requires { at ≤ length source.text.now }
+    ensures ok { IfOk result (λ r. Covers (λ ts. IsDataStart ts (source.entry.base + r)) source.entry at r) }
+    ensures within { IfOk result (λ r. r ≤ length source.entry.text.now) }
+    ensures fault { IfErr result (Fails EndsecOn 64 source.entry at) }
+{
+    let semi = expect(source, at, Sign::Semi)?;
+    let data = expect(source, semi.after, Sign::Data)?;
+    let last = expect(source, data.after, Sign::Semi)?;
+    Ok(last.after)
+}
+
+/// Reads the preface, and gives it with the place behind it.
+pub fn preface<'a>(alloc: Global, source: Source<'a>) -> Result<(Preface<'a>, usize), TreeError>
+    ensures ok { IfOk result (λ r. Covers (λ ts. IsPreface deepest ts (plain_preface r.0)) source.entry 0 r.1) }
+    ensures within { IfOk result (λ r. r.1 ≤ length source.entry.text.now) }
+    ensures data_at { IfOk result (λ r. r.0.data_at ≡ source.entry.base + r.1) }
+    ensures fault { IfErr result (λ e. OnGrammar e (Fails Prefaces 64 source.entry 0)) }
+{
+    let (header_at, body) = opening(source)?;
+    let (entities, rest) = entities(alloc, source, body)?;
+    let after = data_start(source, rest)?;
+    let data_at = source.base + after as u64;
+    Ok((Preface { header_at, entities, data_at }, after))
+}

@@ -1,0 +1,28 @@
+//! The header section.
+
+ghost use Rattle.p21_tree.specs.Plain.{plain_all};
+ghost use Rattle.p21_tree.specs.Bodies.{HaveBodies, HaveBodies-prop};
+
+use crate::params::Param;
+
+/// An entity of the header section (ISO 10303-21, 9.2).
+#[derive(Debug, Drop)]
+pub struct HeaderEntity<'a> {
+    /// The keyword, as spelled; a user-defined one with its `!`.
+    pub keyword: &'a [u8],
+    /// The parameters in their order.
+    pub params: Vec<Param<'a>>,
+    /// Each string and binary among the parameters holds the body of such a token.
+    pub ghost bodies: { HaveBodies (plain_all params.items) } by { HaveBodies-prop (plain_all params.items) },
+}
+
+/// What stands before the instances of a file, up to and including `DATA;`.
+#[derive(Debug, Drop)]
+pub struct Preface<'a> {
+    /// The place of the token `HEADER`, in bytes from the file's first byte.
+    pub header_at: u64,
+    /// The header entities in their order.
+    pub entities: Vec<HeaderEntity<'a>>,
+    /// The place behind `DATA;`, in bytes from the file's first byte.
+    pub data_at: u64,
+}

@@ -1,0 +1,28 @@
+//! The grammar of the clear text encoding of ISO 10303-21: the tree of an exchange structure, or its first
+//! grammar fault.
+#![tactic(auto)]
+
+mod arguments;
+mod data_section;
+mod faults;
+mod full_texts;
+mod header_section;
+mod headers;
+mod instances;
+mod keywords;
+mod nest;
+mod params;
+mod pieces;
+mod readers;
+mod records;
+mod signs;
+mod source;
+mod steps;
+mod tokens;
+
+pub use faults::{Fault, FaultKind, TreeError};
+pub use headers::{HeaderEntity, Preface};
+pub use instances::{RawInstance, Record};
+pub use params::Param;
+pub use pieces::Piece;
+pub use readers::{read_piece, read_preface, read_tail, read_whole};

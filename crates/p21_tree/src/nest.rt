@@ -1,0 +1,79 @@
+//! What stands open while parameters are read.
+
+ghost use Rattle.std.specs.Prelude.{ℕ, ◌+◌, ◌≤◌};
+ghost use Rattle.smallvec.specs.SmallVec.{small_vec_len};
+
+use crate::params::Param;
+use smallvec::SmallVec;
+use std::alloc::Global;
+use std::default::MadeWith;
+
+/// An open parenthesis, and what it stands in.
+#[derive(Drop)]
+pub enum Frame<'a> {
+    /// That of a list: the parameters before it in the list around it.
+    List(Vec<Param<'a>>),
+    /// That of a typed parameter: its keyword.
+    Typed(&'a [u8]),
+}
+
+impl MadeWith<Global> for Frame<'_> {
+    fn made_with(alloc: Global) -> Self {
+        Frame::List(Vec::new(alloc))
+    }
+}
+
+/// What stands open behind the parenthesis of a record.
+#[derive(Drop)]
+pub struct Nest<'a> {
+    /// The parameters of the innermost open list, without one behind its last comma.
+    pub current: Vec<Param<'a>>,
+    /// The open parentheses inside the record's, the outermost first.
+    pub frames: SmallVec<Frame<'a>, 8>,
+    /// How many more may be opened.
+    pub room: usize,
+    ghost shallow: { room + small_vec_len frames ≤ 64 },
+}
+
+/// What is expected next.
+#[derive(Drop)]
+pub enum Mode<'a> {
+    /// A first parameter, or the end of an empty list.
+    First,
+    /// A parameter.
+    Want,
+    /// The parenthesis behind a keyword.
+    Key(&'a [u8]),
+    /// What stands behind this parameter.
+    After(Param<'a>),
+}
+
+/// What a token did.
+#[derive(Drop)]
+pub enum Step<'a> {
+    /// It was taken.
+    Go(Mode<'a>),
+    /// It closed the record's parenthesis, behind these parameters.
+    Closed(Vec<Param<'a>>),
+    /// It fits at no limit of parentheses.
+    Refused,
+    /// It is a parenthesis that the limit refuses.
+    TooDeep,
+}
+
+/// What a token may do among parameters.
+#[derive(Drop)]
+pub enum Class<'a> {
+    /// It is a parameter.
+    Leaf(Param<'a>),
+    /// It is the keyword of a typed parameter.
+    Key(&'a [u8]),
+    /// It opens a list.
+    Open,
+    /// It closes a parenthesis.
+    Close,
+    /// It stands between parameters.
+    Comma,
+    /// Nothing of these.
+    Other,
+}
