@@ -19,10 +19,10 @@ pub(crate) fn in_instance(instance: &RawInstance<'_>) -> u64
 }
 
 /// How many are written in a record.
-fn in_record(record: &Record<'_>) -> u64
-    ensures { result ≡ capped (list_references (plain_record record.now).params) }
+fn in_record(row: &Record<'_>) -> u64
+    ensures { result ≡ capped (list_references (plain_record row.now).params) }
 {
-    in_list(record.params.as_slice())
+    in_list(row.params.as_slice())
 }
 
 /// How many are written in a list of parameters.

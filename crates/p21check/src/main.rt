@@ -1,15 +1,24 @@
 //! `p21check FILE`: reads a STEP file and counts its instances.
 #![tactic(auto)]
 
+use p21_report::{program, unreadable_words};
 use std::env;
 use std::process::ExitCode;
 
-use p21_report::{program, unreadable_words};
-
 fn main(rt: HostRuntime) -> ExitCode {
-    let words: Vec<String> = match env::args(&rt).and_then(|words| words.collect(rt.alloc()).map_err(std::io::Error::from)) {
+    let words: Vec<String> = match env::args(&rt).and_then(|words| words
+        .collect(rt.alloc())
+        .map_err(std::io::Error::from))
+    {
         Ok(words) => words,
         Err(error) => return ExitCode::from(unreadable_words(rt.alloc(), &error, &mut rt.stderr())),
     };
-    ExitCode::from(program(&rt, rt.alloc(), words.as_slice(), &mut rt.stdin(), &mut rt.stdout(), &mut rt.stderr()))
+    ExitCode::from(program(
+        &rt,
+        rt.alloc(),
+        words.as_slice(),
+        &mut rt.stdin(),
+        &mut rt.stdout(),
+        &mut rt.stderr(),
+    ))
 }
