@@ -1,5 +1,6 @@
 -- Which spellings a first byte leaves.
 use Rattle.std.proofs.Common.{◌≡◌, ◌≢◌, ℕ, ◌^◌, ◌<◌, ◌⊎◌, List, [], ◌∷◌, ◌++◌, length, sym, ap, ◌∙◌, subst, arith}
+use Rattle.p21_text.specs.Items.{IsBody}
 use Rattle.p21_text.specs.Spelling.{IsUpper, IsDigit, IsName, IsDigits, IsInt, IsReal, IsBinary, NotBefore, decimal_from}
 use Rattle.p21_text.specs.Runs.{IsNumberByte, FirstIs}
 use Rattle.p21_text.proofs.Shapes.{IsSingle, Shape, word, number, single, name, string, enumeration, binary, user, IsWord}
@@ -22,6 +23,13 @@ pub record NameFront (front behind : List ℕ) : Type 0 where
   pub are_digits : IsDigits digits
   pub fits : decimal_from 0 digits < 2 ^ 64
   pub stops : NotBefore IsDigit behind
+
+-- what an apostrophe begins
+pub record StringFront (front behind : List ℕ) : Type 0 where
+  pub body : List ℕ
+  pub spelled : front ≡ 39 ∷ (body ++ 39 ∷ [])
+  pub is_body : IsBody body
+  pub stops : NotBefore (λ b. b ≡ 39) behind
 
 -- no token begins with the byte
 abbrev pub BeginsNothing : ℕ → Type 0
@@ -88,6 +96,16 @@ module _ (b : ℕ) (tail front behind : List ℕ) (e : b ∷ tail ≡ front ++ b
   only_binary u (enumeration n f h) = let k = head_is b 46 tail (n ++ 46 ∷ []) front behind e f in absurd (omega arith)
   only_binary u (binary s f h) = (s, f, h)
   only_binary u (user n f h) = let k = head_is b 33 tail n front behind e f in absurd (omega arith)
+
+  pub only_string : b ≡ 39 → Shape front behind → StringFront front behind
+  only_string u (word h w) = let k = first_is IsUpper b tail front behind e h in absurd (omega arith)
+  only_string u (number h n) = let k = first_is IsNumberByte b tail front behind e h in absurd (omega arith)
+  only_string u (single c f s) = let k = head_is b c tail [] front behind e f in absurd (omega arith)
+  only_string u (name ds f h v l) = let k = head_is b 35 tail ds front behind e f in absurd (omega arith)
+  only_string u (string s f h l) = record { body = s; spelled = f; is_body = h; stops = l }
+  only_string u (enumeration n f h) = let k = head_is b 46 tail (n ++ 46 ∷ []) front behind e f in absurd (omega arith)
+  only_string u (binary s f h) = let k = head_is b 34 tail (s ++ 34 ∷ []) front behind e f in absurd (omega arith)
+  only_string u (user n f h) = let k = head_is b 33 tail n front behind e f in absurd (omega arith)
 
   pub only_user : b ≡ 33 → Shape front behind → (n : List ℕ) × (front ≡ 33 ∷ n) × IsName n
   only_user u (word h w) = let k = first_is IsUpper b tail front behind e h in absurd (omega arith)

@@ -1,5 +1,5 @@
 -- Worked examples of the definitions.
-use Rattle.std.proofs.Common.{◌≡◌, ℕ, zero, suc, ◌+◌, ◌*◌, ◌<◌, List, [], ◌∷◌, length, refl, inl, inr, arith, codes}
+use Rattle.std.proofs.Common.{◌≡◌, ℕ, zero, suc, [], refl, inl, inr, arith, codes}
 use Rattle.memchr.specs.Find.{OccursAt}
 use Rattle.p21_text.specs.Separators.{IsComment, IsSeparators}
 use Rattle.p21_text.specs.Separators as separators

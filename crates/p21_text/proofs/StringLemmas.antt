@@ -18,9 +18,8 @@ use Rattle.p21_text.proofs.Utf8Lemmas.{utf8_in_body, utf8_behind}
 use Rattle.p21_text.proofs.ItemShapeLemmas.{item_shape}
 use Rattle.p21_text.proofs.ValueLemmas.{item_long}
 use Rattle.p21_text.proofs.FoundLemmas.{found}
-use Rattle.p21_text.specs.Runs.{IsNumberByte}
-use Rattle.p21_text.proofs.Shapes
-use Rattle.p21_text.proofs.Shapes.{Shape, front_by, none_by, first_front}
+use Rattle.p21_text.proofs.Shapes.{Shape, front_by, none_by}
+use Rattle.p21_text.proofs.Groups.{StringFront, only_string}
 
 pub bytes_of : (text : List ℕ) → ((k : ℕ) → Fits w8 (get_or text k 0)) → AreBytes text
 bytes_of text h = λ k. let fits : Fits w8 (get_or text k 0) = h k in omega (arith, fits)
@@ -161,39 +160,14 @@ closes_there text size n e some c =
 never_there : (text : List ℕ) (size : ℕ) → size ≡ shape text → 0 < size → NeverCloses (drop size text) → NeverCloses text
 never_there text size e some c = Closing.later (rw (← e) some) (subst (λ k. NeverCloses (drop k text)) e c)
 
--- what a spelled front with an apostrophe at its head is
-record IsString (front behind : List ℕ) : Type 0 where
-  body : List ℕ
-  spelled : front ≡ 39 ∷ (body ++ 39 ∷ [])
-  is_body : IsBody body
-  ends : NotBefore (λ b. b ≡ 39) behind
-
-quote_head : (tail front behind : List ℕ) (b : ℕ) (rest : List ℕ) → 39 ∷ tail ≡ front ++ behind → front ≡ b ∷ rest → 39 ≡ b
-quote_head tail front behind b rest e f = let whole : 39 ∷ tail ≡ (b ∷ rest) ++ behind = e ∙ ap (λ l. l ++ behind) f in ap (λ l. slice_index l 0) whole
-
-only_string : (tail front behind : List ℕ) → 39 ∷ tail ≡ front ++ behind → Shape front behind → IsString front behind
-only_string tail front behind e (Shapes.word f w) = let u : IsUpper 39 = first_front IsUpper (39 ∷ tail) front behind e f in absurd (omega arith)
-only_string tail front behind e (Shapes.number f w) = let u : IsNumberByte 39 = first_front IsNumberByte (39 ∷ tail) front behind e f in absurd (omega arith)
-only_string tail front behind e (Shapes.single b f is) =
-    let first : 39 ≡ b = quote_head tail front behind b [] e f in absurd (grind (arith, first, is))
-only_string tail front behind e (Shapes.name digits f d l n) =
-    let first : 39 ≡ 35 = quote_head tail front behind 35 digits e f in absurd (omega (arith, first))
-only_string tail front behind e (Shapes.string body f is ends) = record { body = body; spelled = f; is_body = is; ends = ends }
-only_string tail front behind e (Shapes.enumeration n f is) =
-    let first : 39 ≡ 46 = quote_head tail front behind 46 (n ++ 46 ∷ []) e f in absurd (omega (arith, first))
-only_string tail front behind e (Shapes.binary n f is) =
-    let first : 39 ≡ 34 = quote_head tail front behind 34 (n ++ 34 ∷ []) e f in absurd (omega (arith, first))
-only_string tail front behind e (Shapes.user n f is) =
-    let first : 39 ≡ 33 = quote_head tail front behind 33 n e f in absurd (omega (arith, first))
-
 -- a string is spelled only up to where it closes
-spelled_closes : (tail front behind : List ℕ) → 39 ∷ tail ≡ front ++ behind → (s : IsString front behind)
+spelled_closes : (tail front behind : List ℕ) → 39 ∷ tail ≡ front ++ behind → (s : StringFront front behind)
     → (P : Type 0) → IsProp P → (Closes tail (length s.body) → P) → P
 spelled_closes tail front behind e s P prop then =
     let body : List ℕ = s.body in
     let parts : 39 ∷ tail ≡ (39 ∷ (body ++ 39 ∷ [])) ++ behind = e ∙ ap (λ l. l ++ behind) s.spelled in
     let rest : tail ≡ body ++ 39 ∷ behind = ap (drop 1) parts ∙ append_assoc body (39 ∷ []) behind in
-    ∥∥₁_elim s.is_body prop (λ i. then (rw rest (body_closes 1 body behind i.0 s.ends i.1)))
+    ∥∥₁_elim s.is_body prop (λ i. then (rw rest (body_closes 1 body behind i.0 s.stops i.1)))
 
 pub string_front : (tail : List ℕ) (n : ℕ) → AreBytes tail → Closes tail n → Front (39 ∷ tail) (n + 2) (token.str (take n tail))
 string_front tail n bytes closes =
@@ -215,7 +189,7 @@ string_front tail n bytes closes =
 
       longest : (front behind : List ℕ) → 39 ∷ tail ≡ front ++ behind → Shape front behind → length front ≤ n + 2
       longest front behind e s =
-          let u = only_string tail front behind e s in
+          let u = only_string 39 tail front behind e refl s in
           spelled_closes tail front behind e u (length front ≤ n + 2) le_prop
           (λ c. let same : length u.body ≡ n = closes_once tail (length u.body) n c closes in omega (arith, ap length u.spelled, length-append u.body (39 ∷ [])))
 
@@ -223,7 +197,7 @@ pub string_none : (tail : List ℕ) → NeverCloses tail → Front (39 ∷ tail)
 string_none tail never = none_by (39 ∷ tail) (λ e. cc) nothing where
   nothing : (front behind : List ℕ) → 39 ∷ tail ≡ front ++ behind → Shape front behind → ⊥
   nothing front behind e s =
-      let u = only_string tail front behind e s in
+      let u = only_string 39 tail front behind e refl s in
       spelled_closes tail front behind e u ⊥ (λ x y. absurd x) (λ c. closes_never tail (length u.body) c never)
 
 -- one item further

@@ -10,14 +10,13 @@ use Rattle.std.proofs.lemmas.List.{take_at, take-append-drop}
 use Rattle.bstr.specs.Utf8.{decoded, good}
 use Rattle.bstr.proofs.lemmas.EncodeLemmas.{decoded-encode}
 use Rattle.bstr.proofs.lemmas.SoundLemmas.{SpellsChar-decoded}
-use lib.Utf8.{next}
 use Rattle.p21_text.specs.Items.{IsUtf8Of, BeginsUtf8}
 
 abbrev pub AllHigh : List ℕ → Type 0
 AllHigh bs = AllByRecursion (λ b. 128 ≤ b) bs
 
 pub encode_high : (c : ℕ) → 128 ≤ c → AllHigh (encode_utf8 c)
-unfolding encode_utf8 next
+unfolding encode_utf8
 encode_high c above =
     ⊎_elim
     (λ two. rw (le-ltb c 128 above, lt-ltb c 2048 two) (omega arith, (omega arith, tt)))

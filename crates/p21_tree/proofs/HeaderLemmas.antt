@@ -206,9 +206,9 @@ fails_header_rest s mid header_at f c h =
 pub preface_made : (a b c : List Placed) (header_at data_at : ℕ) (es : List Entry) → IsOpening a header_at → IsHeaderBody b es → IsDataStart c data_at → IsPreface deepest (a ++ (b ++ c)) (record { header_at = header_at; entities = es; data_at = data_at })
 preface_made a b c header_at data_at es p q r =
     let e : a ++ (b ++ c) ≡ p.iso ∷ p.s1 ∷ p.header ∷ p.s2 ∷ (q.body ++ q.close ∷ r.s3 ∷ r.data_ ∷ r.s4 ∷ []) =
-        ap (λ x. x ++ (b ++ c)) p.parts ∙ ap (λ x. p.iso ∷ p.s1 ∷ p.header ∷ p.s2 ∷ x) (ap (λ x. x ++ c) q.parts ∙ (append_assoc q.body (q.close ∷ []) c ∙ ap (λ x. q.body ++ q.close ∷ x) r.parts)) in
+    ap (λ x. x ++ (b ++ c)) p.parts ∙ ap (λ x. p.iso ∷ p.s1 ∷ p.header ∷ p.s2 ∷ x) (ap (λ x. x ++ c) q.parts ∙ (append_assoc q.body (q.close ∷ []) c ∙ ap (λ x. q.body ++ q.close ∷ x) r.parts)) in
     let h : IsPreface deepest (p.iso ∷ p.s1 ∷ p.header ∷ p.s2 ∷ (q.body ++ q.close ∷ r.s3 ∷ r.data_ ∷ r.s4 ∷ [])) (record { header_at = p.header.start; entities = es; data_at = r.s4.after }) =
-        sentence.made p.iso p.s1 p.header p.s2 q.body q.close r.s3 r.data_ r.s4 p.is_iso p.is_s1 p.is_header p.is_s2 q.are_entities q.is_close r.is_s3 r.is_data r.is_s4 in
+    sentence.made p.iso p.s1 p.header p.s2 q.body q.close r.s3 r.data_ r.s4 p.is_iso p.is_s1 p.is_header p.is_s2 q.are_entities q.is_close r.is_s3 r.is_data r.is_s4 in
     subst (λ x. IsPreface deepest x (record { header_at = header_at; entities = es; data_at = data_at })) (sym e)
     (subst (λ x. IsPreface deepest (p.iso ∷ p.s1 ∷ p.header ∷ p.s2 ∷ (q.body ++ q.close ∷ r.s3 ∷ r.data_ ∷ r.s4 ∷ [])) (record { header_at = x; entities = es; data_at = data_at })) (sym p.place)
     (subst (λ x. IsPreface deepest (p.iso ∷ p.s1 ∷ p.header ∷ p.s2 ∷ (q.body ++ q.close ∷ r.s3 ∷ r.data_ ∷ r.s4 ∷ [])) (record { header_at = p.header.start; entities = es; data_at = x })) (sym r.place) h))

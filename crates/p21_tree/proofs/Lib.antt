@@ -18,3 +18,5 @@ pub mod DataLemmas
 pub mod SignLemmas
 pub mod HeaderLemmas
 pub mod ReaderLemmas
+pub mod LawLemmas
+pub mod TreeLaws

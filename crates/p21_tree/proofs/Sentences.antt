@@ -220,11 +220,20 @@ instance_back l ts h =
 
 pub tail_into : (l : ℕ) (ts : List Placed) → IsTail ts → Tails l ts
 tail_into l ts (sentence.made endsec s1 end_iso s2 end a b c d e) = record {
-  front = endsec ∷ []; back = s1 ∷ end_iso ∷ s2 ∷ end ∷ []; parts = refl; first = sign (token.keyword endsec_word) l endsec a;
+  front = endsec ∷ [];
+  back = s1 ∷ end_iso ∷ s2 ∷ end ∷ [];
+  parts = refl;
+  first = sign (token.keyword endsec_word) l endsec a;
   second = record {
-    front = s1 ∷ []; back = end_iso ∷ s2 ∷ end ∷ []; parts = refl; first = sign token.semi l s1 b;
+    front = s1 ∷ [];
+    back = end_iso ∷ s2 ∷ end ∷ [];
+    parts = refl;
+    first = sign token.semi l s1 b;
     second = record {
-      front = end_iso ∷ []; back = s2 ∷ end ∷ []; parts = refl; first = sign token.end_iso l end_iso c;
+      front = end_iso ∷ [];
+      back = s2 ∷ end ∷ [];
+      parts = refl;
+      first = sign token.end_iso l end_iso c;
       second = record { front = s2 ∷ []; back = end ∷ []; parts = refl; first = sign token.semi l s2 d; second = sign token.end l end e };
     };
   };
@@ -244,22 +253,40 @@ tail_back l ts h =
 
 pub header_end : (l : ℕ) (endsec s3 data_ s4 : Placed) → endsec.token ≡ token.keyword endsec_word → s3.token ≡ token.semi → data_.token ≡ token.keyword data_word → s4.token ≡ token.semi → HeaderEnd l (endsec ∷ s3 ∷ data_ ∷ s4 ∷ [])
 header_end l endsec s3 data_ s4 a b c d = record {
-  front = endsec ∷ []; back = s3 ∷ data_ ∷ s4 ∷ []; parts = refl; first = sign (token.keyword endsec_word) l endsec a;
+  front = endsec ∷ [];
+  back = s3 ∷ data_ ∷ s4 ∷ [];
+  parts = refl;
+  first = sign (token.keyword endsec_word) l endsec a;
   second = record {
-    front = s3 ∷ []; back = data_ ∷ s4 ∷ []; parts = refl; first = sign token.semi l s3 b;
+    front = s3 ∷ [];
+    back = data_ ∷ s4 ∷ [];
+    parts = refl;
+    first = sign token.semi l s3 b;
     second = record { front = data_ ∷ []; back = s4 ∷ []; parts = refl; first = sign (token.keyword data_word) l data_ c; second = sign token.semi l s4 d };
   };
 }
 
 pub preface_into : (l : ℕ) (ts : List Placed) (o : Opening) → IsPreface l ts o → Prefaces l ts
 preface_into l ts o (sentence.made iso s1 header s2 body endsec s3 data_ s4 {es} a b c d is e f g h) = record {
-  front = iso ∷ []; back = s1 ∷ header ∷ s2 ∷ (body ++ endsec ∷ s3 ∷ data_ ∷ s4 ∷ []); parts = refl; first = sign token.iso l iso a;
+  front = iso ∷ [];
+  back = s1 ∷ header ∷ s2 ∷ (body ++ endsec ∷ s3 ∷ data_ ∷ s4 ∷ []);
+  parts = refl;
+  first = sign token.iso l iso a;
   second = record {
-    front = s1 ∷ []; back = header ∷ s2 ∷ (body ++ endsec ∷ s3 ∷ data_ ∷ s4 ∷ []); parts = refl; first = sign token.semi l s1 b;
+    front = s1 ∷ [];
+    back = header ∷ s2 ∷ (body ++ endsec ∷ s3 ∷ data_ ∷ s4 ∷ []);
+    parts = refl;
+    first = sign token.semi l s1 b;
     second = record {
-      front = header ∷ []; back = s2 ∷ (body ++ endsec ∷ s3 ∷ data_ ∷ s4 ∷ []); parts = refl; first = sign (token.keyword header_word) l header c;
+      front = header ∷ [];
+      back = s2 ∷ (body ++ endsec ∷ s3 ∷ data_ ∷ s4 ∷ []);
+      parts = refl;
+      first = sign (token.keyword header_word) l header c;
       second = record {
-        front = s2 ∷ []; back = body ++ endsec ∷ s3 ∷ data_ ∷ s4 ∷ []; parts = refl; first = sign token.semi l s2 d;
+        front = s2 ∷ [];
+        back = body ++ endsec ∷ s3 ∷ data_ ∷ s4 ∷ [];
+        parts = refl;
+        first = sign token.semi l s2 d;
         second = entities_into l body (endsec ∷ s3 ∷ data_ ∷ s4 ∷ []) es is (header_end l endsec s3 data_ s4 e f g h);
       };
     };

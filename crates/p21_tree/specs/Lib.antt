@@ -13,3 +13,4 @@ pub mod Opened
 pub mod Signs
 pub mod Keywords
 pub mod Progress
+pub mod Laws

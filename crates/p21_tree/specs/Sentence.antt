@@ -30,7 +30,6 @@ pub record File : Type 0 where
   pub opening : Opening
   pub instances : List Instance
 
-
 -- the first token is not this one
 abbrev pub BeginsWithNo : Symbol → List Symbol → Type 0
 BeginsWithNo s [] = ⊥
@@ -49,9 +48,9 @@ pub data IsRecords (limit : ℕ) : List Placed → List Entry → Type 0 where
 -- instance = Name '=' ( rec | '(' rec { rec } ')' ) ';'
 pub data IsInstance : ℕ → List Placed → Instance → Type 0 where
   simple : {limit name : ℕ} (n e : Placed) (ts : List Placed) (s : Placed) {r : Entry} → n.token ≡ token.name name → e.token ≡ token.equals → IsRecord limit (symbols ts) r → s.token ≡ token.semi
-    → IsInstance limit (n ∷ e ∷ (ts ++ s ∷ [])) (record { name = name; at = n.start; complex = false; records = r ∷ [] })
+      → IsInstance limit (n ∷ e ∷ (ts ++ s ∷ [])) (record { name = name; at = n.start; complex = false; records = r ∷ [] })
   complex : {left name : ℕ} {ts : List Placed} (n e o c s : Placed) {rs : List Entry} → n.token ≡ token.name name → e.token ≡ token.equals → o.token ≡ token.lparen → IsRecords left ts rs → c.token ≡ token.rparen → s.token ≡ token.semi
-    → IsInstance (suc left) (n ∷ e ∷ o ∷ (ts ++ c ∷ s ∷ [])) (record { name = name; at = n.start; complex = true; records = rs })
+      → IsInstance (suc left) (n ∷ e ∷ o ∷ (ts ++ c ∷ s ∷ [])) (record { name = name; at = n.start; complex = true; records = rs })
 
 pub data IsInstances (limit : ℕ) : List Placed → List Instance → Type 0 where
   none : IsInstances limit [] []
@@ -60,8 +59,8 @@ pub data IsInstances (limit : ℕ) : List Placed → List Instance → Type 0 wh
 -- preface = Iso ';' HEADER ';' { entity } ENDSEC ';' DATA ';'
 pub data IsPreface (limit : ℕ) : List Placed → Opening → Type 0 where
   made : (iso s1 header s2 : Placed) (ts : List Placed) (endsec s3 data_ s4 : Placed) {es : List Entry} → iso.token ≡ token.iso → s1.token ≡ token.semi → header.token ≡ token.keyword header_word → s2.token ≡ token.semi → IsEntities limit ts es
-    → endsec.token ≡ token.keyword endsec_word → s3.token ≡ token.semi → data_.token ≡ token.keyword data_word → s4.token ≡ token.semi
-    → IsPreface limit (iso ∷ s1 ∷ header ∷ s2 ∷ (ts ++ endsec ∷ s3 ∷ data_ ∷ s4 ∷ [])) (record { header_at = header.start; entities = es; data_at = s4.after })
+      → endsec.token ≡ token.keyword endsec_word → s3.token ≡ token.semi → data_.token ≡ token.keyword data_word → s4.token ≡ token.semi
+      → IsPreface limit (iso ∷ s1 ∷ header ∷ s2 ∷ (ts ++ endsec ∷ s3 ∷ data_ ∷ s4 ∷ [])) (record { header_at = header.start; entities = es; data_at = s4.after })
 
 -- tail = ENDSEC ';' EndIso ';' End
 pub data IsTail : List Placed → Type 0 where

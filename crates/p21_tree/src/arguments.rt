@@ -18,7 +18,12 @@ use std::alloc::Global;
 
 /// Reads parameters and the parenthesis that closes them, and gives them with the place behind it. At most `left`
 /// more parentheses may be open at once.
-fn parameters<'a>(alloc: Global, source: Source<'a>, at: usize, left: usize) -> Result<(Vec<Param<'a>>, usize), TreeError>
+fn parameters<'a>(
+    alloc: Global,
+    source: Source<'a>,
+    at: usize,
+    left: usize,
+) -> Result<(Vec<Param<'a>>, usize), TreeError>
     requires place { at ≤ length source.text.now }
     requires few { left ≤ 64 }
     ensures ok { IfOk result (λ r. Covers (λ ts. IsClosed left (symbols ts) (plain_all r.0.items)) source.entry at r.1) }
@@ -53,7 +58,12 @@ fn parameters<'a>(alloc: Global, source: Source<'a>, at: usize, left: usize) -> 
 
 /// Reads the parameters of a record in their parentheses, and gives them with the place behind them. Inside, at most
 /// `left` more parentheses may be open at once.
-pub fn arguments<'a>(alloc: Global, source: Source<'a>, at: usize, left: usize) -> Result<(Vec<Param<'a>>, usize), TreeError>
+pub fn arguments<'a>(
+    alloc: Global,
+    source: Source<'a>,
+    at: usize,
+    left: usize,
+) -> Result<(Vec<Param<'a>>, usize), TreeError>
     requires place { at ≤ length source.text.now }
     requires few { left ≤ 64 }
     ensures ok { IfOk result (λ r. Covers (λ ts. IsArguments left ts (plain_all r.0.items)) source.entry at r.1) }

@@ -18,7 +18,13 @@ use p21_text::{Lexed, Token};
 use std::alloc::Global;
 
 /// Reads an instance whose name stands before a place, and gives it with the place behind it.
-pub fn instance<'a>(alloc: Global, source: Source<'a>, name: u64, start: usize, at: usize) -> Result<(RawInstance<'a>, usize), TreeError>
+pub fn instance<'a>(
+    alloc: Global,
+    source: Source<'a>,
+    name: u64,
+    start: usize,
+    at: usize,
+) -> Result<(RawInstance<'a>, usize), TreeError>
     requires begins { start ≤ at }
     requires place { at ≤ length source.text.now }
     ensures ok { IfOk result (λ r. Covers (IsBehindName name (source.entry.base + start) (plain_instance r.0)) source.entry at r.1) }
@@ -28,10 +34,19 @@ pub fn instance<'a>(alloc: Global, source: Source<'a>, name: u64, start: usize, 
 {
     let equals = expect(source, at, Sign::Equals)?;
     let body = form(alloc, source, equals.after)?;
-    let InstanceBody { complex, records, after } = body;
+    let InstanceBody {
+        complex,
+        records,
+        after,
+    } = body;
     let semi = expect(source, after, Sign::Semi)?;
     let at = source.base + start as u64;
-    let instance = RawInstance { name, at, complex, records };
+    let instance = RawInstance {
+        name,
+        at,
+        complex,
+        records,
+    };
     Ok((instance, semi.after))
 }
 
@@ -64,7 +79,11 @@ fn close<'a>(source: Source<'a>, at: usize, lexed: Lexed<'a>) -> Result<(), Faul
 }
 
 /// Reads instances and the rest of the file behind them.
-pub fn instances<'a>(alloc: Global, source: Source<'a>, at: usize) -> Result<Vec<RawInstance<'a>>, TreeError>
+pub fn instances<'a>(
+    alloc: Global,
+    source: Source<'a>,
+    at: usize,
+) -> Result<Vec<RawInstance<'a>>, TreeError>
     requires { at ≤ length source.text.now }
     ensures ok { IfOk result (λ r. Finishes (λ ts. IsBody ts (map plain_instance r.items)) source.entry at) }
     ensures fault { IfErr result (λ e. OnGrammar e (Fails Bodies 64 source.entry at)) }

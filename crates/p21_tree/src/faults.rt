@@ -57,6 +57,7 @@ pub enum TreeError {
 impl From<AllocError> for TreeError {
     ghost use Rattle.p21_tree.specs.declared.faults.TreeError.TheVariants.{Memory};
     ghost use Rattle.std.specs.Prelude.{◌≡◌};
+
     ghost from_gives = { λ _ e. e ≡ Memory };
 
     fn from(_error: AllocError) -> TreeError {
@@ -67,6 +68,7 @@ impl From<AllocError> for TreeError {
 impl<T: Drop> From<AllocFailed<T>> for TreeError {
     ghost use Rattle.p21_tree.specs.declared.faults.TreeError.TheVariants.{Memory};
     ghost use Rattle.std.specs.Prelude.{◌≡◌};
+
     ghost from_gives = { λ _ e. e ≡ Memory };
 
     fn from(_error: AllocFailed<T>) -> TreeError {
@@ -77,6 +79,7 @@ impl<T: Drop> From<AllocFailed<T>> for TreeError {
 impl From<Fault> for TreeError {
     ghost use Rattle.p21_tree.specs.declared.faults.TreeError.TheVariants.{Grammar};
     ghost use Rattle.std.specs.Prelude.{◌≡◌};
+
     ghost from_gives = { λ f e. e ≡ Grammar f };
 
     fn from(fault: Fault) -> TreeError {

@@ -18,7 +18,10 @@ use p21_text::Token;
 use std::alloc::Global;
 
 /// Reads a whole file.
-pub fn whole<'a>(alloc: Global, source: Source<'a>) -> Result<(Preface<'a>, Vec<RawInstance<'a>>), TreeError>
+pub fn whole<'a>(
+    alloc: Global,
+    source: Source<'a>,
+) -> Result<(Preface<'a>, Vec<RawInstance<'a>>), TreeError>
     ensures ok { IfOk result (λ r. Finishes (λ ts. IsFile deepest ts (record { opening = plain_preface r.0; instances = map plain_instance r.1.items })) source.entry 0) }
     ensures fault { IfErr result (λ e. OnGrammar e (Fails Files 64 source.entry 0)) }
 {

@@ -18,7 +18,12 @@ use crate::tokens::{expect, is, refused, token};
 use std::alloc::Global;
 
 /// Reads a header entity behind its keyword, and gives it with the place behind it.
-fn entity<'a>(alloc: Global, source: Source<'a>, at: usize, keyword: &'a [u8]) -> Result<(HeaderEntity<'a>, usize), TreeError>
+fn entity<'a>(
+    alloc: Global,
+    source: Source<'a>,
+    at: usize,
+    keyword: &'a [u8],
+) -> Result<(HeaderEntity<'a>, usize), TreeError>
     requires { at ≤ length source.text.now }
     ensures ok { IfOk result (λ r. Covers (IsBehindKey keyword.now (plain_entity r.0)) source.entry at r.1) }
     ensures behind { IfOk result (λ r. at ≤ r.1) }
@@ -31,7 +36,11 @@ fn entity<'a>(alloc: Global, source: Source<'a>, at: usize, keyword: &'a [u8]) -
 }
 
 /// Reads the header entities and the `ENDSEC` behind them, and gives them with the place behind it.
-fn entities<'a>(alloc: Global, source: Source<'a>, at: usize) -> Result<(Vec<HeaderEntity<'a>>, usize), TreeError>
+fn entities<'a>(
+    alloc: Global,
+    source: Source<'a>,
+    at: usize,
+) -> Result<(Vec<HeaderEntity<'a>>, usize), TreeError>
     requires { at ≤ length source.text.now }
     ensures ok { IfOk result (λ r. Covers (λ ts. IsHeaderBody ts (map plain_entity r.0.items)) source.entry at r.1) }
     ensures within { IfOk result (λ r. r.1 ≤ length source.entry.text.now) }
@@ -92,5 +101,12 @@ pub fn preface<'a>(alloc: Global, source: Source<'a>) -> Result<(Preface<'a>, us
     let (entities, rest) = entities(alloc, source, body)?;
     let after = data_start(source, rest)?;
     let data_at = source.base + after as u64;
-    Ok((Preface { header_at, entities, data_at }, after))
+    Ok((
+        Preface {
+            header_at,
+            entities,
+            data_at,
+        },
+        after,
+    ))
 }

@@ -10,6 +10,7 @@ mod header_section;
 mod headers;
 mod instances;
 mod keywords;
+mod laws;
 mod nest;
 mod params;
 mod pieces;
@@ -18,11 +19,14 @@ mod records;
 mod signs;
 mod source;
 mod steps;
+#[cfg(test)]
+mod tests;
 mod tokens;
 
 pub use faults::{Fault, FaultKind, TreeError};
 pub use headers::{HeaderEntity, Preface};
 pub use instances::{RawInstance, Record};
+pub use laws::{one_fault_at_most, one_tree};
 pub use params::Param;
 pub use pieces::Piece;
 pub use readers::{read_piece, read_preface, read_tail, read_whole};

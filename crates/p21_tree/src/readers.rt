@@ -8,11 +8,11 @@ ghost use Rattle.p21_tree.specs.Progress.{OnGrammar};
 
 use crate::data_section::behind_endsec;
 use crate::faults::{Fault, TreeError};
+use crate::full_texts::{single, whole};
 use crate::header_section::preface;
 use crate::headers::Preface;
 use crate::instances::RawInstance;
 use crate::pieces::Piece;
-use crate::full_texts::{single, whole};
 use crate::signs::Sign;
 use crate::source::Source;
 use crate::tokens::expect;
@@ -25,7 +25,10 @@ pub fn read_preface<'a>(alloc: Global, file: &'a [u8]) -> Result<Preface<'a>, Tr
     ensures ok { IfOk result (λ r. BeginsPreface file.now (plain_preface r)) }
     ensures fault { IfErr result (λ e. OnGrammar e (HasPrefaceFault file.now)) }
 {
-    let source = Source { text: file, base: 0 };
+    let source = Source {
+        text: file,
+        base: 0,
+    };
     let (read, _after) = preface(alloc, source)?;
     Ok(read)
 }
@@ -37,7 +40,10 @@ pub fn read_piece<'a>(alloc: Global, piece: Piece<'a>) -> Result<RawInstance<'a>
     ensures ok { IfOk result (λ r. IsPieceText piece.entry (plain_instance r)) }
     ensures fault { IfErr result (λ e. OnGrammar e (HasPieceFault piece.entry)) }
 {
-    let source = Source { text: piece.bytes, base: piece.at };
+    let source = Source {
+        text: piece.bytes,
+        base: piece.at,
+    };
     single(alloc, source)
 }
 
@@ -49,7 +55,10 @@ pub fn read_tail(file: &[u8], at: usize) -> Result<(), Fault>
     ensures ok { OnOk result (HasTail file.now at) }
     ensures fault { IfErr result (HasFault tails file.now at) }
 {
-    let source = Source { text: file, base: 0 };
+    let source = Source {
+        text: file,
+        base: 0,
+    };
     let endsec = expect(source, at, Sign::EndSec)?;
     behind_endsec(source, endsec.after)
 }
@@ -57,10 +66,16 @@ pub fn read_tail(file: &[u8], at: usize) -> Result<(), Fault>
 /// Reads a whole file: its preface, and its instances in their order.
 ///
 /// An error is the first grammar fault of the file, or want of memory.
-pub fn read_whole<'a>(alloc: Global, file: &'a [u8]) -> Result<(Preface<'a>, Vec<RawInstance<'a>>), TreeError>
+pub fn read_whole<'a>(
+    alloc: Global,
+    file: &'a [u8],
+) -> Result<(Preface<'a>, Vec<RawInstance<'a>>), TreeError>
     ensures ok { IfOk result (λ r. IsFileText file.now (plain_preface r.0) (map plain_instance r.1.items)) }
     ensures fault { IfErr result (λ e. OnGrammar e (HasFault files file.now 0)) }
 {
-    let source = Source { text: file, base: 0 };
+    let source = Source {
+        text: file,
+        base: 0,
+    };
     whole(alloc, source)
 }

@@ -21,7 +21,13 @@ use std::alloc::Global;
 
 /// Reads the parameters behind a keyword, and gives the record with the place behind it. Inside, at most `left` more
 /// parentheses may be open at once.
-fn keyed<'a>(alloc: Global, source: Source<'a>, at: usize, keyword: &'a [u8], left: usize) -> Result<(Record<'a>, usize), TreeError>
+fn keyed<'a>(
+    alloc: Global,
+    source: Source<'a>,
+    at: usize,
+    keyword: &'a [u8],
+    left: usize,
+) -> Result<(Record<'a>, usize), TreeError>
     requires place { at ≤ length source.text.now }
     requires few { left ≤ 64 }
     ensures ok { IfOk result (λ r. Covers (IsKeyed left keyword.now (plain_record r.0)) source.entry at r.1) }
@@ -34,7 +40,11 @@ fn keyed<'a>(alloc: Global, source: Source<'a>, at: usize, keyword: &'a [u8], le
 }
 
 /// Reads a record of a complex instance, and gives it with the place behind it.
-fn record<'a>(alloc: Global, source: Source<'a>, at: usize) -> Result<(Record<'a>, usize), TreeError>
+fn record<'a>(
+    alloc: Global,
+    source: Source<'a>,
+    at: usize,
+) -> Result<(Record<'a>, usize), TreeError>
     requires { at ≤ length source.text.now }
     ensures ok { IfOk result (λ r. Covers (λ ts. IsRecord 63 (symbols ts) (plain_record r.0)) source.entry at r.1) }
     ensures behind { IfOk result (λ r. at ≤ r.1) }
@@ -50,7 +60,11 @@ fn record<'a>(alloc: Global, source: Source<'a>, at: usize) -> Result<(Record<'a
 
 /// Reads the records of a complex instance and the parenthesis that closes them, and gives them with the place
 /// behind it.
-fn records<'a>(alloc: Global, source: Source<'a>, at: usize) -> Result<(Vec<Record<'a>>, usize), TreeError>
+fn records<'a>(
+    alloc: Global,
+    source: Source<'a>,
+    at: usize,
+) -> Result<(Vec<Record<'a>>, usize), TreeError>
     requires { at ≤ length source.text.now }
     ensures ok { IfOk result (λ r. Covers (λ ts. IsSomeRecords 63 ts (map plain_record r.0.items)) source.entry at r.1) }
     ensures some { IfOk result (λ r. 0 < vec_len r.0) }
@@ -101,7 +115,11 @@ pub fn form<'a>(alloc: Global, source: Source<'a>, at: usize) -> Result<Instance
     if let Token::LParen = lexed.token {
         let (records, after) = records(alloc, source, lexed.after)?;
         let complex = true;
-        return Ok(InstanceBody { complex, records, after });
+        return Ok(InstanceBody {
+            complex,
+            records,
+            after,
+        });
     }
     let Some(keyword) = keyword(lexed.token) else {
         return Err(TreeError::Grammar(refused(source, lexed)));
@@ -110,5 +128,9 @@ pub fn form<'a>(alloc: Global, source: Source<'a>, at: usize) -> Result<Instance
     let mut records = Vec::with_capacity(alloc, 1)?;
     records.push(record)?;
     let complex = false;
-    Ok(InstanceBody { complex, records, after })
+    Ok(InstanceBody {
+        complex,
+        records,
+        after,
+    })
 }

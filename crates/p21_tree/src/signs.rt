@@ -30,7 +30,9 @@ pub enum Sign {
 }
 
 const HEADER: &[u8] = b"HEADER";
+
 const END_SEC: &[u8] = b"ENDSEC";
+
 const DATA: &[u8] = b"DATA";
 
 /// Which of these a keyword is.

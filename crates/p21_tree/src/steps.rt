@@ -43,7 +43,11 @@ fn class(token: Token<'_>) -> Class<'_>
 fn begin_typed<'a>(nest: &Nest<'a>, keyword: &'a [u8]) -> Step<'a>
     ensures { step_of nest.now result ≡ begin_by (stack_of nest.now) nest.now.room (key keyword.now) }
 {
-    if nest.room == 0 { Step::Refused } else { Step::Go(Mode::Key(keyword)) }
+    if nest.room == 0 {
+        Step::Refused
+    } else {
+        Step::Go(Mode::Key(keyword))
+    }
 }
 
 /// A parenthesis stands where a parameter may begin.
@@ -78,7 +82,11 @@ fn close_none<'a>(alloc: Global, nest: &mut Nest<'a>) -> Step<'a>
 }
 
 /// A first parameter is expected, or the end of an empty list.
-fn begin_first<'a>(alloc: Global, nest: &mut Nest<'a>, class: Class<'a>) -> Result<Step<'a>, AllocError>
+fn begin_first<'a>(
+    alloc: Global,
+    nest: &mut Nest<'a>,
+    class: Class<'a>,
+) -> Result<Step<'a>, AllocError>
     ensures { IfOk result (λ r. step_of nest.new r ≡ by_mode first (stack_of nest.old) nest.old.room (class_view class.entry)) }
 {
     match class {
@@ -118,7 +126,11 @@ fn open_typed<'a>(nest: &mut Nest<'a>, keyword: &'a [u8]) -> Result<Step<'a>, Al
 }
 
 /// The parenthesis of a typed parameter is expected.
-fn behind_key<'a>(nest: &mut Nest<'a>, keyword: &'a [u8], class: Class<'a>) -> Result<Step<'a>, AllocError>
+fn behind_key<'a>(
+    nest: &mut Nest<'a>,
+    keyword: &'a [u8],
+    class: Class<'a>,
+) -> Result<Step<'a>, AllocError>
     ensures { IfOk result (λ r. step_of nest.new r ≡ by_mode (key_mode keyword.now) (stack_of nest.old) nest.old.room (class_view class.entry)) }
 {
     match class {
@@ -176,7 +188,12 @@ fn close<'a>(alloc: Global, nest: &mut Nest<'a>, param: Param<'a>) -> Result<Ste
 }
 
 /// A comma or a closing parenthesis is expected.
-fn behind<'a>(alloc: Global, nest: &mut Nest<'a>, param: Param<'a>, class: Class<'a>) -> Result<Step<'a>, AllocError>
+fn behind<'a>(
+    alloc: Global,
+    nest: &mut Nest<'a>,
+    param: Param<'a>,
+    class: Class<'a>,
+) -> Result<Step<'a>, AllocError>
     ensures { IfOk result (λ r. step_of nest.new r ≡ by_mode (after (plain param.entry)) (stack_of nest.old) nest.old.room (class_view class.entry)) }
 {
     match class {
@@ -190,7 +207,12 @@ fn behind<'a>(alloc: Global, nest: &mut Nest<'a>, param: Param<'a>, class: Class
 }
 
 /// Takes the next token.
-pub fn take_token<'a>(alloc: Global, nest: &mut Nest<'a>, mode: Mode<'a>, token: Token<'a>) -> Result<Step<'a>, AllocError>
+pub fn take_token<'a>(
+    alloc: Global,
+    nest: &mut Nest<'a>,
+    mode: Mode<'a>,
+    token: Token<'a>,
+) -> Result<Step<'a>, AllocError>
     ensures { IfOk result (λ r. step_of nest.new r ≡ step (state_of nest.old mode.entry) (symbol token.entry)) }
 {
     let class = class(token);

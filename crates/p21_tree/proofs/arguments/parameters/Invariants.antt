@@ -11,5 +11,5 @@ abbrev pub invariant-tokens : goal.invariant-tokens
 invariant-tokens l = record {
   behind : l.at ≤ l.place;
   within : l.place ≤ length l.source.text.now;
-  reads : Covers (Leads l.left (state_of l.nest l.mode)) l.source l.at l.place
+  reads : Covers (Leads l.left (state_of l.nest l.mode)) l.source l.at l.place;
 }

@@ -13,5 +13,5 @@ abbrev pub invariant-instances : goal.invariant-instances
 invariant-instances l = record {
   within : l.place ≤ length l.source.text.now;
   reads : Covers (λ ts. IsInstances deepest ts (map plain_instance l.instances.items)) l.source l.at l.place;
-  faults : (f : Fault) → Fails Bodies 64 l.source l.place f → Fails Bodies 64 l.source l.at f
+  faults : (f : Fault) → Fails Bodies 64 l.source l.place f → Fails Bodies 64 l.source l.at f;
 }

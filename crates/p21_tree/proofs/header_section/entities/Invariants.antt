@@ -13,5 +13,5 @@ abbrev pub invariant-entities : goal.invariant-entities
 invariant-entities l = record {
   within : l.place ≤ length l.source.text.now;
   reads : Covers (λ ts. IsEntities deepest ts (map plain_entity l.entities.items)) l.source l.at l.place;
-  faults : (f : Fault) → Fails HeaderRest 64 l.source l.place f → Fails HeaderRest 64 l.source l.at f
+  faults : (f : Fault) → Fails HeaderRest 64 l.source l.place f → Fails HeaderRest 64 l.source l.at f;
 }

@@ -15,5 +15,5 @@ invariant-records l = record {
   within : l.place ≤ length l.source.text.now;
   some : 0 < vec_len l.records;
   reads : Covers (λ ts. IsRecords 63 ts (map plain_record l.records.items)) l.source l.at l.place;
-  faults : (f : Fault) → Fails MoreRecords 63 l.source l.place f → Fails SomeRecords 63 l.source l.at f
+  faults : (f : Fault) → Fails MoreRecords 63 l.source l.place f → Fails SomeRecords 63 l.source l.at f;
 }

@@ -34,7 +34,7 @@ returns-in_ok-new-in-Some-Typed c =
     let gs = c.pop.new.self.items in
     let fs = c.args.nest.now.frames.items in
     let old = c.args.nest.now.current.items in
-        closed_typed (stack_of c.args.nest.now) (opened_all base gs (plain_all old)) (opened_all base gs (plain_all old)) c.in-Some-Typed.keyword.now (plain c.args.param) (plain (Typed c.in-Some-Typed.keyword c.in_ok-new-in-Some-Typed.field-0)) c.args.nest.now.room
+    closed_typed (stack_of c.args.nest.now) (opened_all base gs (plain_all old)) (opened_all base gs (plain_all old)) c.in-Some-Typed.keyword.now (plain c.args.param) (plain (Typed c.in-Some-Typed.keyword c.in_ok-new-in-Some-Typed.field-0)) c.args.nest.now.room
     (popped_typed fs gs c.in-Some-Typed.field-0 c.in-Some-Typed.keyword (plain_all old) c.in-Some-Typed.ensures.items c.in-Some-Typed.field-0-is)
     (plain_typed c.in-Some-Typed.keyword c.in_ok-new-in-Some-Typed.field-0 ∙ ap (λ p. tree.typed c.in-Some-Typed.keyword.now (plain p)) c.in_ok-new-in-Some-Typed.ensures.ok)
     refl

@@ -1,0 +1,483 @@
+//! The grammar by example: each row is a file, and what it gives.
+
+use crate::{
+    Fault, FaultKind, Param, Piece, TreeError, read_piece, read_preface, read_tail, read_whole,
+};
+use std::alloc::{AllocError, Global};
+use std::process::Abort;
+use std::test::Fail;
+
+const PREFACE: &[u8] =
+    b"ISO-10303-21;HEADER;FILE_DESCRIPTION((''),'2;1');FILE_NAME('','',(''),(''),'','','');FILE_SCHEMA(('TOY'));ENDSEC;DATA;";
+
+const TAIL: &[u8] = b"ENDSEC;END-ISO-10303-21;";
+
+/// A file.
+#[derive(Clone, Copy)]
+enum Text {
+    /// What stands between the preface and the tail.
+    Between(&'static [u8]),
+    /// What stands behind the preface, up to the end.
+    Behind(&'static [u8]),
+    /// All of it.
+    Alone(&'static [u8]),
+}
+
+/// What a file gives.
+#[derive(Clone, Copy, Debug, PartialEq, Eq)]
+enum Answer {
+    Read { instances: usize, complex: usize },
+    Fault(FaultKind, u64),
+    Memory,
+}
+
+/// The name of a row, its file, and what it gives.
+struct Row(&'static str, Text, Answer);
+
+fn bytes(alloc: Global, text: Text) -> Result<Vec<u8>, AllocError> {
+    let (before, middle, after): (&[u8], &[u8], &[u8]) = match text {
+        Text::Between(middle) => (PREFACE, middle, TAIL),
+        Text::Behind(middle) => (PREFACE, middle, b""),
+        Text::Alone(whole) => (b"", whole, b""),
+    };
+    let mut file = Vec::new(alloc);
+    file.extend_from_slice(before)?;
+    file.extend_from_slice(middle)?;
+    file.extend_from_slice(after)?;
+    Ok(file)
+}
+
+fn read(alloc: Global, file: &[u8]) -> Answer {
+    match read_whole(alloc, file) {
+        Ok((_, instances)) => Answer::Read {
+            instances: instances.len(),
+            complex: instances.iter().filter(|instance| instance.complex).count(),
+        },
+        Err(TreeError::Grammar(fault)) => Answer::Fault(fault.kind, fault.at),
+        Err(TreeError::Memory) => Answer::Memory,
+    }
+}
+
+fn outcome(alloc: Global, text: Text) -> Result<Answer, AllocError> {
+    let file = bytes(alloc, text)?;
+    Ok(read(alloc, &file))
+}
+
+fn check(rt: &impl Abort, alloc: Global, rows: &[Row]) -> Result<(), AllocError> {
+    for Row(name, text, want) in rows {
+        assert_eq!(rt; outcome(alloc, *text)?, *want, "{name}");
+    }
+    Ok(())
+}
+
+#[test]
+fn reads(rt: HostRuntime) -> Result<(), Fail> {
+    check(
+        &rt,
+        rt.alloc(),
+        &[
+            Row(
+                "accept_no_instances",
+                Text::Between(b""),
+                Answer::Read {
+                    instances: 0,
+                    complex: 0,
+                },
+            ),
+            Row(
+                "accept_string_of_lone_surrogate",
+                Text::Between(b"#1=MARK('\\X2\\D83D\\X0\\');"),
+                Answer::Read {
+                    instances: 1,
+                    complex: 0,
+                },
+            ),
+            Row(
+                "accept_string_of_surrogate_pair",
+                Text::Between(b"#1=MARK('\\X2\\D83DDE00\\X0\\');"),
+                Answer::Read {
+                    instances: 1,
+                    complex: 0,
+                },
+            ),
+            Row(
+                "accept_string_of_two_high_surrogates",
+                Text::Between(b"#1=MARK('\\X2\\D83DD83D\\X0\\');"),
+                Answer::Read {
+                    instances: 1,
+                    complex: 0,
+                },
+            ),
+            Row(
+                "accept_three_simple_instances",
+                Text::Between(
+                    b"#1=ITEM('A001',$,#3);#2=PROP(LABEL('x'));#3=SPECIAL('A003','t',$);",
+                ),
+                Answer::Read {
+                    instances: 3,
+                    complex: 0,
+                },
+            ),
+            Row(
+                "apostrophe_after_s_directive",
+                Text::Between(b"#1=NOTE('\\S\\');#2=B(');"),
+                Answer::Read {
+                    instances: 1,
+                    complex: 0,
+                },
+            ),
+            Row(
+                "complex_of_three_records",
+                Text::Between(b"#1=(BASE(1)LEFT(2)RIGHT(.T.));"),
+                Answer::Read {
+                    instances: 1,
+                    complex: 1,
+                },
+            ),
+            Row(
+                "complex_with_sixty_four_open_parentheses",
+                Text::Between(
+                    b"#1=(A(((((((((((((((((((((((((((((((((((((((((((((((((((((((((((((((1))))))))))))))))))))))))))))))))))))))))))))))))))))))))))))))));",
+                ),
+                Answer::Read {
+                    instances: 1,
+                    complex: 1,
+                },
+            ),
+            Row(
+                "greatest_instance_name",
+                Text::Between(b"#18446744073709551615=MARK('a');"),
+                Answer::Read {
+                    instances: 1,
+                    complex: 0,
+                },
+            ),
+            Row(
+                "instance_name_with_many_zeros",
+                Text::Between(b"#0000000000000000000000000000000000000007=MARK('a');"),
+                Answer::Read {
+                    instances: 1,
+                    complex: 0,
+                },
+            ),
+            Row(
+                "semicolons_hidden_in_string_and_comment",
+                Text::Between(b"#1=MARK(';');/*;#9='*/#2=ITEM('#;/*',$,$);"),
+                Answer::Read {
+                    instances: 2,
+                    complex: 0,
+                },
+            ),
+            Row(
+                "sixty_four_open_parentheses",
+                Text::Between(
+                    b"#1=A((((((((((((((((((((((((((((((((((((((((((((((((((((((((((((((((1))))))))))))))))))))))))))))))))))))))))))))))))))))))))))))))));",
+                ),
+                Answer::Read {
+                    instances: 1,
+                    complex: 0,
+                },
+            ),
+        ],
+    )?;
+    Ok(())
+}
+
+#[test]
+fn cut_files(rt: HostRuntime) -> Result<(), Fail> {
+    check(
+        &rt,
+        rt.alloc(),
+        &[
+            Row(
+                "cut_before_last_semicolon",
+                Text::Behind(
+                    b"#1=ITEM('A001',$,#3);#2=PROP(LABEL('x'));#3=SPECIAL('A003','t',$);ENDSEC;END-ISO-10303-21",
+                ),
+                Answer::Fault(FaultKind::Truncated, 207),
+            ),
+            Row(
+                "cut_behind_first_byte",
+                Text::Alone(b"I"),
+                Answer::Fault(FaultKind::Unexpected, 0),
+            ),
+            Row(
+                "cut_behind_last_instance",
+                Text::Behind(b"#1=ITEM('A001',$,#3);#2=PROP(LABEL('x'));#3=SPECIAL('A003','t',$);"),
+                Answer::Fault(FaultKind::Truncated, 184),
+            ),
+            Row(
+                "cut_behind_number_sign",
+                Text::Behind(b"#1=ITEM('A001',$,#"),
+                Answer::Fault(FaultKind::BadToken, 135),
+            ),
+            Row(
+                "cut_behind_opening_word",
+                Text::Alone(b"ISO-10303-21"),
+                Answer::Fault(FaultKind::Truncated, 12),
+            ),
+            Row(
+                "cut_behind_string",
+                Text::Behind(b"#1=ITEM('A001'"),
+                Answer::Fault(FaultKind::Truncated, 132),
+            ),
+            Row(
+                "cut_inside_closing_word",
+                Text::Behind(
+                    b"#1=ITEM('A001',$,#3);#2=PROP(LABEL('x'));#3=SPECIAL('A003','t',$);ENDSEC;END-",
+                ),
+                Answer::Fault(FaultKind::Unexpected, 191),
+            ),
+            Row(
+                "cut_inside_data_word",
+                Text::Alone(
+                    b"ISO-10303-21;HEADER;FILE_DESCRIPTION((''),'2;1');FILE_NAME('','',(''),(''),'','','');FILE_SCHEMA(('TOY'));ENDSEC;DA",
+                ),
+                Answer::Fault(FaultKind::Unexpected, 113),
+            ),
+            Row(
+                "cut_inside_first_endsec",
+                Text::Alone(
+                    b"ISO-10303-21;HEADER;FILE_DESCRIPTION((''),'2;1');FILE_NAME('','',(''),(''),'','','');FILE_SCHEMA(('TOY'));END",
+                ),
+                Answer::Fault(FaultKind::Truncated, 109),
+            ),
+            Row(
+                "cut_inside_header_word",
+                Text::Alone(b"ISO-10303-21;HE"),
+                Answer::Fault(FaultKind::Unexpected, 13),
+            ),
+            Row(
+                "cut_inside_last_endsec",
+                Text::Behind(
+                    b"#1=ITEM('A001',$,#3);#2=PROP(LABEL('x'));#3=SPECIAL('A003','t',$);END",
+                ),
+                Answer::Fault(FaultKind::Unexpected, 184),
+            ),
+            Row(
+                "cut_inside_string",
+                Text::Behind(b"#1=ITEM('A00"),
+                Answer::Fault(FaultKind::BadToken, 126),
+            ),
+            Row(
+                "empty_file",
+                Text::Alone(b""),
+                Answer::Fault(FaultKind::Truncated, 0),
+            ),
+            Row(
+                "file_ends_inside_parameters",
+                Text::Behind(b"#1=A(1"),
+                Answer::Fault(FaultKind::Truncated, 124),
+            ),
+            Row(
+                "preface_cut_before_data",
+                Text::Alone(
+                    b"ISO-10303-21;HEADER;FILE_DESCRIPTION((''),'2;1');FILE_NAME('','',(''),(''),'','','');FILE_SCHEMA(('TOY'));ENDSEC;",
+                ),
+                Answer::Fault(FaultKind::Truncated, 113),
+            ),
+        ],
+    )?;
+    Ok(())
+}
+
+#[test]
+fn faults(rt: HostRuntime) -> Result<(), Fail> {
+    check(
+        &rt,
+        rt.alloc(),
+        &[
+            Row(
+                "apostrophe_that_begins_no_string",
+                Text::Between(b"#1=MARK('a');#2=NOTE('b);#3=BOTH(1,2,.T.,4);#4=BOTH(1,2,.T.,4);"),
+                Answer::Fault(FaultKind::BadToken, 139),
+            ),
+            Row(
+                "comma_before_closing_parenthesis",
+                Text::Between(b"#1=A(1,);"),
+                Answer::Fault(FaultKind::Unexpected, 125),
+            ),
+            Row(
+                "complex_with_sixty_five_open_parentheses",
+                Text::Between(
+                    b"#1=(A((((((((((((((((((((((((((((((((((((((((((((((((((((((((((((((((1)))))))))))))))))))))))))))))))))))))))))))))))))))))))))))))))));",
+                ),
+                Answer::Fault(FaultKind::TooDeep, 186),
+            ),
+            Row(
+                "doubled_reverse_solidus_closes_no_directive",
+                Text::Between(b"#1=NOTE('\\\\S\\\\');#2=B(');"),
+                Answer::Fault(FaultKind::BadToken, 140),
+            ),
+            Row(
+                "grammar_fault_before_missing_reference",
+                Text::Between(b"#1=ITEM('A001',$,#8);#9=MARK('a';"),
+                Answer::Fault(FaultKind::Unexpected, 150),
+            ),
+            Row(
+                "grammar_fault_behind_dollar_parameter",
+                Text::Between(
+                    b"#1=MARK('a');#2=MARK('a');#3=MARK('a');#4=MARK('a');#5=MARK($);#6=MARK('a');#7=MARK('a');#8=MARK('a');#9=MARK('a';",
+                ),
+                Answer::Fault(FaultKind::Unexpected, 231),
+            ),
+            Row(
+                "grammar_fault_in_ninth_instance",
+                Text::Between(
+                    b"#1=MARK('a');#2=MARK('a');#3=MARK('a');#4=MARK('a');#5=MARK('a');#6=MARK('a');#7=MARK('a');#8=MARK('a');#9=MARK('a';",
+                ),
+                Answer::Fault(FaultKind::Unexpected, 233),
+            ),
+            Row(
+                "instance_name_too_great",
+                Text::Between(b"#18446744073709551616=MARK('a');"),
+                Answer::Fault(FaultKind::BadToken, 118),
+            ),
+            Row(
+                "instance_that_runs_into_endsec",
+                Text::Between(b"#1=A(1"),
+                Answer::Fault(FaultKind::Unexpected, 124),
+            ),
+            Row(
+                "keyword_with_sixty_four_open_parentheses",
+                Text::Between(
+                    b"#1=A((((((((((((((((((((((((((((((((((((((((((((((((((((((((((((((((B(1)))))))))))))))))))))))))))))))))))))))))))))))))))))))))))))))));",
+                ),
+                Answer::Fault(FaultKind::Unexpected, 186),
+            ),
+            Row(
+                "reference_too_great",
+                Text::Between(b"#1=OWNER(#18446744073709551616);"),
+                Answer::Fault(FaultKind::BadToken, 127),
+            ),
+            Row(
+                "sixty_five_open_parentheses",
+                Text::Between(
+                    b"#1=A(((((((((((((((((((((((((((((((((((((((((((((((((((((((((((((((((1)))))))))))))))))))))))))))))))))))))))))))))))))))))))))))))))));",
+                ),
+                Answer::Fault(FaultKind::TooDeep, 186),
+            ),
+            Row(
+                "string_that_closes_at_a_later_apostrophe",
+                Text::Between(b"#1=MARK('a');#2=NOTE('b);#3=NOTE('c');"),
+                Answer::Fault(FaultKind::BadToken, 152),
+            ),
+            Row(
+                "two_parameters_without_comma",
+                Text::Between(b"#1=A(1 2);"),
+                Answer::Fault(FaultKind::Unexpected, 125),
+            ),
+            Row(
+                "unclosed_comment_behind_instance",
+                Text::Between(b"#1=MARK('a');/*"),
+                Answer::Fault(FaultKind::BadToken, 131),
+            ),
+            Row(
+                "unclosed_comment_inside_instance",
+                Text::Between(b"#1=MARK(/*'a');"),
+                Answer::Fault(FaultKind::BadToken, 126),
+            ),
+        ],
+    )?;
+    Ok(())
+}
+
+#[test]
+fn places_of_the_preface(rt: HostRuntime) -> Result<(), Fail> {
+    let preface = read_preface(rt.alloc(), PREFACE)?;
+    assert_eq!(rt; preface.header_at, 13);
+    assert_eq!(rt; preface.data_at, 118);
+    assert_eq!(rt; preface.entities.len(), 3);
+    assert!(rt; preface.entities[0].keyword == b"FILE_DESCRIPTION".as_slice());
+    let cut = read_preface(rt.alloc(), &PREFACE[..113]);
+    assert_eq!(rt; cut.err(), Some(grammar(FaultKind::Truncated, 113)));
+    Ok(())
+}
+
+#[test]
+fn header_entity_named_endsec(rt: HostRuntime) {
+    let file = b"ISO-10303-21;HEADER;ENDSEC('');ENDSEC;DATA;";
+    let fault = read_preface(rt.alloc(), file).err();
+    assert_eq!(rt; fault, Some(grammar(FaultKind::Unexpected, 26)));
+}
+
+fn grammar(kind: FaultKind, at: u64) -> TreeError {
+    TreeError::Grammar(Fault { kind, at })
+}
+
+fn piece(bytes: &'static [u8]) -> Piece<'static> {
+    Piece {
+        number: 0,
+        at: 118,
+        bytes: &bytes[..bytes.len().min(1000)],
+    }
+}
+
+#[test]
+fn pieces(rt: HostRuntime) {
+    let rows: [(&'static [u8], FaultKind, u64); 6] = [
+        (b"#1=A(1 2);", FaultKind::Unexpected, 125),
+        (b"#1=A(1,);", FaultKind::Unexpected, 125),
+        (b"#1=A(1", FaultKind::Truncated, 124),
+        (b"#1=A(1);#2", FaultKind::Unexpected, 126),
+        (b"#1=();", FaultKind::Unexpected, 122),
+        (b"A(1);", FaultKind::Unexpected, 118),
+    ];
+    for (bytes, kind, at) in rows {
+        let fault = read_piece(rt.alloc(), piece(bytes)).err();
+        assert_eq!(rt; fault, Some(grammar(kind, at)), "{bytes:?}");
+    }
+}
+
+#[test]
+fn tree_of_an_instance(rt: HostRuntime) -> Result<(), Fail> {
+    let read = read_piece(rt.alloc(), piece(b" #7=!A($,*,-1,LABEL((#2,'x')));"))?;
+    assert_eq!(rt; read.name, 7);
+    assert_eq!(rt; read.at, 119);
+    assert!(rt; !read.complex);
+    assert_eq!(rt; read.records.len(), 1);
+    let record = &read.records[0];
+    assert!(rt; record.keyword == b"!A".as_slice());
+    assert_eq!(rt; record.params.len(), 4);
+    assert!(rt; matches!(record.params[0], Param::Absent));
+    assert!(rt; matches!(record.params[1], Param::Derived));
+    match &record.params[3] {
+        Param::Typed(keyword, inner) => {
+            assert!(rt; *keyword == b"LABEL".as_slice());
+            match &**inner {
+                Param::Items(items) => assert_eq!(rt; items.len(), 2),
+                _ => assert!(rt; false, "a list"),
+            }
+        }
+        _ => assert!(rt; false, "a typed parameter"),
+    }
+    Ok(())
+}
+
+#[test]
+fn tails(rt: HostRuntime) {
+    let rows: [(&'static [u8], usize, Option<(FaultKind, u64)>); 5] = [
+        (b"ENDSEC;END-ISO-10303-21;", 0, None),
+        (b"x ENDSEC;END-ISO-10303-21; /* */", 1, None),
+        (
+            b"ENDSEC;END-ISO-10303-21;A",
+            0,
+            Some((FaultKind::Unexpected, 24)),
+        ),
+        (
+            b"ENDSEC;END-ISO-10303-21",
+            0,
+            Some((FaultKind::Truncated, 23)),
+        ),
+        (
+            b"#1=A(1);ENDSEC;END-ISO-10303-21;",
+            0,
+            Some((FaultKind::Unexpected, 0)),
+        ),
+    ];
+    for (file, at, want) in rows {
+        let at = at.min(file.len());
+        let want = want.map(|(kind, at)| Fault { kind, at });
+        assert_eq!(rt; read_tail(file, at).err(), want, "{file:?}");
+    }
+}
