@@ -1,5 +1,5 @@
 -- The loop over the tokens of parameters.
-use Rattle.std.proofs.Common.{◌≡◌, ℕ, suc, zero, ◌+◌, List, [], ◌∷◌, ◌++◌, refl, sym, ap, subst, ◌∙◌, arith}
+use Rattle.std.proofs.Common.{◌≡◌, ℕ, suc, zero, ◌+◌, List, [], ◌∷◌, ◌++◌, refl, sym, ap, ◌∙◌}
 use Rattle.p21_text.specs.Spelling.{Symbol}
 use Rattle.p21_text.specs.Spelling as token
 use Rattle.p21_text.specs.Tokens.{Placed, First, IsLast, symbols}
@@ -8,15 +8,15 @@ use Rattle.p21_tree.specs.declared.source.Source.{Source}
 use Rattle.p21_tree.specs.declared.faults.Fault.{Fault}
 use Rattle.p21_tree.specs.declared.nest.Frame.{Frame}
 use Rattle.p21_tree.specs.declared.params.Param.{Param}
-use Rattle.p21_tree.specs.Tree.{Tree, Trees}
+use Rattle.p21_tree.specs.Tree.{Trees}
 use Rattle.p21_tree.specs.Plain.{plain_all}
-use Rattle.p21_tree.specs.Fault.{Kind, too_deep}
-use Rattle.p21_tree.specs.Texts.{shift, shifted, fault_kind}
-use Rattle.p21_tree.specs.Languages.{Just, Then, Stuck, kind_now}
-use Rattle.p21_tree.specs.Parts.{IsClosed, Closed, IsArguments, Arguments, Is, Sign}
-use Rattle.p21_tree.specs.Progress.{Chain, Covers, Fails}
+use Rattle.p21_tree.specs.Fault.{too_deep}
+use Rattle.p21_tree.specs.Texts.{shift, fault_kind}
+use Rattle.p21_tree.specs.Languages.{kind_now}
+use Rattle.p21_tree.specs.Parts.{IsClosed, Closed, IsArguments, Arguments, Is}
+use Rattle.p21_tree.specs.Progress.{Covers, Fails}
 use Rattle.p21_tree.specs.Opened.{opened_all}
-use Rattle.p21_tree.specs.Machine.{Class, Stack, Mode, State, Step, base, list, typed, first, want, behind_key, after, other, go, closed, refused, deep, going, by_mode, step, run, start}
+use Rattle.p21_tree.specs.Machine.{Stack, Mode, State, base, list, typed, first, want, behind_key, after, other, go, closed, refused, deep, going, by_mode, step, run, start}
 use Rattle.p21_tree.proofs.ProgressLemmas.{chain_none, chain_one, chain_then, fails_after}
 use Rattle.p21_tree.proofs.ParamFaults.{run_none, run_go, run_closes, stuck_refused, stuck_deep}
 

@@ -1,17 +1,17 @@
 -- The strings and binaries of a tree are those of tokens, so they hold the bodies of such.
-use Rattle.std.proofs.Common.{◌≡◌, ℕ, suc, List, [], ◌∷◌, ◌++◌, take, drop, refl, sym, ap, subst, ◌∙◌}
+use Rattle.std.proofs.Common.{◌≡◌, ℕ, List, [], ◌∷◌, ◌++◌, take, drop, refl, sym, ap, subst, ◌∙◌}
 use Rattle.p21_text.specs.Items.{IsBody}
 use Rattle.p21_text.specs.Spelling.{Symbol, Spells}
 use Rattle.p21_text.specs.Spelling as token
 use Rattle.p21_text.specs.Tokens.{Placed, First, Front, Longest, TokensUpTo, symbols}
 use Rattle.p21_text.specs.Tokens as text
 use Rattle.p21_tree.specs.declared.source.Source.{Source}
-use Rattle.p21_tree.specs.Tree.{Tree, Trees, nil, cons}
+use Rattle.p21_tree.specs.Tree.{Tree, Trees}
 use Rattle.p21_tree.specs.Grammar.{IsLeaf, IsParam, IsOptional, IsParams}
 use Rattle.p21_tree.specs.Grammar as grammar
 use Rattle.p21_tree.specs.Bodies.{IsBinaryBody, HasBodies, HaveBodies}
-use Rattle.p21_tree.specs.Texts.{shift, shifted}
-use Rattle.p21_tree.specs.Parts.{IsClosed, IsArguments}
+use Rattle.p21_tree.specs.Texts.{shifted}
+use Rattle.p21_tree.specs.Parts.{IsArguments}
 use Rattle.p21_tree.specs.Progress.{Chain, Covers}
 
 -- a string or a binary holds the body of such a token

@@ -6,8 +6,7 @@ use Rattle.p21_tree.specs.Tree.{Tree, Trees, nil, trees_append}
 use Rattle.p21_tree.specs.Tree as tree
 use Rattle.p21_tree.specs.Grammar.{IsParam, IsOptional, IsParams}
 use Rattle.p21_tree.specs.Grammar as grammar
-use Rattle.p21_tree.specs.Machine.{Stack, Mode, State, Answer, base, list, typed, first, want, behind_key, after, going, ended, run, start}
-use Rattle.p21_tree.proofs.Runs.{run_going, run_ended}
+use Rattle.p21_tree.specs.Machine.{Stack, Mode, State, base, list, typed, first, want, behind_key, after, going, ended, run, start}
 use Rattle.p21_tree.proofs.Complete.{state, run_leaf, run_open_typed, run_close, run_close_typed, optional_runs}
 use Rattle.p21_tree.proofs.Sound.{InMode, Reads, AnswerReads, run_reads}
 use Rattle.p21_tree.specs.Parts.{IsClosed}

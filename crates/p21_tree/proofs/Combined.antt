@@ -1,7 +1,6 @@
 -- What the parts of a language say of the whole.
-use Rattle.std.proofs.Common.{◌≡◌, ◌⊎◌, inl, inr, ℕ, suc, zero, ◌≤◌, List, [], ◌∷◌, ◌++◌, refl, sym, ap, subst, ◌∙◌, append_assoc, append-nil, arith}
+use Rattle.std.proofs.Common.{◌≡◌, ◌⊎◌, inl, inr, ℕ, suc, zero, ◌≤◌, List, [], ◌∷◌, ◌++◌, refl, sym, ap, subst, ◌∙◌, append_assoc, arith}
 use Rattle.p21_text.specs.Spelling.{Symbol}
-use Rattle.p21_text.specs.Spelling as token
 use Rattle.p21_text.specs.Tokens.{Placed}
 use Rattle.p21_tree.specs.Fault.{Begins, Kind, bad_token, unexpected, truncated, too_deep, IsFault, IsKind, OnlyTooDeep}
 use Rattle.p21_tree.specs.Fault as fault

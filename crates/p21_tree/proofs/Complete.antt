@@ -1,12 +1,12 @@
 -- The machine accepts what the grammar allows.
-use Rattle.std.proofs.Common.{◌≡◌, ℕ, suc, Bool, true, false, Option, Some, None, List, [], ◌∷◌, ◌++◌, refl, sym, ap, ◌∙◌, append_assoc}
+use Rattle.std.proofs.Common.{◌≡◌, ℕ, suc, Bool, true, false, Option, Some, None, List, [], ◌∷◌, ◌++◌, refl, ap, ◌∙◌, append_assoc}
 use Rattle.p21_text.specs.Spelling.{Symbol}
 use Rattle.p21_text.specs.Spelling as token
 use Rattle.p21_tree.specs.Tree.{Tree, Trees, nil, cons, trees_concat, trees_append}
 use Rattle.p21_tree.specs.Tree as tree
 use Rattle.p21_tree.specs.Grammar.{IsLeaf, IsKey, IsParam, IsOptional, IsParams}
 use Rattle.p21_tree.specs.Grammar as grammar
-use Rattle.p21_tree.specs.Machine.{Class, Stack, Mode, State, Step, Answer, base, list, typed, first, want, behind_key, after, leaf, key, open_, go, ended, next, class_of, by_mode, step, run}
+use Rattle.p21_tree.specs.Machine.{Stack, Mode, State, Answer, base, list, typed, first, want, behind_key, after, leaf, key, ended, next, class_of, by_mode, run}
 
 abbrev pub state : Mode → Stack → ℕ → State
 state mode stack room = record { mode = mode; stack = stack; room = room }

@@ -1,5 +1,5 @@
 -- Reading the data section.
-use Rattle.std.proofs.Common.{◌≡◌, ◌≢◌, ◌⊎◌, inl, inr, ℕ, suc, ◌+◌, Option, Some, None, Bool, true, false, List, [], ◌∷◌, ◌++◌, map, refl, sym, ap, subst, ◌∙◌, append_assoc, append-nil}
+use Rattle.std.proofs.Common.{◌≡◌, ◌≢◌, inl, inr, ℕ, ◌+◌, Bool, List, [], ◌∷◌, ◌++◌, map, refl, sym, ap, subst, ◌∙◌, append_assoc, append-nil}
 use Rattle.p21_text.specs.Spelling.{Symbol, symbol}
 use Rattle.p21_text.specs.Spelling as token
 use Rattle.p21_text.specs.declared.token.Token.{Token}
@@ -9,22 +9,19 @@ use Rattle.p21_text.specs.Tokens as text
 use Rattle.p21_tree.specs.declared.source.Source.{Source}
 use Rattle.p21_tree.specs.declared.faults.Fault.{Fault}
 use Rattle.p21_tree.specs.declared.instances.RawInstance.{RawInstance}
-use Rattle.p21_tree.specs.declared.signs.Sign as source
 use Rattle.p21_tree.specs.Grammar.{Entry}
 use Rattle.p21_tree.specs.Sentence.{Instance, IsInstance, IsInstances, IsTail, deepest, endsec_word}
 use Rattle.p21_tree.specs.Sentence as sentence
 use Rattle.p21_tree.specs.Views.{plain_instance}
-use Rattle.p21_tree.specs.Fault.{Kind}
 use Rattle.p21_tree.specs.Texts.{shift, shifted, fault_kind}
-use Rattle.p21_tree.specs.Languages.{Just, Then, Many, Stuck, kind_now}
+use Rattle.p21_tree.specs.Languages.{Just, Then, kind_now}
 use Rattle.p21_tree.specs.Parts.{Is, Sign, Form, IsFormOf, NameToken, FormOn, EqualsOn, Instances, IsBehindName, EndIsoOn, EndIsos, TailOn, Tails, IsBehindEndsec, Bodies, IsBody}
 use Rattle.p21_tree.specs.Progress.{Chain, Covers, Finishes, Fails}
-use Rattle.p21_tree.specs.Signs.{sign_of, sign_in}
 use Rattle.p21_tree.proofs.LanguageLemmas.{stuck_second, stuck_now}
 use Rattle.p21_tree.proofs.Combined.{grows_just, once_just, Apart}
-use Rattle.p21_tree.proofs.PartLemmas.{BodyToken, some_sign, some_form_on, some_equals_on, some_bodies, some_tails, some_end_iso_on, some_end_isos, starts_instances, starts_tails, starts_bodies, once_form, once_instances, grows_form, grows_instances}
+use Rattle.p21_tree.proofs.PartLemmas.{BodyToken, some_sign, some_bodies, some_tails, some_end_iso_on, starts_instances, starts_tails, starts_bodies, once_form, once_instances, grows_form, grows_instances}
 use Rattle.p21_tree.proofs.Sentences.{instance_into}
-use Rattle.p21_tree.proofs.ProgressLemmas.{chain_one, chain_then, shifted_append, fails_behind, fails_now, fails_first, fails_second, fails_after, not_sign, sign_is_in, stuck_item, stuck_stop, stuck_again, fails_again}
+use Rattle.p21_tree.proofs.ProgressLemmas.{chain_one, chain_then, shifted_append, fails_behind, fails_now, fails_first, fails_second, fails_after, stuck_item, stuck_stop, fails_again}
 
 -- tokens that are not the last
 

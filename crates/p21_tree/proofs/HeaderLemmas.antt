@@ -1,5 +1,5 @@
 -- Reading the preface.
-use Rattle.std.proofs.Common.{◌≡◌, ◌≢◌, ◌⊎◌, inl, inr, ℕ, suc, ◌+◌, Option, Some, None, Bool, true, false, List, [], ◌∷◌, ◌++◌, map, refl, sym, ap, subst, ◌∙◌, append_assoc, append-nil}
+use Rattle.std.proofs.Common.{◌≡◌, ◌≢◌, inl, inr, ℕ, suc, ◌+◌, List, [], ◌∷◌, ◌++◌, map, refl, sym, ap, subst, ◌∙◌, append_assoc}
 use Rattle.p21_text.specs.Spelling.{Symbol}
 use Rattle.p21_text.specs.Spelling as token
 use Rattle.p21_text.specs.Tokens.{Placed, First, IsLast, symbols}
@@ -13,18 +13,18 @@ use Rattle.p21_tree.specs.Sentence.{Opening, IsEntities, IsPreface, BeginsWithNo
 use Rattle.p21_tree.specs.Sentence as sentence
 use Rattle.p21_tree.specs.Views.{plain_entity}
 use Rattle.p21_tree.specs.Fault.{Kind}
-use Rattle.p21_tree.specs.Texts.{shift, shifted, fault_kind}
-use Rattle.p21_tree.specs.Languages.{Just, Then, Within, Many, Stuck, kind_now}
-use Rattle.p21_tree.specs.Parts.{Closed, Is, Sign, KeyToken, EntityKey, Arguments, IsArguments, EntityRecords, EntityRest, Entities, DataOn, EndsecOn, HeaderEnd, HeaderRest, HeaderOn, Headers, IsoOn, Prefaces, IsBehindKey, IsHeaderBody, IsOpening, IsDataStart}
+use Rattle.p21_tree.specs.Texts.{shift, fault_kind}
+use Rattle.p21_tree.specs.Languages.{Just, Then, Within, Stuck, kind_now}
+use Rattle.p21_tree.specs.Parts.{Closed, Is, Sign, KeyToken, EntityKey, Arguments, IsArguments, EntityRest, Entities, DataOn, EndsecOn, HeaderEnd, HeaderRest, HeaderOn, Headers, IsoOn, Prefaces, IsBehindKey, IsHeaderBody, IsOpening, IsDataStart}
 use Rattle.p21_tree.specs.Progress.{Chain, Covers, Fails}
-use Rattle.p21_tree.proofs.LanguageLemmas.{Once, stuck_first, stuck_second, stuck_same, stuck_within, stuck_now}
-use Rattle.p21_tree.proofs.Combined.{Apart, grows_just, once_just, grows_then, once_then}
-use Rattle.p21_tree.proofs.ParamFaults.{once_closed, grows_closed}
-use Rattle.p21_tree.proofs.PartLemmas.{HeaderToken, some_sign, some_header_end, some_header_rest, some_header_on, some_headers, some_iso_on, some_data_on, some_endsec_on, starts_entities, starts_header_end, starts_header_rest, once_entities, once_sign, once_header_rest, grows_entities, grows_arguments, grows_sign, grows_header_rest}
+use Rattle.p21_tree.proofs.LanguageLemmas.{Once, stuck_second, stuck_same, stuck_within, stuck_now}
+use Rattle.p21_tree.proofs.Combined.{Apart, grows_just, once_just, once_then}
+use Rattle.p21_tree.proofs.ParamFaults.{once_closed}
+use Rattle.p21_tree.proofs.PartLemmas.{HeaderToken, some_sign, some_header_end, some_header_rest, some_header_on, some_headers, starts_entities, starts_header_end, starts_header_rest, once_entities, once_sign, grows_entities, grows_arguments}
 use Rattle.p21_tree.proofs.Sentences.{sign, record_made, entity_into}
-use Rattle.p21_tree.proofs.ProgressLemmas.{chain_one, chain_then, fails_map, fails_behind, fails_now, fails_first, fails_second, fails_after, stuck_item, stuck_stop, stuck_again, fails_again}
+use Rattle.p21_tree.proofs.ProgressLemmas.{chain_one, chain_then, fails_behind, fails_now, fails_first, fails_second, stuck_item, stuck_stop, fails_again}
 use Rattle.p21_tree.proofs.RecordLemmas.{key_not_last}
-use Rattle.p21_tree.proofs.DataLemmas.{not_last, semi_goes, iso_goes, keyword_goes, after_sign, chain_sign}
+use Rattle.p21_tree.proofs.DataLemmas.{semi_goes, iso_goes, keyword_goes, after_sign, chain_sign}
 
 -- a header entity behind its keyword
 

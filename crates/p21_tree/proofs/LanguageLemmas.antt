@@ -1,12 +1,10 @@
 -- A token that leaves a part of a sentence leaves the sentence.
-use Rattle.std.proofs.Common.{◌≡◌, ◌⊎◌, inl, inr, ℕ, suc, zero, ◌≤◌, List, [], ◌∷◌, ◌++◌, refl, sym, ap, subst, ◌∙◌, append_assoc, append-nil, arith}
+use Rattle.std.proofs.Common.{◌≡◌, ◌⊎◌, inl, inr, ℕ, suc, ◌≤◌, List, [], ◌∷◌, ◌++◌, refl, sym, ap, subst, ◌∙◌, append_assoc, arith}
 use Rattle.p21_text.specs.Spelling.{Symbol}
 use Rattle.p21_text.specs.Spelling as token
 use Rattle.p21_text.specs.Tokens.{Placed}
-use Rattle.p21_tree.specs.Fault.{Begins, Kind, bad_token, unexpected, truncated, too_deep, IsFault, IsKind, OnlyTooDeep}
-use Rattle.p21_tree.specs.Fault as fault
-use Rattle.p21_tree.specs.Sentence.{deepest}
-use Rattle.p21_tree.specs.Languages.{Language, kind_now, Just, Then, Either, Within, Many, stop, again, Why, Stuck}
+use Rattle.p21_tree.specs.Fault.{Begins, Kind, bad_token, unexpected, truncated, too_deep}
+use Rattle.p21_tree.specs.Languages.{Language, kind_now, Then, Within, Why, Stuck}
 
 -- there is a sentence at each limit from this one on
 abbrev pub Inhabited : Language → ℕ → Type 0

@@ -20,3 +20,5 @@ pub mod HeaderLemmas
 pub mod ReaderLemmas
 pub mod LawLemmas
 pub mod TreeLaws
+pub mod Verdicts
+pub mod FileVerdict

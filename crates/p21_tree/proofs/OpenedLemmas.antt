@@ -1,5 +1,5 @@
 -- What opening and closing a parenthesis does to what stands open.
-use Rattle.std.proofs.Common.{◌≡◌, ℕ, suc, zero, ◌-◌, ◌+◌, Bool, true, false, Option, Some, None, List, [], ◌∷◌, ◌++◌, length, slice_get, refl, sym, ap, ◌∙◌, arith, Vec, Box, Bor, Global}
+use Rattle.std.proofs.Common.{◌≡◌, ℕ, suc, zero, ◌-◌, ◌+◌, true, false, Some, None, List, [], ◌∷◌, ◌++◌, length, slice_get, refl, sym, ap, ◌∙◌, arith, Vec, Box, Bor, Global}
 use Rattle.p21_tree.specs.declared.nest.Frame.{Frame}
 use Rattle.p21_tree.specs.declared.nest.Frame.TheVariants as frame
 use Rattle.p21_tree.specs.declared.params.Param.{Param, fold-roll-Param}
@@ -8,7 +8,7 @@ use Rattle.p21_tree.specs.declared.params.Param.TheViews.{Items, Typed, rolls-It
 use Rattle.p21_tree.specs.Tree.{Tree, Trees, nil, cons, trees_append}
 use Rattle.p21_tree.specs.Tree as tree
 use Rattle.p21_tree.specs.Plain.{plain, plain_all, plain_level}
-use Rattle.p21_tree.specs.Machine.{Stack, Step, base, list, typed, first, want, behind_key, after, open_, close_, comma, go, closed, refused, begin, close_empty, by_mode}
+use Rattle.p21_tree.specs.Machine.{Stack, base, list, typed, first, want, behind_key, after, open_, close_, comma, go, closed, refused, begin, close_empty, by_mode}
 use Rattle.p21_tree.specs.Opened.{opened, opened_all, is_typed}
 
 pub opened_push : (around : Trees → Stack) (fs : List Frame) (x : Frame) (current : Trees) → opened_all around (fs ++ x ∷ []) current ≡ opened (opened_all around fs) x current

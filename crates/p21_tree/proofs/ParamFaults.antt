@@ -1,18 +1,18 @@
 -- The token that the machine refuses is the first fault of the parameters.
-use Rattle.std.proofs.Common.{◌≡◌, ℕ, suc, zero, ◌+◌, ◌-◌, ◌≤◌, List, [], ◌∷◌, ◌++◌, length, map, refl, sym, ap, subst, ◌∙◌, append_assoc, append-nil, arith, length-append}
+use Rattle.std.proofs.Common.{◌≡◌, ℕ, suc, ◌+◌, ◌-◌, ◌≤◌, List, [], ◌∷◌, ◌++◌, length, map, refl, sym, ap, subst, ◌∙◌, append_assoc, append-nil, arith, length-append}
 use Rattle.p21_text.specs.Spelling.{Symbol}
 use Rattle.p21_text.specs.Spelling as token
 use Rattle.p21_text.specs.Tokens.{Placed, symbols}
-use Rattle.p21_tree.specs.Tree.{Tree, Trees, nil}
-use Rattle.p21_tree.specs.Fault.{Begins, Kind, bad_token, unexpected, truncated, too_deep}
-use Rattle.p21_tree.specs.Languages.{Language, Why, Stuck, kind_now}
+use Rattle.p21_tree.specs.Tree.{Trees}
+use Rattle.p21_tree.specs.Fault.{Begins, too_deep}
+use Rattle.p21_tree.specs.Languages.{Why, Stuck, kind_now}
 use Rattle.p21_tree.specs.Parts.{IsClosed, Closed}
-use Rattle.p21_tree.specs.Machine.{Class, Stack, Mode, State, Step, Answer, open_, go, closed, refused, deep, going, ended, fault, next, class_of, by_mode, step, run, start}
+use Rattle.p21_tree.specs.Machine.{State, open_, go, closed, refused, deep, going, ended, fault, next, class_of, by_mode, step, run, start}
 use Rattle.p21_tree.proofs.Runs.{run_going}
-use Rattle.p21_tree.proofs.Sound.{Says, class_says, Reads}
+use Rattle.p21_tree.proofs.Sound.{Says, class_says}
 use Rattle.p21_tree.proofs.Closing.{Ends, reads_ends, going_reads, run_closed, closed_runs, closed_more}
-use Rattle.p21_tree.proofs.Raised.{raise, raised, RaisesTo, AnswerRaises, DeepSays, run_raised, start_raised, open_refused, mode_deep}
-use Rattle.p21_tree.proofs.LanguageLemmas.{Inhabited, Grows, Once, why_now}
+use Rattle.p21_tree.proofs.Raised.{raise, raised, AnswerRaises, DeepSays, run_raised, start_raised, open_refused, mode_deep}
+use Rattle.p21_tree.proofs.LanguageLemmas.{Grows, Once}
 use Rattle.p21_tree.proofs.Combined.{blank}
 
 pub symbols_append : (a b : List Placed) → symbols (a ++ b) ≡ symbols a ++ symbols b

@@ -1,16 +1,15 @@
 -- The parts of a file: their first tokens, and that a list of tokens begins with at most one.
-use Rattle.std.proofs.Common.{◌≡◌, ◌≢◌, ◌⊎◌, inl, inr, ℕ, suc, List, [], ◌∷◌, ◌++◌, refl, sym, ap, subst, ◌∙◌, arith}
+use Rattle.std.proofs.Common.{◌≡◌, ◌⊎◌, inl, inr, ℕ, suc, List, [], ◌∷◌, refl}
 use Rattle.p21_text.specs.Spelling.{Symbol}
 use Rattle.p21_text.specs.Spelling as token
-use Rattle.p21_text.specs.Tokens.{Placed, symbols}
 use Rattle.p21_tree.specs.Tree.{nil}
 use Rattle.p21_tree.specs.Grammar.{IsKey}
 use Rattle.p21_tree.specs.Grammar as grammar
 use Rattle.p21_tree.specs.Sentence.{header_word, endsec_word, data_word}
-use Rattle.p21_tree.specs.Languages.{Just, Then, Either, Within, Many}
-use Rattle.p21_tree.specs.Parts.{IsClosed, Closed, Is, Sign, KeyToken, EntityKey, Arguments, Keyed, Records, MoreRecords, SomeRecords, Complex, Form, NameToken, FormOn, EqualsOn, Instances, EntityRecords, Entities, DataOn, EndsecOn, HeaderEnd, HeaderRest, HeaderOn, Headers, IsoOn, Prefaces, EndIsoOn, EndIsos, TailOn, Tails, Bodies, Files, Pieces}
+use Rattle.p21_tree.specs.Languages.{Just, Then}
+use Rattle.p21_tree.specs.Parts.{Closed, Is, Sign, KeyToken, EntityKey, Arguments, Keyed, Records, MoreRecords, SomeRecords, Complex, Form, NameToken, FormOn, EqualsOn, Instances, EntityRecords, Entities, DataOn, EndsecOn, HeaderEnd, HeaderRest, HeaderOn, Headers, IsoOn, Prefaces, EndIsoOn, EndIsos, TailOn, Tails, Bodies}
 use Rattle.p21_tree.proofs.LanguageLemmas.{Inhabited, Grows, Once, Starts}
-use Rattle.p21_tree.proofs.Combined.{blank, Apart, starts_just, starts_then, starts_within, starts_either, starts_many, grows_just, grows_then, grows_either, grows_within, grows_many, some_just, some_then, some_left, some_within, some_stop, once_just, once_then, once_within, once_either, once_many}
+use Rattle.p21_tree.proofs.Combined.{blank, starts_just, starts_then, starts_within, starts_either, starts_many, grows_just, grows_then, grows_either, grows_within, grows_many, some_just, some_then, some_left, some_within, some_stop, once_just, once_then, once_within, once_either, once_many}
 use Rattle.p21_tree.proofs.ParamFaults.{grows_closed, once_closed}
 
 -- There are sentences.

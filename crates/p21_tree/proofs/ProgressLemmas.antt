@@ -1,22 +1,20 @@
 -- How the code's progress and its faults are put together.
-use Rattle.std.proofs.Common.{◌≡◌, ◌≢◌, ◌⊎◌, inl, inr, ℕ, suc, zero, ◌+◌, ◌≤◌, Option, Some, List, [], ◌∷◌, ◌++◌, map, refl, sym, ap, subst, ◌∙◌, append_assoc, append-nil, arith}
+use Rattle.std.proofs.Common.{◌≡◌, ◌≢◌, ℕ, suc, ◌+◌, Some, List, [], ◌∷◌, ◌++◌, refl, sym, ap, ◌∙◌}
 use Rattle.p21_text.specs.Spelling.{Symbol}
-use Rattle.p21_text.specs.Spelling as token
 use Rattle.p21_text.specs.Tokens.{Placed, First, TokensUpTo, Tokens, IsLast, symbols}
 use Rattle.p21_text.specs.Tokens as text
 use Rattle.p21_tree.specs.declared.source.Source.{Source}
 use Rattle.p21_tree.specs.declared.faults.Fault.{Fault}
 use Rattle.p21_tree.specs.declared.signs.Sign as source
 use Rattle.p21_tree.specs.declared.signs.Sign.TheVariants as variants
-use Rattle.p21_tree.specs.Grammar.{IsKey}
 use Rattle.p21_tree.specs.Fault.{Kind}
 use Rattle.p21_tree.specs.Texts.{shift, shifted, fault_kind}
-use Rattle.p21_tree.specs.Languages.{Language, Just, Then, Either, Within, Many, Stuck, kind_now}
-use Rattle.p21_tree.specs.Parts.{Is, Sign, KeyToken, Arguments, Keyed, Records, MoreRecords, SomeRecords, Complex, Form}
+use Rattle.p21_tree.specs.Languages.{Language, Just, Then, Within, Many, Stuck, kind_now}
+use Rattle.p21_tree.specs.Parts.{Is, Sign}
 use Rattle.p21_tree.specs.Signs.{sign_of, sign_in}
-use Rattle.p21_tree.specs.Progress.{Chain, Covers, Fails}
-use Rattle.p21_tree.proofs.LanguageLemmas.{Inhabited, Grows, Once, FirstIs, Starts, stuck_first, stuck_second, stuck_same, stuck_within, stuck_now}
-use Rattle.p21_tree.proofs.Combined.{Apart, starts_just, some_just, grows_just, once_just, starts_then, some_stop, stuck_left, stuck_right, stuck_many, many_into}
+use Rattle.p21_tree.specs.Progress.{Chain, Fails}
+use Rattle.p21_tree.proofs.LanguageLemmas.{Inhabited, Grows, Once, Starts, stuck_first, stuck_second, stuck_within, stuck_now}
+use Rattle.p21_tree.proofs.Combined.{Apart, starts_just, some_just, grows_just, once_just, starts_then, some_stop, stuck_left, stuck_right, stuck_many}
 
 pub shifted_append : (base : ℕ) (a b : List Placed) → shifted base (a ++ b) ≡ shifted base a ++ shifted base b
 shifted_append base [] b = refl

@@ -1,11 +1,10 @@
 -- What the machine does where more parentheses may be opened.
-use Rattle.std.proofs.Common.{◌≡◌, ℕ, suc, zero, ◌+◌, ◌≤◌, ◌-◌, List, [], ◌∷◌, ◌++◌, refl, sym, ap, subst, ◌∙◌, arith}
+use Rattle.std.proofs.Common.{◌≡◌, ℕ, suc, zero, ◌+◌, ◌≤◌, ◌-◌, List, [], ◌∷◌, refl, sym, ap, subst, arith}
 use Rattle.p21_text.specs.Spelling.{Symbol}
-use Rattle.p21_text.specs.Spelling as token
-use Rattle.p21_tree.specs.Tree.{Tree, Trees, nil, cons}
+use Rattle.p21_tree.specs.Tree.{Tree, nil, cons}
 use Rattle.p21_tree.specs.Machine.{Class, Stack, Mode, State, Step, Answer, base, list, typed, first, want, behind_key, after, leaf, key, open_, close_, comma, other, go, closed, refused, deep, going, ended, fault, next, class_of, begin, begin_first, close_empty, open_typed, go_on, by_mode, step, run, start}
 use Rattle.p21_tree.proofs.Complete.{state}
-use Rattle.p21_tree.proofs.Sound.{Says, class_says, InMode, Reads}
+use Rattle.p21_tree.proofs.Sound.{InMode}
 
 -- one more may be opened
 abbrev pub raise : State → State

@@ -1,23 +1,23 @@
 -- What was read of a source, said of the file.
-use Rattle.std.proofs.Common.{◌≡◌, ◌⊎◌, inl, inr, ℕ, suc, ◌+◌, List, [], ◌∷◌, ◌++◌, refl, sym, ap, subst, ◌∙◌, append_assoc, zero-add}
+use Rattle.std.proofs.Common.{◌≡◌, inl, inr, ℕ, ◌+◌, List, [], ◌∷◌, ◌++◌, refl, sym, ap, subst, ◌∙◌, append_assoc, zero-add}
 use Rattle.p21_text.specs.Spelling.{Symbol}
 use Rattle.p21_text.specs.Spelling as token
-use Rattle.p21_text.specs.Tokens.{Placed, First, Tokens, TokensUpTo, IsLast}
+use Rattle.p21_text.specs.Tokens.{Placed, First, Tokens, TokensUpTo}
 use Rattle.p21_tree.specs.declared.source.Source.{Source}
 use Rattle.p21_tree.specs.declared.pieces.Piece.{Piece}
 use Rattle.p21_tree.specs.declared.faults.Fault.{Fault}
-use Rattle.p21_tree.specs.Sentence.{Instance, Opening, File, IsInstance, IsInstances, IsPreface, IsTail, IsPiece, IsFile, deepest, endsec_word}
-use Rattle.p21_tree.specs.Fault.{Kind, Begins, IsFault, files, prefaces, pieces, tails}
+use Rattle.p21_tree.specs.Sentence.{Instance, Opening, IsInstance, IsPreface, IsTail, IsPiece, IsFile, deepest, endsec_word}
+use Rattle.p21_tree.specs.Fault.{Kind, IsFault, files, prefaces, pieces, tails}
 use Rattle.p21_tree.specs.Texts.{shift, shifted, fault_kind, IsFileText, BeginsPreface, HasTail, IsPieceText, HasFault, HasPieceFault, HasPrefaceFault}
-use Rattle.p21_tree.specs.Languages.{Language, Just, Then, Stuck, kind_now}
-use Rattle.p21_tree.specs.Parts.{Is, Sign, NameToken, EqualsOn, Instances, IsBehindName, TailOn, Tails, IsBehindEndsec, Bodies, IsBody, Prefaces, Files, Pieces}
-use Rattle.p21_tree.specs.Progress.{Chain, Covers, Finishes, Fails}
+use Rattle.p21_tree.specs.Languages.{Language, Stuck, kind_now}
+use Rattle.p21_tree.specs.Parts.{Sign, NameToken, EqualsOn, Instances, IsBehindName, TailOn, Tails, IsBehindEndsec, Bodies, IsBody, Prefaces, Files, Pieces}
+use Rattle.p21_tree.specs.Progress.{Covers, Finishes, Fails}
 use Rattle.p21_tree.proofs.LanguageLemmas.{Inhabited, Starts, fronts, stuck_same, stuck_first, stuck_now}
 use Rattle.p21_tree.proofs.Combined.{stuck_is_fault, starts_then, some_then}
 use Rattle.p21_tree.proofs.PartLemmas.{some_sign, some_bodies, some_instances, starts_instances, once_instances, once_prefaces, grows_instances, grows_prefaces}
 use Rattle.p21_tree.proofs.Sentences.{instance_into, preface_into, preface_back, tail_into, tail_back, file_into, file_back, piece_into, piece_back}
-use Rattle.p21_tree.proofs.ProgressLemmas.{chain_one, chain_then, fails_map, fails_now, fails_first, fails_second}
-use Rattle.p21_tree.proofs.DataLemmas.{keyword_goes, after_sign, chain_sign, finishes_behind, finishes_end, fails_instance, covers_named, finishes_tail}
+use Rattle.p21_tree.proofs.ProgressLemmas.{fails_map, fails_now, fails_first, fails_second}
+use Rattle.p21_tree.proofs.DataLemmas.{keyword_goes, after_sign, finishes_behind, finishes_end, fails_instance, covers_named, finishes_tail}
 
 pub shift_zero : (t : Placed) → shift 0 t ≡ t
 shift_zero t = ap (λ x. record { start = x; after = 0 + t.after; token = t.token }) (zero-add t.start) ∙ ap (λ x. record { start = t.start; after = x; token = t.token }) (zero-add t.after)

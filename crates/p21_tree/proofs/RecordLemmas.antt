@@ -1,5 +1,5 @@
 -- Reading records.
-use Rattle.std.proofs.Common.{◌≡◌, ◌≢◌, ◌⊎◌, inl, inr, ℕ, suc, ◌+◌, Option, Some, None, Bool, true, false, List, [], ◌∷◌, ◌++◌, map, refl, sym, ap, subst, ◌∙◌, append_assoc, append-nil}
+use Rattle.std.proofs.Common.{◌≡◌, ◌≢◌, inl, inr, ℕ, suc, ◌+◌, Some, None, true, false, List, [], ◌∷◌, ◌++◌, map, refl, sym, ap, subst, ◌∙◌, append_assoc}
 use Rattle.p21_text.specs.Spelling.{Symbol, symbol}
 use Rattle.p21_text.specs.declared.token.Token.{Token}
 use Rattle.p21_text.specs.declared.token.Token.TheVariants as variants
@@ -16,16 +16,16 @@ use Rattle.p21_tree.specs.Sentence.{IsRecords, IsInstance}
 use Rattle.p21_tree.specs.Sentence as sentence
 use Rattle.p21_tree.specs.Views.{plain_record}
 use Rattle.p21_tree.specs.Fault.{Kind}
-use Rattle.p21_tree.specs.Texts.{shift, shifted, fault_kind}
-use Rattle.p21_tree.specs.Languages.{Just, Then, Either, Within, Many, Stuck, kind_now}
-use Rattle.p21_tree.specs.Parts.{Is, Sign, KeyToken, IsArguments, Arguments, Keyed, IsKeyed, Records, MoreRecords, SomeRecords, IsSomeRecords, Complex, Form, IsForm, IsFormOf}
-use Rattle.p21_tree.specs.Progress.{Chain, Covers, Fails}
+use Rattle.p21_tree.specs.Texts.{shift, fault_kind}
+use Rattle.p21_tree.specs.Languages.{Just, Then, Stuck, kind_now}
+use Rattle.p21_tree.specs.Parts.{Is, Sign, KeyToken, IsArguments, Arguments, IsKeyed, Records, MoreRecords, SomeRecords, IsSomeRecords, Complex, Form, IsForm, IsFormOf}
+use Rattle.p21_tree.specs.Progress.{Covers, Fails}
 use Rattle.p21_tree.specs.Keywords.{keyword_in}
-use Rattle.p21_tree.proofs.LanguageLemmas.{stuck_first, stuck_second, stuck_within, stuck_now}
+use Rattle.p21_tree.proofs.LanguageLemmas.{stuck_second, stuck_within, stuck_now}
 use Rattle.p21_tree.proofs.Combined.{stuck_left, stuck_right, grows_just, once_just}
 use Rattle.p21_tree.proofs.PartLemmas.{some_records, some_more, some_form, some_sign, starts_keyed, starts_complex, starts_more, starts_form, starts_sign, once_keyed, grows_keyed, key_not, FormToken, MoreToken}
 use Rattle.p21_tree.proofs.Sentences.{sign, more_into, record_made, record_into}
-use Rattle.p21_tree.proofs.ProgressLemmas.{chain_one, chain_then, fails_map, fails_behind, fails_now, fails_second, fails_after, fails_within, fails_first, stuck_item, fails_again}
+use Rattle.p21_tree.proofs.ProgressLemmas.{chain_one, chain_then, fails_behind, fails_now, fails_second, fails_after, fails_within, stuck_item, fails_again}
 
 -- the keyword
 

@@ -1,5 +1,5 @@
 -- How the machine goes over tokens: what it did at the front of a list it does at the front of a longer one.
-use Rattle.std.proofs.Common.{◌≡◌, ℕ, List, [], ◌∷◌, ◌++◌, refl, sym, ap, ◌∙◌}
+use Rattle.std.proofs.Common.{◌≡◌, List, [], ◌∷◌, ◌++◌, refl, ap, ◌∙◌}
 use Rattle.p21_text.specs.Spelling.{Symbol}
 use Rattle.p21_tree.specs.Tree.{Trees}
 use Rattle.p21_tree.specs.Machine.{State, Step, Answer, go, closed, refused, deep, going, ended, fault, next, step, run}

@@ -1,5 +1,5 @@
 -- The parts as languages are the parts of the grammar.
-use Rattle.std.proofs.Common.{◌≡◌, ◌≢◌, ◌⊎◌, inl, inr, ℕ, suc, Bool, true, false, List, [], ◌∷◌, ◌++◌, refl, sym, ap, subst, ◌∙◌, append_assoc, append-nil, arith}
+use Rattle.std.proofs.Common.{◌≡◌, ◌≢◌, inl, inr, ℕ, suc, true, false, List, [], ◌∷◌, ◌++◌, refl, sym, ap, subst, ◌∙◌, append_assoc}
 use Rattle.p21_text.specs.Spelling.{Symbol}
 use Rattle.p21_text.specs.Spelling as token
 use Rattle.p21_text.specs.Tokens.{Placed, symbols}
@@ -8,9 +8,9 @@ use Rattle.p21_tree.specs.Grammar.{Entry, IsKey, IsOptional, IsRecord}
 use Rattle.p21_tree.specs.Grammar as grammar
 use Rattle.p21_tree.specs.Sentence.{Instance, Opening, File, IsEntities, IsRecords, IsInstance, IsInstances, IsPreface, IsTail, IsPiece, IsFile, BeginsWithNo, header_word, endsec_word, data_word}
 use Rattle.p21_tree.specs.Sentence as sentence
-use Rattle.p21_tree.specs.Fault.{files, prefaces, pieces, tails}
-use Rattle.p21_tree.specs.Languages.{Just, Then, Either, Within, Many, stop, again}
-use Rattle.p21_tree.specs.Parts.{IsClosed, Closed, Is, Sign, KeyToken, EntityKey, Arguments, Keyed, Records, MoreRecords, SomeRecords, Complex, Form, NameToken, FormOn, EqualsOn, Instances, EntityRecords, Entities, DataOn, EndsecOn, HeaderEnd, HeaderRest, HeaderOn, Headers, IsoOn, Prefaces, EndIsoOn, EndIsos, TailOn, Tails, Bodies, Files, Pieces}
+use Rattle.p21_tree.specs.Fault.{files, pieces}
+use Rattle.p21_tree.specs.Languages.{stop, again}
+use Rattle.p21_tree.specs.Parts.{IsClosed, Sign, KeyToken, EntityKey, Keyed, Records, MoreRecords, SomeRecords, Complex, Form, Instances, EntityRecords, Entities, HeaderEnd, HeaderRest, Prefaces, Tails, Bodies, Files, Pieces}
 
 pub sign : (s : Symbol) (l : ℕ) (t : Placed) → t.token ≡ s → Sign s l (t ∷ [])
 sign s l t e = record { token = t; alone = refl; fits = e }

@@ -1,5 +1,5 @@
 -- The tokens that the grammar names, found by the code.
-use Rattle.std.proofs.Common.{◌≡◌, ◌≢◌, ℕ, Bool, true, false, Option, Some, None, List, refl, sym, ap, subst, ◌∙◌}
+use Rattle.std.proofs.Common.{◌≡◌, ℕ, Bool, true, false, Option, Some, None, List, refl, ap, ◌∙◌}
 use Rattle.std.specs.Str.{bytes_eq}
 use Rattle.std.specs.Prelude.{if◌then◌else◌}
 use Rattle.std.proofs.lemmas.Slice.Eq.{bytes_eq-Decides}
@@ -8,7 +8,7 @@ use Rattle.p21_text.specs.Spelling as token
 use Rattle.p21_tree.specs.declared.signs.Sign.{Sign}
 use Rattle.p21_tree.specs.declared.signs.Sign.TheVariants as variants
 use Rattle.p21_tree.specs.Sentence.{header_word, endsec_word, data_word}
-use Rattle.p21_tree.specs.Signs.{sign_of, sign_in, keyword_sign_in}
+use Rattle.p21_tree.specs.Signs.{sign_of, sign_in}
 
 -- the sign that three tests give
 abbrev pub by_tests : Bool → Bool → Bool → Option Sign

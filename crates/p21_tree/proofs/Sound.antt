@@ -2,8 +2,7 @@
 use Rattle.std.proofs.Common.{◌≡◌, ℕ, suc, zero, List, [], ◌∷◌, ◌++◌, refl, sym, ap, subst, ◌∙◌, append_assoc, append-nil}
 use Rattle.p21_text.specs.Spelling.{Symbol}
 use Rattle.p21_text.specs.Spelling as token
-use Rattle.p21_tree.specs.Tree.{Tree, Trees, nil, cons, trees_concat, trees_append}
-use Rattle.p21_tree.specs.Tree as tree
+use Rattle.p21_tree.specs.Tree.{Tree, Trees, nil, cons, trees_append}
 use Rattle.p21_tree.specs.Grammar.{IsLeaf, IsKey, IsParam, IsOptional, IsParams}
 use Rattle.p21_tree.specs.Grammar as grammar
 use Rattle.p21_tree.specs.Parts.{IsClosed}

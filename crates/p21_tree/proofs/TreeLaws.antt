@@ -1,14 +1,13 @@
 -- A list of tokens has one tree at most.
-use Rattle.std.proofs.Common.{◌≡◌, ◌≢◌, ◌⊎◌, inl, inr, ℕ, suc, Bool, true, false, List, [], ◌∷◌, ◌++◌, refl, sym, ap, subst, ◌∙◌, append_assoc, append-nil}
+use Rattle.std.proofs.Common.{◌≡◌, ◌⊎◌, inl, inr, ℕ, true, false, List, [], ◌∷◌, ◌++◌, refl, sym, ap, subst, ◌∙◌, append_assoc, append-nil}
 use Rattle.p21_text.specs.Spelling.{Symbol}
 use Rattle.p21_text.specs.Spelling as token
 use Rattle.p21_text.specs.Tokens.{Placed, symbols}
-use Rattle.p21_tree.specs.Tree.{Trees}
 use Rattle.p21_tree.specs.Grammar.{Entry, IsKey, IsRecord}
 use Rattle.p21_tree.specs.Grammar as grammar
 use Rattle.p21_tree.specs.Sentence.{Instance, Opening, File, IsEntities, IsRecords, IsInstance, IsInstances, IsPreface, IsTail, IsPiece, IsFile, deepest, header_word, endsec_word, data_word}
 use Rattle.p21_tree.specs.Sentence as sentence
-use Rattle.p21_tree.specs.Parts.{IsClosed, KeyToken, EntityKey}
+use Rattle.p21_tree.specs.Parts.{KeyToken}
 use Rattle.p21_tree.specs.Laws.{HasOneTree}
 use Rattle.p21_tree.proofs.LanguageLemmas.{cancel}
 use Rattle.p21_tree.proofs.ParamFaults.{closed_both}
@@ -27,7 +26,7 @@ record_once l m ts d e p q =
     let keys : a.key ≡ b.key = (let f : a.key ∷ token.lparen ∷ (a.tokens ++ token.rparen ∷ []) ≡ b.key ∷ token.lparen ∷ (b.tokens ++ token.rparen ∷ []) = sym a.spelled ∙ b.spelled in cc) in
     let rests : a.tokens ++ token.rparen ∷ [] ≡ b.tokens ++ token.rparen ∷ [] = (let f : a.key ∷ token.lparen ∷ (a.tokens ++ token.rparen ∷ []) ≡ b.key ∷ token.lparen ∷ (b.tokens ++ token.rparen ∷ []) = sym a.spelled ∙ b.spelled in cc) in
     let c : (x.others ≡ x.others) × (d.params ≡ e.params) = closed_both a.left b.left x.others x.others [] [] d.params e.params
-        (record { inner = a.tokens; parts = x.behind; params = a.params }) (record { inner = b.tokens; parts = x.behind ∙ rests; params = b.params }) refl in
+    (record { inner = a.tokens; parts = x.behind; params = a.params }) (record { inner = b.tokens; parts = x.behind ∙ rests; params = b.params }) refl in
     let k : d.keyword ≡ e.keyword = keys_agree (subst (λ s. IsKey s d.keyword) keys a.is_key) b.is_key in
     ap (λ z. record { keyword = z; params = d.params }) k ∙ ap (λ z. record { keyword = e.keyword; params = z }) c.1
 
@@ -159,8 +158,8 @@ header_once a c es fs e g x y (sentence.more us s {rest} {e = d} r n k is) sente
 header_once a c es fs e g x y (sentence.more us s {rest} {e = d} {es = others} r n k is) (sentence.more vs t {rest = rest'} {e = f} {es = others'} u o w js) p q h =
     let i : (us ++ s ∷ []) ++ (rest ++ e ∷ x) ≡ (vs ++ t ∷ []) ++ (rest' ++ g ∷ y) = append_assoc us (s ∷ []) (rest ++ e ∷ x) ∙ (sym (append_assoc us (s ∷ rest) (e ∷ x)) ∙ (h ∙ (append_assoc vs (t ∷ rest') (g ∷ y) ∙ sym (append_assoc vs (t ∷ []) (rest' ++ g ∷ y))))) in
     let j : us ++ s ∷ [] ≡ vs ++ t ∷ [] = once_entities deepest deepest (us ++ s ∷ []) (vs ++ t ∷ []) (rest ++ e ∷ x) (rest' ++ g ∷ y)
-        (record { front = us; back = s ∷ []; parts = refl; first = entity_into deepest us d r n; second = sign token.semi deepest s k })
-        (record { front = vs; back = t ∷ []; parts = refl; first = entity_into deepest vs f u o; second = sign token.semi deepest t w }) i in
+    (record { front = us; back = s ∷ []; parts = refl; first = entity_into deepest us d r n; second = sign token.semi deepest s k })
+    (record { front = vs; back = t ∷ []; parts = refl; first = entity_into deepest vs f u o; second = sign token.semi deepest t w }) i in
     let b : rest ++ e ∷ x ≡ rest' ++ g ∷ y = cancel (us ++ s ∷ []) (rest ++ e ∷ x) (rest' ++ g ∷ y) (i ∙ ap (λ z. z ++ (rest' ++ g ∷ y)) (sym j)) in
     let v : us ≡ vs = (snoc_same us vs s t j).0 in
     let z : (others ≡ others') × (e ∷ x ≡ g ∷ y) = header_once rest rest' others others' e g x y is js p q b in

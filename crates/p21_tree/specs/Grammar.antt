@@ -1,5 +1,5 @@
 -- The grammar of parameters, records and instances, as a relation between tokens and trees.
-use Rattle.std.specs.Prelude.{◌≡◌, ℕ, suc, List, [], ◌∷◌, ◌++◌}
+use Rattle.std.specs.Prelude.{ℕ, suc, List, [], ◌∷◌, ◌++◌}
 use Rattle.p21_text.specs.Spelling.{Symbol}
 use Rattle.p21_text.specs.Spelling as token
 use Rattle.p21_tree.specs.Tree.{Tree, Trees, nil, cons}

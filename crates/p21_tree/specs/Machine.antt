@@ -1,10 +1,9 @@
 -- One token at a time: what stands open, and what is expected next.
-use Rattle.std.specs.Prelude.{◌≡◌, ℕ, zero, suc, Bool, true, false, List, [], ◌∷◌, ◌++◌}
+use Rattle.std.specs.Prelude.{ℕ, zero, suc, List, [], ◌∷◌}
 use Rattle.p21_text.specs.Spelling.{Symbol}
 use Rattle.p21_text.specs.Spelling as token
 use Rattle.p21_tree.specs.Tree.{Tree, Trees, nil, trees_append}
 use Rattle.p21_tree.specs.Tree as tree
-use Rattle.p21_tree.specs.Grammar.{IsLeaf, IsKey}
 
 -- what a token may do in a parameter
 pub data Class : Type 0 where

@@ -1,5 +1,5 @@
 -- What stands open in the code, as a state of the machine.
-use Rattle.std.specs.Prelude.{ℕ, Bool, true, false, List, [], ◌∷◌}
+use Rattle.std.specs.Prelude.{Bool, true, false, List, [], ◌∷◌}
 use Rattle.p21_tree.specs.declared.nest.Frame.{Frame}
 use Rattle.p21_tree.specs.declared.nest.Frame.TheVariants as frame
 use Rattle.p21_tree.specs.declared.nest.Nest.{Nest}

@@ -1,5 +1,5 @@
 -- What is compared of a parameter: its vectors by their elements, its texts by their bytes.
-use Rattle.std.specs.Prelude.{ℕ, List, [], ◌∷◌, map}
+use Rattle.std.specs.Prelude.{List, [], ◌∷◌, map}
 use Rattle.p21_tree.specs.Tree.{Tree, Trees, absent, derived, int, real, str, enumeration, binary, reference, items, typed, nil, cons}
 use Rattle.p21_tree.specs.declared.params.Param.{Param, fold-Param, Param-F}
 use Rattle.p21_tree.specs.declared.params.Param.TheOpen as level

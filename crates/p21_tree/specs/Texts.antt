@@ -1,12 +1,12 @@
 -- What the tokens of a text are: a file, a preface, a piece, a tail, or a fault.
-use Rattle.std.specs.Prelude.{◌≡◌, ℕ, ◌+◌, List, [], ◌∷◌, ◌++◌, map}
+use Rattle.std.specs.Prelude.{◌≡◌, ℕ, ◌+◌, List, ◌∷◌, ◌++◌, map}
 use Rattle.p21_text.specs.Tokens.{Placed, First, Tokens, TokensUpTo}
 use Rattle.p21_tree.specs.declared.faults.Fault.{Fault}
 use Rattle.p21_tree.specs.declared.faults.FaultKind.{FaultKind}
 use Rattle.p21_tree.specs.declared.faults.FaultKind.TheVariants as variants
 use Rattle.p21_tree.specs.declared.pieces.Piece.{Piece}
 use Rattle.p21_tree.specs.Sentence.{Instance, Opening, IsFile, IsPreface, IsPiece, IsTail, deepest}
-use Rattle.p21_tree.specs.Fault.{Kind, bad_token, unexpected, truncated, too_deep, IsFault, files, prefaces, pieces, tails}
+use Rattle.p21_tree.specs.Fault.{Kind, bad_token, unexpected, truncated, too_deep, IsFault, files, prefaces, pieces}
 
 -- the kind of a grammar fault, as the code names it
 abbrev pub fault_kind : Kind → FaultKind

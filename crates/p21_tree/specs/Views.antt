@@ -1,6 +1,6 @@
 -- What is compared of records, instances and prefaces: their vectors by their elements, their texts by their
 -- bytes.
-use Rattle.std.specs.Prelude.{List, map}
+use Rattle.std.specs.Prelude.{map}
 use Rattle.p21_tree.specs.declared.instances.Record.{Record}
 use Rattle.p21_tree.specs.declared.instances.RawInstance.{RawInstance}
 use Rattle.p21_tree.specs.declared.headers.HeaderEntity.{HeaderEntity}

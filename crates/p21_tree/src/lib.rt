@@ -26,7 +26,7 @@ mod tokens;
 pub use faults::{Fault, FaultKind, TreeError};
 pub use headers::{HeaderEntity, Preface};
 pub use instances::{RawInstance, Record};
-pub use laws::{one_fault_at_most, one_tree};
+pub use laws::{one_answer, one_fault_at_most, one_tree};
 pub use params::Param;
 pub use pieces::Piece;
 pub use readers::{read_piece, read_preface, read_tail, read_whole};

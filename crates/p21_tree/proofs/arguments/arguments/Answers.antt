@@ -1,10 +1,8 @@
-use Rattle.std.proofs.Common.{◌≡◌, ℕ, refl, sym, ap, ◌∙◌}
-use Rattle.p21_text.specs.Tokens.{placed, symbols}
-use Rattle.p21_tree.specs.Languages.{Then}
-use Rattle.p21_tree.specs.Parts.{Closed, Arguments, IsClosed, IsArguments, Sign}
+use Rattle.p21_text.specs.Tokens.{placed}
+use Rattle.p21_tree.specs.Parts.{Closed, Arguments, Sign}
 use Rattle.p21_text.specs.Spelling as token
 use Rattle.p21_tree.specs.Plain.{plain_all}
-use Rattle.p21_tree.specs.Progress.{Covers, Fails}
+use Rattle.p21_tree.specs.Progress.{Fails}
 use Rattle.p21_tree.proofs.ProgressLemmas.{fails_first}
 use Rattle.p21_tree.proofs.PartLemmas.{some_closed}
 use Rattle.p21_tree.proofs.ArgumentLemmas.{covers_arguments, fails_arguments}

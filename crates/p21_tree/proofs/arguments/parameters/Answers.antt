@@ -1,6 +1,6 @@
-use Rattle.std.proofs.Common.{◌≡◌, ◌<◌, ◌≤◌, ℕ, ◌-◌, length, refl, sym, ap, ◌∙◌, arith}
+use Rattle.std.proofs.Common.{◌≡◌, ◌<◌, refl, sym, ap, ◌∙◌, arith}
 use Rattle.p21_text.specs.Spelling.{symbol}
-use Rattle.p21_text.specs.Tokens.{placed, IsLast}
+use Rattle.p21_text.specs.Tokens.{placed}
 use Rattle.p21_tree.specs.Plain.{plain_all}
 use Rattle.p21_tree.specs.Machine.{step, go, closed, refused, deep}
 use Rattle.p21_tree.specs.Opened.{state_of, step_of}

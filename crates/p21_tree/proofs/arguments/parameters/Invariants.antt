@@ -1,4 +1,4 @@
-use Rattle.std.proofs.Common.{ℕ, ◌≡◌, ◌-◌, ◌≤◌, length}
+use Rattle.std.proofs.Common.{◌-◌, ◌≤◌, length}
 use Rattle.p21_tree.specs.Opened.{state_of}
 use Rattle.p21_tree.specs.Progress.{Covers}
 use Rattle.p21_tree.proofs.ArgumentLemmas.{Leads}

@@ -1,7 +1,6 @@
-use Rattle.std.proofs.Common.{◌≡◌, ℕ, refl, sym, ap, ◌∙◌}
+use Rattle.std.proofs.Common.{ℕ}
 use Rattle.p21_text.specs.Spelling as token
 use Rattle.p21_text.specs.Tokens.{placed}
-use Rattle.p21_tree.specs.declared.faults.Fault.{Fault}
 use Rattle.p21_tree.specs.Parts.{Sign, EndIsos, TailOn}
 use Rattle.p21_tree.specs.Progress.{Fails}
 use Rattle.p21_tree.proofs.PartLemmas.{some_end_isos}

@@ -1,7 +1,6 @@
 use Rattle.std.proofs.Common.{◌≡◌, ℕ, true, false, refl}
 use Rattle.std.proofs.lemmas.Result.{IfErr-weaker}
 use Rattle.p21_text.specs.Tokens.{placed}
-use Rattle.p21_tree.specs.declared.faults.Fault.{Fault}
 use Rattle.p21_tree.specs.Sentence.{IsTail}
 use Rattle.p21_tree.specs.Parts.{TailOn, Bodies, IsBehindEndsec}
 use Rattle.p21_tree.specs.Progress.{Finishes, Fails}

@@ -1,4 +1,4 @@
-use Rattle.std.proofs.Common.{◌≡◌, ◌+◌, map, refl, sym, ap, ◌∙◌}
+use Rattle.std.proofs.Common.{◌+◌, map}
 use Rattle.p21_text.specs.Spelling as token
 use Rattle.p21_text.specs.Tokens.{placed}
 use Rattle.p21_tree.specs.Views.{plain_record}

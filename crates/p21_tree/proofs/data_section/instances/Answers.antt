@@ -1,8 +1,7 @@
-use Rattle.std.proofs.Common.{◌≡◌, ◌<◌, ◌++◌, ◌∷◌, [], ℕ, length, map, refl, sym, ap, ◌∙◌, arith}
+use Rattle.std.proofs.Common.{◌<◌, ap, arith}
 use Rattle.p21_text.specs.Spelling.{symbol}
 use Rattle.p21_text.specs.Spelling as token
 use Rattle.p21_text.specs.Tokens.{placed}
-use Rattle.p21_tree.specs.Sentence.{IsTail}
 use Rattle.p21_tree.specs.Views.{plain_instance}
 use Rattle.p21_tree.specs.Parts.{EqualsOn, Bodies}
 use Rattle.p21_tree.specs.Progress.{Fails}

@@ -1,14 +1,10 @@
-use Rattle.std.proofs.Common.{◌≡◌, ℕ, map, refl, sym, ap, ◌∙◌}
+use Rattle.std.proofs.Common.{ap}
 use Rattle.p21_text.specs.Spelling.{symbol}
-use Rattle.p21_text.specs.Spelling as token
 use Rattle.p21_text.specs.Tokens.{placed}
-use Rattle.p21_tree.specs.Views.{plain_preface, plain_instance}
-use Rattle.p21_tree.specs.Sentence.{endsec_word}
-use Rattle.p21_tree.specs.Fault.{files, tails}
-use Rattle.p21_tree.specs.Texts.{HasTail, HasFault, HasPieceFault, HasPrefaceFault}
-use Rattle.p21_tree.specs.Parts.{Sign, EqualsOn, TailOn, Tails, IsBehindEndsec, Bodies, Prefaces, Files, Pieces}
-use Rattle.p21_tree.specs.Progress.{Finishes, Fails}
-use Rattle.p21_tree.proofs.ExitLemmas.{exit_fault, exit_error, exit_same, result_ok, result_fault}
+use Rattle.p21_tree.specs.Views.{plain_instance}
+use Rattle.p21_tree.specs.Parts.{EqualsOn, Pieces}
+use Rattle.p21_tree.specs.Progress.{Fails}
+use Rattle.p21_tree.proofs.ExitLemmas.{exit_fault, exit_error}
 use Rattle.p21_tree.proofs.DataLemmas.{is_name}
 use Rattle.p21_tree.proofs.ReaderLemmas.{finishes_piece, fails_no_piece, fails_piece, fails_piece_end}
 use Rattle.p21_tree.proofs.full_texts.single.Goals as goal

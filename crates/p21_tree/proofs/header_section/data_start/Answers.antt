@@ -1,17 +1,11 @@
-use Rattle.std.proofs.Common.{◌≡◌, ◌<◌, ◌+◌, ◌++◌, ◌∷◌, [], ℕ, true, false, length, map, refl, sym, ap, ◌∙◌, arith}
 use Rattle.p21_text.specs.Spelling.{symbol}
 use Rattle.p21_text.specs.Spelling as token
 use Rattle.p21_text.specs.Tokens.{placed}
-use Rattle.p21_tree.specs.Plain.{plain_all}
-use Rattle.p21_tree.specs.Grammar.{IsKey}
-use Rattle.p21_tree.specs.Sentence.{header_word, endsec_word, data_word}
-use Rattle.p21_tree.specs.Keywords.{keyword_in, keyword_view}
-use Rattle.p21_tree.specs.Views.{plain_entity}
-use Rattle.p21_tree.specs.Parts.{Sign, Arguments, EntityRest, DataOn, EndsecOn, HeaderRest, HeaderOn, Headers, IsoOn, Prefaces}
+use Rattle.p21_tree.specs.Parts.{Sign, DataOn, EndsecOn}
 use Rattle.p21_tree.specs.Progress.{Fails}
-use Rattle.p21_tree.proofs.PartLemmas.{some_sign, some_iso_on, some_data_on}
+use Rattle.p21_tree.proofs.PartLemmas.{some_data_on}
 use Rattle.p21_tree.proofs.ProgressLemmas.{fails_first}
-use Rattle.p21_tree.proofs.ExitLemmas.{exit_fault, exit_error, exit_same}
+use Rattle.p21_tree.proofs.ExitLemmas.{exit_same}
 use Rattle.p21_tree.proofs.HeaderLemmas.{start_data, start_last, covers_start}
 use Rattle.p21_tree.proofs.header_section.data_start.Goals as goal
 

@@ -1,17 +1,14 @@
-use Rattle.std.proofs.Common.{◌≡◌, ◌<◌, ◌+◌, ◌++◌, ◌∷◌, [], ℕ, true, false, length, map, refl, sym, ap, ◌∙◌, arith}
+use Rattle.std.proofs.Common.{◌≡◌, ◌<◌, true, false, map, refl, sym, ap, ◌∙◌, arith}
 use Rattle.p21_text.specs.Spelling.{symbol}
 use Rattle.p21_text.specs.Spelling as token
 use Rattle.p21_text.specs.Tokens.{placed}
-use Rattle.p21_tree.specs.Plain.{plain_all}
 use Rattle.p21_tree.specs.Grammar.{IsKey}
-use Rattle.p21_tree.specs.Sentence.{header_word, endsec_word, data_word}
-use Rattle.p21_tree.specs.Keywords.{keyword_in, keyword_view}
+use Rattle.p21_tree.specs.Sentence.{endsec_word}
+use Rattle.p21_tree.specs.Keywords.{keyword_view}
 use Rattle.p21_tree.specs.Views.{plain_entity}
-use Rattle.p21_tree.specs.Parts.{Sign, Arguments, EntityRest, DataOn, EndsecOn, HeaderRest, HeaderOn, Headers, IsoOn, Prefaces}
+use Rattle.p21_tree.specs.Parts.{EntityRest, HeaderRest}
 use Rattle.p21_tree.specs.Progress.{Fails}
-use Rattle.p21_tree.proofs.PartLemmas.{some_sign, some_iso_on, some_data_on}
-use Rattle.p21_tree.proofs.ProgressLemmas.{fails_first}
-use Rattle.p21_tree.proofs.ExitLemmas.{exit_fault, exit_error, exit_same}
+use Rattle.p21_tree.proofs.ExitLemmas.{exit_error}
 use Rattle.p21_tree.proofs.RecordLemmas.{keyword_is, no_keyword, key_not_last}
 use Rattle.p21_tree.proofs.HeaderLemmas.{covers_no_entity, covers_next_entity, covers_one_entity, covers_header, fails_one_entity, fails_no_entity, fails_header_end, faults_next_entity}
 use Rattle.p21_tree.proofs.header_section.entities.Goals as goal

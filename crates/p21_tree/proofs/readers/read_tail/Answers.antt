@@ -1,14 +1,13 @@
-use Rattle.std.proofs.Common.{◌≡◌, ℕ, map, refl, sym, ap, ◌∙◌}
+use Rattle.std.proofs.Common.{ℕ, refl}
 use Rattle.p21_text.specs.Spelling.{symbol}
 use Rattle.p21_text.specs.Spelling as token
 use Rattle.p21_text.specs.Tokens.{placed}
-use Rattle.p21_tree.specs.Views.{plain_preface, plain_instance}
 use Rattle.p21_tree.specs.Sentence.{endsec_word}
-use Rattle.p21_tree.specs.Fault.{files, tails}
-use Rattle.p21_tree.specs.Texts.{HasTail, HasFault, HasPieceFault, HasPrefaceFault}
-use Rattle.p21_tree.specs.Parts.{Sign, EqualsOn, TailOn, Tails, IsBehindEndsec, Bodies, Prefaces}
+use Rattle.p21_tree.specs.Fault.{tails}
+use Rattle.p21_tree.specs.Texts.{HasTail, HasFault}
+use Rattle.p21_tree.specs.Parts.{Sign, TailOn, IsBehindEndsec}
 use Rattle.p21_tree.specs.Progress.{Finishes, Fails}
-use Rattle.p21_tree.proofs.ExitLemmas.{exit_fault, exit_error, exit_same, result_ok}
+use Rattle.p21_tree.proofs.ExitLemmas.{exit_same, result_ok}
 use Rattle.std.proofs.lemmas.Result.{IfErr-weaker}
 use Rattle.p21_tree.proofs.PartLemmas.{some_tail_on}
 use Rattle.p21_tree.proofs.ProgressLemmas.{fails_first}

@@ -1,4 +1,3 @@
-use Rattle.std.proofs.Common.{ℕ}
 use Rattle.p21_tree.specs.Plain.{plain_all}
 use Rattle.p21_tree.specs.Parts.{Arguments}
 use Rattle.p21_tree.specs.Progress.{Fails}

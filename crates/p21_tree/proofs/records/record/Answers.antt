@@ -1,8 +1,8 @@
-use Rattle.std.proofs.Common.{◌≡◌, Some, None, sym, ap, ◌∙◌}
+use Rattle.std.proofs.Common.{sym, ap, ◌∙◌}
 use Rattle.p21_text.specs.Spelling.{symbol}
 use Rattle.p21_text.specs.Tokens.{placed}
 use Rattle.p21_tree.specs.Grammar.{IsKey}
-use Rattle.p21_tree.specs.Keywords.{keyword_in, keyword_view}
+use Rattle.p21_tree.specs.Keywords.{keyword_view}
 use Rattle.p21_tree.specs.Views.{plain_record}
 use Rattle.p21_tree.specs.Parts.{Arguments, Records}
 use Rattle.p21_tree.specs.Progress.{Fails}

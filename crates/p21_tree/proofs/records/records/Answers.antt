@@ -1,9 +1,8 @@
-use Rattle.std.proofs.Common.{◌≡◌, ◌≢◌, ◌<◌, ◌≤◌, ◌++◌, ◌∷◌, [], Some, None, length, map, vec_len, sym, ap, ◌∙◌, arith, rules}
+use Rattle.std.proofs.Common.{◌≡◌, ◌<◌, ◌++◌, ◌∷◌, [], map, sym, ap, ◌∙◌, arith}
 use Rattle.p21_text.specs.Spelling.{symbol}
-use Rattle.p21_text.specs.Spelling as token
-use Rattle.p21_text.specs.Tokens.{placed, IsLast}
+use Rattle.p21_text.specs.Tokens.{placed}
 use Rattle.p21_tree.specs.Grammar.{IsKey}
-use Rattle.p21_tree.specs.Keywords.{keyword_in, keyword_view}
+use Rattle.p21_tree.specs.Keywords.{keyword_view}
 use Rattle.p21_tree.specs.Views.{plain_record}
 use Rattle.p21_tree.specs.Parts.{Arguments, Records, MoreRecords, SomeRecords}
 use Rattle.p21_tree.specs.Progress.{Fails}

@@ -1,4 +1,4 @@
-use Rattle.std.proofs.Common.{ℕ, ◌≡◌, ◌-◌, ◌≤◌, ◌<◌, length, map, vec_len}
+use Rattle.std.proofs.Common.{◌-◌, ◌≤◌, ◌<◌, length, map, vec_len}
 use Rattle.p21_tree.specs.declared.faults.Fault.{Fault}
 use Rattle.p21_tree.specs.Sentence.{IsRecords}
 use Rattle.p21_tree.specs.Views.{plain_record}

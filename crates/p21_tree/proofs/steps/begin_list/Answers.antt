@@ -1,8 +1,8 @@
-use Rattle.std.proofs.Common.{◌≡◌, ℕ, ◌+◌, ◌-◌, List, [], ◌∷◌, ◌++◌, length, Some, None, slice_get, true, false, refl, sym, ap, ◌∙◌, subst, arith, rules}
-use Rattle.p21_tree.specs.Plain.{plain, plain_all}
+use Rattle.std.proofs.Common.{◌≡◌, [], refl, ap, ◌∙◌}
+use Rattle.p21_tree.specs.Plain.{plain_all}
 use Rattle.p21_tree.specs.Tree.{nil}
-use Rattle.p21_tree.specs.Machine.{base, list, typed}
-use Rattle.p21_tree.specs.Opened.{stack_of, opened, opened_all, is_typed}
+use Rattle.p21_tree.specs.Machine.{base, list}
+use Rattle.p21_tree.specs.Opened.{stack_of, opened_all}
 use Rattle.p21_tree.specs.declared.nest.Frame.TheVariants as frame
 use Rattle.p21_tree.proofs.OpenedLemmas.{begin_open, popped_list}
 use Rattle.p21_tree.proofs.steps.begin_list.Goals as goal

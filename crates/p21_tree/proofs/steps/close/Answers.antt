@@ -1,9 +1,8 @@
-use Rattle.std.proofs.Common.{◌≡◌, ℕ, ◌+◌, ◌-◌, List, [], ◌∷◌, ◌++◌, length, Some, None, slice_get, true, false, refl, sym, ap, ◌∙◌, subst, arith, rules}
+use Rattle.std.proofs.Common.{◌≡◌, [], refl, ap, ◌∙◌}
 use Rattle.p21_tree.specs.Plain.{plain, plain_all}
 use Rattle.p21_tree.specs.Tree.{nil}
-use Rattle.p21_tree.specs.Machine.{base, list, typed, closed}
-use Rattle.p21_tree.specs.Opened.{stack_of, opened, opened_all, is_typed}
-use Rattle.p21_tree.specs.declared.nest.Frame.TheVariants as frame
+use Rattle.p21_tree.specs.Machine.{base, closed}
+use Rattle.p21_tree.specs.Opened.{stack_of, opened_all}
 use Rattle.p21_tree.specs.Tree as tree
 use Rattle.p21_tree.specs.declared.params.Param.TheViews.{Items, Typed}
 use Rattle.p21_tree.proofs.OpenedLemmas.{none_of, popped_list, popped_typed, closed_base, closed_list, closed_typed, plain_items, plain_typed}

@@ -1,10 +1,7 @@
-use Rattle.std.proofs.Common.{◌≡◌, ℕ, ◌+◌, ◌-◌, List, [], ◌∷◌, ◌++◌, length, Some, None, slice_get, true, false, refl, sym, ap, ◌∙◌, subst, arith, rules}
-use Rattle.p21_tree.specs.Plain.{plain, plain_all}
-use Rattle.p21_tree.specs.Tree.{nil}
-use Rattle.p21_tree.specs.Machine.{base, list, typed}
-use Rattle.p21_tree.specs.Opened.{stack_of, opened, opened_all, is_typed}
-use Rattle.p21_tree.specs.declared.nest.Frame.TheVariants as frame
-use Rattle.p21_tree.proofs.OpenedLemmas.{popped_typed, popped_list, last_of, none_of}
+use Rattle.std.proofs.Common.{◌≡◌, ◌-◌, length, Some, slice_get, sym, ap, ◌∙◌}
+use Rattle.p21_tree.specs.Plain.{plain_all}
+use Rattle.p21_tree.specs.Opened.{is_typed}
+use Rattle.p21_tree.proofs.OpenedLemmas.{popped_typed, popped_list, last_of}
 use Rattle.p21_tree.proofs.steps.in_typed.Goals as goal
 
 pub returns-in-Some-Typed : goal.returns-in-Some-Typed

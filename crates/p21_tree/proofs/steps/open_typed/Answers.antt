@@ -1,8 +1,7 @@
-use Rattle.std.proofs.Common.{◌≡◌, ℕ, ◌+◌, ◌-◌, List, [], ◌∷◌, ◌++◌, length, Some, None, slice_get, true, false, refl, sym, ap, ◌∙◌, subst, arith, rules}
-use Rattle.p21_tree.specs.Plain.{plain, plain_all}
-use Rattle.p21_tree.specs.Tree.{nil}
-use Rattle.p21_tree.specs.Machine.{base, list, typed}
-use Rattle.p21_tree.specs.Opened.{stack_of, opened, opened_all, is_typed}
+use Rattle.std.proofs.Common.{refl}
+use Rattle.p21_tree.specs.Plain.{plain_all}
+use Rattle.p21_tree.specs.Machine.{base}
+use Rattle.p21_tree.specs.Opened.{stack_of, opened_all}
 use Rattle.p21_tree.specs.declared.nest.Frame.TheVariants as frame
 use Rattle.p21_tree.proofs.OpenedLemmas.{open_typed_room, popped_typed}
 use Rattle.p21_tree.proofs.steps.open_typed.Goals as goal

@@ -1,10 +1,5 @@
-use Rattle.std.proofs.Common.{◌≡◌, ℕ, ◌+◌, ◌-◌, List, [], ◌∷◌, ◌++◌, length, Some, None, slice_get, true, false, refl, sym, ap, ◌∙◌, subst, arith, rules}
-use Rattle.p21_tree.specs.Plain.{plain, plain_all}
-use Rattle.p21_tree.specs.Tree.{nil}
-use Rattle.p21_tree.specs.Machine.{base, list, typed}
-use Rattle.p21_tree.specs.Opened.{stack_of, opened, opened_all, is_typed}
-use Rattle.p21_tree.specs.declared.nest.Frame.TheVariants as frame
-use Rattle.p21_tree.proofs.OpenedLemmas.{comma_taken, comma_refused}
+use Rattle.std.proofs.Common.{sym}
+use Rattle.p21_tree.proofs.OpenedLemmas.{comma_taken}
 use Rattle.p21_tree.proofs.steps.separate.Goals as goal
 
 pub returns : goal.returns

@@ -1,8 +1,8 @@
-use Rattle.std.proofs.Common.{◌≡◌, Some, None, true, false, refl, sym, ap, ◌∙◌, rules}
+use Rattle.std.proofs.Common.{◌≡◌, Some, None, sym, ap, ◌∙◌, rules}
 use denote.Enum.Bare.{same_true, true_same}
 use Rattle.p21_text.specs.Spelling.{symbol}
 use Rattle.p21_tree.specs.contracts.signs.Sign.{the_type}
-use Rattle.p21_tree.specs.Signs.{sign_of, sign_in}
+use Rattle.p21_tree.specs.Signs.{sign_in}
 use Rattle.p21_tree.proofs.ProgressLemmas.{sign_is_in}
 use Rattle.p21_tree.proofs.SignLemmas.{sign_says}
 use Rattle.p21_tree.proofs.tokens.is.Goals as goal
