@@ -1,0 +1,14 @@
+pub mod Schema
+pub mod Plain
+pub mod Word
+pub mod Words
+pub mod Keywords
+pub mod Grammar
+pub mod WellFormed
+pub mod Reading
+pub mod Reader
+pub mod Layer
+pub mod Naming
+pub mod Found
+pub mod Lexer
+pub mod Answer

@@ -1,0 +1,55 @@
+//! Why a schema is refused.
+
+ghost use Rattle.std.specs.Prelude.{◌≡◌};
+ghost use Rattle.p21_express.specs.declared.refusal.Refusal.TheVariants.{Memory};
+
+use std::alloc::{AllocError, AllocFailed};
+
+/// What is wrong with a schema.
+#[derive(Clone, Copy, Debug, PartialEq, Eq)]
+pub(crate) enum Kind {
+    Syntax,
+    NotSupported,
+    Repeated,
+    UnknownName,
+    Cycle,
+    BadRedeclaration,
+}
+
+/// Why a schema is refused, while it is read.
+#[derive(Clone, Copy, Debug)]
+pub(crate) enum Refusal {
+    /// What is wrong, and how many words stand from there on.
+    Refused(Kind, usize),
+    Memory,
+}
+
+impl Refusal {
+    pub(crate) fn syntax(words_left: usize) -> Refusal
+        ensures { result ≡ Refusal.Refused Kind.Syntax words_left }
+    {
+        Refusal::Refused(Kind::Syntax, words_left)
+    }
+
+    pub(crate) fn not_supported(words_left: usize) -> Refusal
+        ensures { result ≡ Refusal.Refused Kind.NotSupported words_left }
+    {
+        Refusal::Refused(Kind::NotSupported, words_left)
+    }
+}
+
+impl From<AllocError> for Refusal {
+    ghost from_gives = { λ _ e. e ≡ Memory };
+
+    fn from(_e: AllocError) -> Refusal {
+        Refusal::Memory
+    }
+}
+
+impl<T: Drop> From<AllocFailed<T>> for Refusal {
+    ghost from_gives = { λ _ e. e ≡ Memory };
+
+    fn from(_e: AllocFailed<T>) -> Refusal {
+        Refusal::Memory
+    }
+}
