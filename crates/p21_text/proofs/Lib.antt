@@ -9,6 +9,7 @@ pub mod NameLemmas
 pub mod BinaryLemmas
 pub mod FrontLemmas
 pub mod UniqueLemmas
+pub mod OneStringLemmas
 pub mod Utf8Lemmas
 pub mod ItemShapeLemmas
 pub mod ValueLemmas

@@ -6,7 +6,7 @@ use Rattle.std.specs.Coded.{le_prop}
 use mathlib.Core.Logic.{∥∥₁_elim}
 use Rattle.p21_text.specs.Items
 use Rattle.p21_text.specs.Items.{Item, IsItem, IsItems, ItemsOf, IsBody, BeginsUtf8}
-use Rattle.p21_text.specs.Spelling.{NotBefore, IsUpper}
+use Rattle.p21_text.specs.Spelling.{Symbol, Spells, NotBefore, IsUpper}
 use Rattle.p21_text.specs.Spelling as token
 use Rattle.p21_text.specs.Tokens.{Front}
 use Rattle.p21_text.specs.ItemShapes.{shape}
@@ -87,7 +87,7 @@ shape_fits text h =
     take_fits (shape text) text len)
     (zero_or (shape text))
 
-closes_once : (text : List ℕ) (n m : ℕ) → Closes text n → Closes text m → n ≡ m
+pub closes_once : (text : List ℕ) (n m : ℕ) → Closes text n → Closes text m → n ≡ m
 closes_once text n m (Closing.here z q) (Closing.here z' q') = refl
 closes_once text n m (Closing.here z q) (Closing.later s c e) = absurd (omega arith)
 closes_once text n m (Closing.later s c e) (Closing.here z q) = absurd (omega arith)
@@ -161,7 +161,7 @@ never_there : (text : List ℕ) (size : ℕ) → size ≡ shape text → 0 < siz
 never_there text size e some c = Closing.later (rw (← e) some) (subst (λ k. NeverCloses (drop k text)) e c)
 
 -- a string is spelled only up to where it closes
-spelled_closes : (tail front behind : List ℕ) → 39 ∷ tail ≡ front ++ behind → (s : StringFront front behind)
+pub spelled_closes : (tail front behind : List ℕ) → 39 ∷ tail ≡ front ++ behind → (s : StringFront front behind)
     → (P : Type 0) → IsProp P → (Closes tail (length s.body) → P) → P
 spelled_closes tail front behind e s P prop then =
     let body : List ℕ = s.body in

@@ -26,7 +26,7 @@ by_mark b rest text number =
     cond (eqb b 35) (token.name (decimal_from 0 rest)) (cond (eqb b 39) (token.str (inner rest)) (cond (eqb b 46) (token.enumeration (inner rest)) (cond (eqb b 34) (token.binary (inner rest)) (cond (eqb b 33) (token.user_keyword text) (cond (eqb b 36) token.dollar (cond (eqb b 42) token.star (cond (eqb b 40) token.lparen (cond (eqb b 41) token.rparen (cond (eqb b 44) token.comma (cond (eqb b 61) token.equals (cond (eqb b 59) token.semi number)))))))))))
 
 -- the token that a text spells, if it spells one: by its first byte, and whether it holds a dash or a point
-abbrev symbol_of : List ℕ → Symbol
+abbrev pub symbol_of : List ℕ → Symbol
 symbol_of [] = token.bad
 symbol_of (b ∷ rest) =
     let word = cond (has 45 (b ∷ rest)) (cond (eqb b 73) token.iso token.end_iso) (token.keyword (b ∷ rest)) in
@@ -78,7 +78,7 @@ real_symbol s r =
     (rw point at (number_symbol s (real_first s r)))
 
 -- a spelled text spells what its bytes say
-spelled_is : (s behind : List ℕ) (t : Symbol) → Spells s behind t → t ≡ symbol_of s
+pub spelled_is : (s behind : List ℕ) (t : Symbol) → Spells s behind t → t ≡ symbol_of s
 spelled_is s behind token.iso h = rw h refl
 spelled_is s behind token.end_iso h = rw h refl
 spelled_is s behind (token.keyword n) h = rw (h.0) (name_symbol n h.1)

@@ -105,6 +105,10 @@ IsBinary [] = ⊥
 IsBinary (b ∷ []) = b ≡ 48
 IsBinary (b ∷ c ∷ rest) = (48 ≤ b) × (b ≤ 51) × AllByRecursion (λ h. (v : ℕ) × IsHexDigit h v) (c ∷ rest)
 
+-- a text that is the digits of a binary
+abbrev pub IsBinaryBody : List ℕ → Type 0
+IsBinaryBody digits = ∥ IsBinary digits ∥₁
+
 -- the bits of a binary: four for each further digit, less the first digit
 abbrev pub bits_of : List ℕ → ℕ
 bits_of [] = 0

@@ -2,7 +2,7 @@
 
 ghost use Rattle.std.specs.Prelude.{◌≡◌, ◌∷◌, ◌↔◌, IsTrue};
 ghost use Rattle.std.specs.List.{AllByRecursion};
-ghost use Rattle.p21_text.specs.Spelling.{IsBinary, bits_of, symbol};
+ghost use Rattle.p21_text.specs.Spelling.{IsBinary, IsBinaryBody, bits_of, symbol};
 ghost use Rattle.p21_text.specs.Tokens.{Front};
 ghost use Rattle.p21_text.specs.Runs.{IsHexByte};
 
@@ -13,7 +13,7 @@ use crate::token::Token;
 ///
 /// The first digit says how many bits of the next one are padding.
 pub fn binary_bits(raw: &[u8]) -> u128
-    requires { ∥ IsBinary raw.now ∥₁ }
+    requires { IsBinaryBody raw.now }
     ensures { result ≡ bits_of raw.now }
 {
     4 * (raw.len() as u128 - 1) - u128::from(raw[0] - b'0')

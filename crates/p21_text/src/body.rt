@@ -9,8 +9,7 @@ use crate::meaning::StrItem;
 use crate::str_items::StrItems;
 use std::alloc::{AllocError, Global};
 
-/// The items of a string, whose body `raw` is: what stands between the apostrophes of a string token
-/// (ISO 10303-21, 6.4.3).
+/// The items of a string, whose body `raw` is: what stands between the apostrophes of a string token.
 pub fn items(raw: &[u8]) -> StrItems<'_>
     requires { IsBody raw.now }
     ensures { ItemsOf raw.entry.now (items_left result) }

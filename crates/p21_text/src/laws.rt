@@ -1,8 +1,8 @@
-//! Laws of the definitions: what each function ensures holds of every text. Nobody needs to call one.
+//! Laws of the definitions: what each function ensures holds of every text. A caller calls one to learn its law.
 
-ghost use Rattle.std.specs.Prelude.{◌≡◌, ◌≤◌, List, length};
+ghost use Rattle.std.specs.Prelude.{◌≡◌, ◌≤◌, ℕ, List, length};
 ghost use Rattle.p21_text.specs.Items.{Item, ItemsOf};
-ghost use Rattle.p21_text.specs.Laws.{HasOneFirst, HasOneList};
+ghost use Rattle.p21_text.specs.Laws.{HasOneFirst, HasOneList, HasOneListAtMost, HasOneString};
 
 use crate::next::next_token;
 use crate::token::Token;
@@ -35,4 +35,14 @@ pub fn one_list(text: &[u8], at: usize)
 /// A body has the items of one list at most.
 pub fn items_are_unique(raw: &[u8])
     ensures { (a b : List Item) → ItemsOf raw.now a → ItemsOf raw.now b → a ≡ b }
+{}
+
+/// From one place of a text on there is one list of tokens at most.
+pub fn tokens_are_unique()
+    ensures { (text : List ℕ) → (at : ℕ) → HasOneListAtMost text at }
+{}
+
+/// Where a text begins with a string token, it begins with no other token, and with no longer or shorter one.
+pub fn one_string()
+    ensures { (text : List ℕ) → HasOneString text }
 {}

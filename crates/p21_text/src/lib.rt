@@ -22,7 +22,7 @@ mod word;
 
 pub use binary::binary_bits;
 pub use body::{items, string_items, string_len};
-pub use laws::{items_are_unique, one_first, one_list};
+pub use laws::{items_are_unique, one_first, one_list, one_string, tokens_are_unique};
 pub use meaning::StrItem;
 pub use next::next_token;
 pub use str_items::StrItems;

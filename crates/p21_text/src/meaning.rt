@@ -1,4 +1,4 @@
-//! What the item at the front of a body means: a row of the table of string items (ISO 10303-21, 6.4.3).
+//! What the item at the front of a body means: a row of the table of string items.
 
 ghost use Rattle.std.specs.Prelude.{◌≡◌, ◌<◌, ◌≤◌, [], ◌∷◌, true, slice_index, take, drop, unwrap_or};
 ghost use Rattle.std.specs.Prelude.{ℕ, List};

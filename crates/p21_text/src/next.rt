@@ -13,7 +13,7 @@ use crate::token::Lexed;
 ///
 /// White bytes and comments are passed first. Where several spellings begin there, the longest is the token. At the
 /// end of the text it is `End`; where none begins it is `Bad`, and stands at the first byte that is no separator.
-/// Places are bytes from the text's first byte.
+/// Places are bytes from the text's first byte; `at` is at most the text's length.
 #[inline]
 pub fn next_token(text: &[u8], at: usize) -> Lexed<'_>
     requires { at ≤ length text.now }

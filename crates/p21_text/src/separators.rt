@@ -39,6 +39,8 @@ fn is_white(byte: u8) -> bool
 }
 
 /// The length of the comment that begins with a `/` and goes on with `tail`; one that never ends is none.
+#[cold]
+#[inline(never)]
 fn comment(tail: &[u8]) -> Option<usize>
     ensures { MatchOption result (HasNoUnit (47 ∷ tail.now)) (λ n. UnitIs (47 ∷ tail.now) n) }
 {

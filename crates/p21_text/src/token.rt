@@ -1,6 +1,6 @@
 //! What a token is, and where one stands.
 
-/// A token of the clear text (ISO 10303-21, 6.4 and 7), which borrows its text from the source.
+/// A token of the clear text, which borrows its text from the source.
 #[derive(Clone, Copy, Debug, PartialEq, Eq)]
 pub enum Token<'a> {
     /// `ISO-10303-21`

@@ -1,4 +1,4 @@
-//! The characters of groups of four or eight digits (ISO 10303-21, 6.4.3.3).
+//! The characters of groups of four or eight digits.
 
 ghost use Rattle.std.specs.Prelude.{◌≡◌, ◌≤◌, ◌<◌, ◌^◌, ◌∷◌, ℕ, true, length, take, drop, slice_index};
 ghost use Rattle.p21_text.specs.Meanings.{AreGroups, AreHex, item_of};

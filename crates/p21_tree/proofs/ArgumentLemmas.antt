@@ -20,8 +20,8 @@ use Rattle.p21_tree.specs.Machine.{Stack, Mode, State, base, list, typed, first,
 use Rattle.p21_tree.proofs.ProgressLemmas.{chain_none, chain_one, chain_then, fails_after}
 use Rattle.p21_tree.proofs.ParamFaults.{run_none, run_go, run_closes, stuck_refused, stuck_deep}
 
-pub new_state : (fs : List Frame) (ps : List Param) (left : ℕ) → fs ≡ [] → ps ≡ [] → record { mode = first; stack = opened_all base fs (plain_all ps); room = left } ≡ start left
-new_state fs ps left e f = ap (λ x. record { mode = first; stack = opened_all base x (plain_all ps); room = left }) e ∙ ap (λ x. record { mode = first; stack = base (plain_all x); room = left }) f
+pub new_state : (fs : List Frame) (ps : List Param) (room left : ℕ) → fs ≡ [] → ps ≡ [] → room ≡ left → record { mode = first; stack = opened_all base fs (plain_all ps); room = room } ≡ start left
+new_state fs ps room left e f g = ap (λ x. record { mode = first; stack = opened_all base x (plain_all ps); room = room }) e ∙ (ap (λ x. record { mode = first; stack = base (plain_all x); room = room }) f ∙ ap start g)
 
 -- the tokens so far lead to a state
 abbrev pub Leads : ℕ → State → List Placed → Type 0

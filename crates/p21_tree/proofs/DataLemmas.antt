@@ -15,11 +15,11 @@ use Rattle.p21_tree.specs.Sentence as sentence
 use Rattle.p21_tree.specs.Views.{plain_instance}
 use Rattle.p21_tree.specs.Texts.{shift, shifted, fault_kind}
 use Rattle.p21_tree.specs.Languages.{Just, Then, kind_now}
-use Rattle.p21_tree.specs.Parts.{Is, Sign, Form, IsFormOf, NameToken, FormOn, EqualsOn, Instances, IsBehindName, EndIsoOn, EndIsos, TailOn, Tails, IsBehindEndsec, Bodies, IsBody}
+use Rattle.p21_tree.specs.Parts.{Is, Terminal, Form, IsFormOf, NameToken, FormOn, EqualsOn, Instances, IsBehindName, EndIsoOn, EndIsos, TailOn, Tails, IsBehindEndsec, Bodies, IsBody}
 use Rattle.p21_tree.specs.Progress.{Chain, Covers, Finishes, Fails}
 use Rattle.p21_tree.proofs.LanguageLemmas.{stuck_second, stuck_now}
 use Rattle.p21_tree.proofs.Combined.{grows_just, once_just, Apart}
-use Rattle.p21_tree.proofs.PartLemmas.{BodyToken, some_sign, some_bodies, some_tails, some_end_iso_on, starts_instances, starts_tails, starts_bodies, once_form, once_instances, grows_form, grows_instances}
+use Rattle.p21_tree.proofs.PartLemmas.{BodyToken, some_terminal, some_bodies, some_tails, some_end_iso_on, starts_instances, starts_tails, starts_bodies, once_form, once_instances, grows_form, grows_instances}
 use Rattle.p21_tree.proofs.Sentences.{instance_into}
 use Rattle.p21_tree.proofs.ProgressLemmas.{chain_one, chain_then, shifted_append, fails_behind, fails_now, fails_first, fails_second, fails_after, stuck_item, stuck_stop, fails_again}
 
@@ -47,25 +47,25 @@ pub name_goes : (n : ℕ) → ¬ (IsLast (token.name n))
 name_goes n h = elim h [ ]
 
 -- behind one token that was wanted
-pub after_sign : (w : Symbol) (Q : ℕ → List Placed → Type 0) (l : ℕ) (s : Source) (at : ℕ) (t : Placed) (f : Fault) → ¬ (IsLast w) → First s.text.now at t → t.token ≡ w → Fails Q l s t.after f → Fails (Then (Sign w) Q) l s at f
-after_sign w Q l s at t f g n e h = fails_after (Is w) Q l s at t f n (not_last t.token w e g) e h
+pub after_terminal : (w : Symbol) (Q : ℕ → List Placed → Type 0) (l : ℕ) (s : Source) (at : ℕ) (t : Placed) (f : Fault) → ¬ (IsLast w) → First s.text.now at t → t.token ≡ w → Fails Q l s t.after f → Fails (Then (Terminal w) Q) l s at f
+after_terminal w Q l s at t f g n e h = fails_after (Is w) Q l s at t f n (not_last t.token w e g) e h
 
-pub chain_sign : (w : Symbol) (s : Source) (at : ℕ) (t : Placed) → ¬ (IsLast w) → First s.text.now at t → t.token ≡ w → Chain s at (shift s.base t ∷ []) t.after
-chain_sign w s at t g n e = chain_one s at t n (not_last t.token w e g)
+pub chain_terminal : (w : Symbol) (s : Source) (at : ℕ) (t : Placed) → ¬ (IsLast w) → First s.text.now at t → t.token ≡ w → Chain s at (shift s.base t ∷ []) t.after
+chain_terminal w s at t g n e = chain_one s at t n (not_last t.token w e g)
 
 -- an instance behind its name
 
 module _ (s : Source) (at : ℕ) (equals : Placed) (first : First s.text.now at equals) (is_equals : equals.token ≡ token.equals) where
   pub fails_form : (f : Fault) → Fails Form 64 s equals.after f → Fails EqualsOn 64 s at f
-  fails_form f h = after_sign token.equals FormOn 64 s at equals f equals_goes first is_equals (fails_first Form (Sign token.semi) 64 s equals.after f (some_sign token.semi 64) h)
+  fails_form f h = after_terminal token.equals FormOn 64 s at equals f equals_goes first is_equals (fails_first Form (Terminal token.semi) 64 s equals.after f (some_terminal token.semi 64) h)
 
-  pub fails_semi : (mid : ℕ) (complex : Bool) (rs : List Entry) (f : Fault) → Covers (λ ts. IsFormOf 64 ts complex rs) s equals.after mid → Fails (Sign token.semi) 64 s mid f → Fails EqualsOn 64 s at f
-  fails_semi mid complex rs f c h = after_sign token.equals FormOn 64 s at equals f equals_goes first is_equals (fails_second Form (Sign token.semi) 64 s equals.after mid c.tokens f once_form grows_form c.chain c.are.form h)
+  pub fails_semi : (mid : ℕ) (complex : Bool) (rs : List Entry) (f : Fault) → Covers (λ ts. IsFormOf 64 ts complex rs) s equals.after mid → Fails (Terminal token.semi) 64 s mid f → Fails EqualsOn 64 s at f
+  fails_semi mid complex rs f c h = after_terminal token.equals FormOn 64 s at equals f equals_goes first is_equals (fails_second Form (Terminal token.semi) 64 s equals.after mid c.tokens f once_form grows_form c.chain c.are.form h)
 
   pub covers_instance : (mid name place : ℕ) (complex : Bool) (rs : List Entry) (semi : Placed) → Covers (λ ts. IsFormOf 64 ts complex rs) s equals.after mid → First s.text.now mid semi → semi.token ≡ token.semi → Covers (IsBehindName name place (record { name = name; at = place; complex = complex; records = rs })) s at semi.after
   covers_instance mid name place complex rs semi c n e = record {
     tokens = shift s.base equals ∷ (c.tokens ++ shift s.base semi ∷ []);
-    chain = chain_then s at equals.after semi.after (shift s.base equals ∷ []) (c.tokens ++ shift s.base semi ∷ []) (chain_sign token.equals s at equals equals_goes first is_equals) (chain_then s equals.after mid semi.after c.tokens (shift s.base semi ∷ []) c.chain (chain_sign token.semi s mid semi semi_goes n e));
+    chain = chain_then s at equals.after semi.after (shift s.base equals ∷ []) (c.tokens ++ shift s.base semi ∷ []) (chain_terminal token.equals s at equals equals_goes first is_equals) (chain_then s equals.after mid semi.after c.tokens (shift s.base semi ∷ []) c.chain (chain_terminal token.semi s mid semi semi_goes n e));
     are = λ t h p. subst (λ x. IsInstance deepest (t ∷ shift s.base equals ∷ (c.tokens ++ shift s.base semi ∷ [])) (record { name = name; at = x; complex = complex; records = rs })) p (c.are.makes t (shift s.base equals) (shift s.base semi) name h is_equals e);
   }
 
@@ -73,7 +73,7 @@ module _ (s : Source) (at : ℕ) (equals : Placed) (first : First s.text.now at 
 
 module _ (s : Source) (at name : ℕ) (t : Placed) (first : First s.text.now at t) (is_name : t.token ≡ token.name name) where
   pub name_chain : Chain s at (shift s.base t ∷ []) t.after
-  name_chain = chain_sign (token.name name) s at t (name_goes name) first is_name
+  name_chain = chain_terminal (token.name name) s at t (name_goes name) first is_name
 
   pub fails_instance : (f : Fault) → Fails EqualsOn 64 s t.after f → Fails Instances 64 s at f
   fails_instance f h = fails_after NameToken EqualsOn 64 s at t f first (not_last t.token (token.name name) is_name (name_goes name)) (name, is_name) h
@@ -138,30 +138,30 @@ pub finishes_end : (s : Source) (at : ℕ) (t : Placed) → First s.text.now at 
 finishes_end s at t n e = record { tokens = shift s.base t ∷ []; raw = t ∷ []; whole = text.last n (end_is_last t.token e); in_file = refl; are = refl }
 
 module _ (s : Source) (at : ℕ) (semi end_iso last end : Placed) (n1 : First s.text.now at semi) (e1 : semi.token ≡ token.semi) where
-  pub tail_end_iso : (l : ℕ) (f : Fault) → Fails (Sign token.end_iso) l s semi.after f → Fails TailOn l s at f
-  tail_end_iso l f h = after_sign token.semi EndIsos l s at semi f semi_goes n1 e1 (fails_first (Sign token.end_iso) EndIsoOn l s semi.after f (some_end_iso_on l) h)
+  pub tail_end_iso : (l : ℕ) (f : Fault) → Fails (Terminal token.end_iso) l s semi.after f → Fails TailOn l s at f
+  tail_end_iso l f h = after_terminal token.semi EndIsos l s at semi f semi_goes n1 e1 (fails_first (Terminal token.end_iso) EndIsoOn l s semi.after f (some_end_iso_on l) h)
 
-  pub tail_last : (l : ℕ) (f : Fault) → First s.text.now semi.after end_iso → end_iso.token ≡ token.end_iso → Fails (Sign token.semi) l s end_iso.after f → Fails TailOn l s at f
-  tail_last l f n2 e2 h = after_sign token.semi EndIsos l s at semi f semi_goes n1 e1 (after_sign token.end_iso EndIsoOn l s semi.after end_iso f end_iso_goes n2 e2 (fails_first (Sign token.semi) (Sign token.end) l s end_iso.after f (some_sign token.end l) h))
+  pub tail_last : (l : ℕ) (f : Fault) → First s.text.now semi.after end_iso → end_iso.token ≡ token.end_iso → Fails (Terminal token.semi) l s end_iso.after f → Fails TailOn l s at f
+  tail_last l f n2 e2 h = after_terminal token.semi EndIsos l s at semi f semi_goes n1 e1 (after_terminal token.end_iso EndIsoOn l s semi.after end_iso f end_iso_goes n2 e2 (fails_first (Terminal token.semi) (Terminal token.end) l s end_iso.after f (some_terminal token.end l) h))
 
-  pub tail_end : (l : ℕ) (f : Fault) → First s.text.now semi.after end_iso → end_iso.token ≡ token.end_iso → First s.text.now end_iso.after last → last.token ≡ token.semi → Fails (Sign token.end) l s last.after f → Fails TailOn l s at f
-  tail_end l f n2 e2 n3 e3 h = after_sign token.semi EndIsos l s at semi f semi_goes n1 e1 (after_sign token.end_iso EndIsoOn l s semi.after end_iso f end_iso_goes n2 e2 (after_sign token.semi (Sign token.end) l s end_iso.after last f semi_goes n3 e3 h))
+  pub tail_end : (l : ℕ) (f : Fault) → First s.text.now semi.after end_iso → end_iso.token ≡ token.end_iso → First s.text.now end_iso.after last → last.token ≡ token.semi → Fails (Terminal token.end) l s last.after f → Fails TailOn l s at f
+  tail_end l f n2 e2 n3 e3 h = after_terminal token.semi EndIsos l s at semi f semi_goes n1 e1 (after_terminal token.end_iso EndIsoOn l s semi.after end_iso f end_iso_goes n2 e2 (after_terminal token.semi (Terminal token.end) l s end_iso.after last f semi_goes n3 e3 h))
 
   pub tail_whole : First s.text.now semi.after end_iso → end_iso.token ≡ token.end_iso → First s.text.now end_iso.after last → last.token ≡ token.semi → First s.text.now last.after end → end.token ≡ token.end → Finishes IsBehindEndsec s at
   tail_whole n2 e2 n3 e3 n4 e4 =
       finishes_behind s at last.after (shift s.base semi ∷ shift s.base end_iso ∷ shift s.base last ∷ []) (λ ts. ts ≡ shift s.base end ∷ []) IsBehindEndsec
-      (chain_then s at semi.after last.after (shift s.base semi ∷ []) (shift s.base end_iso ∷ shift s.base last ∷ []) (chain_sign token.semi s at semi semi_goes n1 e1)
-      (chain_then s semi.after end_iso.after last.after (shift s.base end_iso ∷ []) (shift s.base last ∷ []) (chain_sign token.end_iso s semi.after end_iso end_iso_goes n2 e2) (chain_sign token.semi s end_iso.after last semi_goes n3 e3)))
+      (chain_then s at semi.after last.after (shift s.base semi ∷ []) (shift s.base end_iso ∷ shift s.base last ∷ []) (chain_terminal token.semi s at semi semi_goes n1 e1)
+      (chain_then s semi.after end_iso.after last.after (shift s.base end_iso ∷ []) (shift s.base last ∷ []) (chain_terminal token.end_iso s semi.after end_iso end_iso_goes n2 e2) (chain_terminal token.semi s end_iso.after last semi_goes n3 e3)))
       (λ b p t h. subst (λ x. IsTail (t ∷ shift s.base semi ∷ shift s.base end_iso ∷ shift s.base last ∷ x)) (sym p) (sentence.made t (shift s.base semi) (shift s.base end_iso) (shift s.base last) (shift s.base end) h e1 e2 e3 e4))
       (finishes_end s last.after end n4 e4)
 
 -- from the token that is no name
 
 pub finishes_tail : (s : Source) (at : ℕ) (t : Placed) → First s.text.now at t → t.token ≡ token.keyword endsec_word → Finishes IsBehindEndsec s t.after → Finishes IsTail s at
-finishes_tail s at t n e h = finishes_behind s at t.after (shift s.base t ∷ []) IsBehindEndsec IsTail (chain_sign (token.keyword endsec_word) s at t (keyword_goes endsec_word) n e) (λ b p. p (shift s.base t) e) h
+finishes_tail s at t n e h = finishes_behind s at t.after (shift s.base t ∷ []) IsBehindEndsec IsTail (chain_terminal (token.keyword endsec_word) s at t (keyword_goes endsec_word) n e) (λ b p. p (shift s.base t) e) h
 
 pub fails_tail : (s : Source) (at : ℕ) (t : Placed) (f : Fault) → First s.text.now at t → t.token ≡ token.keyword endsec_word → Fails TailOn 64 s t.after f → Fails Bodies 64 s at f
-fails_tail s at t f n e h = fails_behind TailOn Bodies 64 64 s at t.after (shift s.base t ∷ []) f (chain_sign (token.keyword endsec_word) s at t (keyword_goes endsec_word) n e) (λ b u j r. stuck_stop Instances Tails NameToken 64 (shift s.base t) b u j starts_instances (λ m. names_apart t.token m e) (stuck_second (Sign (token.keyword endsec_word)) TailOn 64 (shift s.base t ∷ []) b u j (once_just (Is (token.keyword endsec_word))) (grows_just (Is (token.keyword endsec_word))) (record { token = shift s.base t; alone = refl; fits = e }) r)) h
+fails_tail s at t f n e h = fails_behind TailOn Bodies 64 64 s at t.after (shift s.base t ∷ []) f (chain_terminal (token.keyword endsec_word) s at t (keyword_goes endsec_word) n e) (λ b u j r. stuck_stop Instances Tails NameToken 64 (shift s.base t) b u j starts_instances (λ m. names_apart t.token m e) (stuck_second (Terminal (token.keyword endsec_word)) TailOn 64 (shift s.base t ∷ []) b u j (once_just (Is (token.keyword endsec_word))) (grows_just (Is (token.keyword endsec_word))) (record { token = shift s.base t; alone = refl; fits = e }) r)) h
 
 pub fails_no_body : (s : Source) (at : ℕ) (t : Placed) (f : Fault) → First s.text.now at t → t.token ≢ token.keyword endsec_word → ((n : ℕ) → t.token ≢ token.name n) → f.at ≡ s.base + t.start → f.kind ≡ fault_kind (kind_now t.token) → Fails Bodies 64 s at f
 fails_no_body s at t f n h g p k = fails_now Bodies 64 s at t f n (stuck_now Bodies BodyToken 64 (shift s.base t) (some_bodies 64) starts_bodies (λ m. elim m [ inl e ↦ h e | inr e ↦ g e.0 e.1 ])) p k

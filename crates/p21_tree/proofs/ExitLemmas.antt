@@ -4,7 +4,7 @@ use Rattle.std.specs.Result.{IsErrAnd}
 use Rattle.p21_tree.specs.declared.faults.Fault.{Fault}
 use Rattle.p21_tree.specs.declared.faults.TreeError.{TreeError}
 use Rattle.p21_tree.specs.declared.faults.TreeError.TheVariants.{Grammar, Memory}
-use Rattle.p21_tree.specs.Progress.{OnGrammar}
+use Rattle.p21_tree.specs.Texts.{OnGrammar}
 
 -- a fault, given back as an error
 pub exit_fault : {T : Type 0} (r : Result T TreeError) (Q : Fault → Type 0) (f : Fault) → IsErrAnd r (λ e. e ≡ Grammar f) → Q f → IfErr r (λ e. OnGrammar e Q)

@@ -8,21 +8,21 @@ use Rattle.p21_text.specs.Tokens.{Placed, IsLast, symbols}
 use Rattle.p21_text.specs.Tokens as text
 use Rattle.p21_tree.specs.Grammar.{IsKey, IsLeaf, IsParam, IsOptional, IsParams}
 use Rattle.p21_tree.specs.Grammar as grammar
-use Rattle.p21_tree.specs.Tree.{Tree, Trees}
 use Rattle.p21_tree.specs.Sentence.{IsTail, IsFile, deepest, header_word, endsec_word, data_word}
 use Rattle.p21_tree.specs.Sentence as sentence
-use Rattle.p21_tree.specs.Fault.{files}
-use Rattle.p21_tree.specs.Languages.{Language, Just, Then}
-use Rattle.p21_tree.specs.Laws.{IsTokenList, FaultOf, HasOneAnswer}
+use Rattle.p21_tree.specs.Fault.{files, pieces, tails}
+use Rattle.p21_tree.specs.Languages.{Language, Just, Then, stop, again}
+use Rattle.p21_tree.specs.Laws.{IsTokenList, FaultOf, HasAnswer}
 use Rattle.p21_tree.specs.Laws as law
-use Rattle.p21_tree.specs.Parts.{Closed, Is, Sign, KeyToken, EntityKey, Arguments, Keyed, Records, MoreRecords, SomeRecords, Complex, Form, NameToken, FormOn, EqualsOn, Instances, EntityRecords, Entities, DataOn, EndsecOn, HeaderEnd, HeaderRest, HeaderOn, Headers, IsoOn, Prefaces, EndIsoOn, EndIsos, TailOn, Tails, Bodies, Files}
+use Rattle.p21_tree.specs.Parts.{Closed, Is, Terminal, KeyToken, EntityKey, Arguments, Keyed, Records, MoreRecords, SomeRecords, Complex, Form, NameToken, FormOn, EqualsOn, Instances, EntityRecords, Entities, DataOn, EndsecOn, HeaderEnd, HeaderRest, HeaderOn, Headers, IsoOn, Prefaces, EndIsoOn, EndIsos, TailOn, Tails, Bodies, Files, Pieces}
 use Rattle.p21_tree.proofs.LanguageLemmas.{stuck_same}
 use Rattle.p21_tree.proofs.Combined.{some_just, grows_just, once_just, stuck_is_fault}
-use Rattle.p21_tree.proofs.PartLemmas.{some_sign, some_closed, some_arguments, some_records, some_more, some_form_on, some_equals_on, some_data_on, some_endsec_on, some_header_end, some_header_rest, some_header_on, some_headers, some_iso_on, some_end_iso_on, some_end_isos, some_tail_on, some_tails, some_bodies, grows_sign, grows_keyed, grows_form, grows_instances, grows_entities, grows_prefaces, starts_sign, starts_keyed, starts_complex, starts_instances, starts_entities, starts_header_end, starts_tails, once_sign, once_keyed, once_form, once_instances, once_entities, once_prefaces, key_not}
-use Rattle.p21_tree.proofs.Sentences.{file_into, file_back, body_back, BodyBack}
+use Rattle.p21_tree.proofs.PartLemmas.{some_terminal, some_closed, some_arguments, some_records, some_more, some_form_on, some_equals_on, some_data_on, some_endsec_on, some_header_end, some_header_rest, some_header_on, some_headers, some_iso_on, some_end_iso_on, some_end_isos, some_tail_on, some_tails, some_bodies, grows_terminal, grows_keyed, grows_form, grows_instances, grows_entities, grows_prefaces, starts_terminal, starts_keyed, starts_complex, starts_instances, starts_entities, starts_header_end, starts_tails, once_terminal, once_keyed, once_form, once_instances, once_entities, once_prefaces, key_not}
+use Rattle.p21_tree.proofs.Sentences.{file_into, file_back, piece_into, piece_back, tail_into, tail_back}
 use Rattle.p21_tree.proofs.RecordLemmas.{key_not_last}
 use Rattle.p21_tree.proofs.DataLemmas.{semi_goes, equals_goes, iso_goes, end_iso_goes, keyword_goes, name_goes, names_apart}
-use Rattle.p21_tree.proofs.Verdicts.{AllGo, Goes, goes_just, goes_then, goes_either, goes_within, goes_many, Verdict, reads, leaves, begins, Decided, just_verdict, then_verdict, within_verdict, either_verdict, many_verdict, closed_verdict}
+use Rattle.p21_tree.proofs.Avoiding.{Outer, avoids_just, avoids_then, avoids_many, avoids_keyed, avoids_form}
+use Rattle.p21_tree.proofs.Verdicts.{AllGo, Goes, Verdict, reads, leaves, begins, Decided, just_verdict, then_verdict, within_verdict, either_verdict, many_verdict, closed_verdict}
 
 -- which tokens go on
 
@@ -35,56 +35,12 @@ open_goes h = elim h [ ]
 pub close_goes : ¬ (IsLast token.rparen)
 close_goes h = elim h [ ]
 
-pub comma_goes : ¬ (IsLast token.comma)
-comma_goes h = elim h [ ]
+pub last_outer : Outer IsLast
+last_outer s text.at_end = refl
+last_outer s text.at_bad = refl
 
-abbrev pub AllSymbolsGo : List Symbol → Type 0
-AllSymbolsGo [] = Unit {0}
-AllSymbolsGo (s ∷ ss) = (¬ (IsLast s)) × AllSymbolsGo ss
-
-pub symbols_go_append : (a b : List Symbol) → AllSymbolsGo a → AllSymbolsGo b → AllSymbolsGo (a ++ b)
-symbols_go_append [] b p q = q
-symbols_go_append (s ∷ a) b p q = (p.0, symbols_go_append a b p.1 q)
-
-pub leaf_goes : {s : Symbol} {t : Tree} → IsLeaf s t → ¬ (IsLast s)
-leaf_goes grammar.absent h = elim h [ ]
-leaf_goes grammar.derived h = elim h [ ]
-leaf_goes grammar.int h = elim h [ ]
-leaf_goes grammar.real h = elim h [ ]
-leaf_goes grammar.str h = elim h [ ]
-leaf_goes grammar.reference h = elim h [ ]
-leaf_goes grammar.enumeration h = elim h [ ]
-leaf_goes grammar.binary h = elim h [ ]
-
-mutual
-  pub param_goes : {left : ℕ} {ts : List Symbol} {t : Tree} → IsParam left ts t → AllSymbolsGo ts
-  param_goes (grammar.leaf l) = (leaf_goes l, tt)
-  param_goes (grammar.list {tokens} o) = (open_goes, symbols_go_append tokens (token.rparen ∷ []) (optional_goes o) (close_goes, tt))
-  param_goes (grammar.typed {tokens} k p) = (key_not_last k, (open_goes, symbols_go_append tokens (token.rparen ∷ []) (param_goes p) (close_goes, tt)))
-
-  pub optional_goes : {left : ℕ} {ts : List Symbol} {found : Trees} → IsOptional left ts found → AllSymbolsGo ts
-  optional_goes grammar.empty = tt
-  optional_goes (grammar.params ps) = params_goes ps
-
-  pub params_goes : {left : ℕ} {ts : List Symbol} {found : Trees} → IsParams left ts found → AllSymbolsGo ts
-  params_goes (grammar.one p) = param_goes p
-  params_goes (grammar.comma {tokens} {others} p ps) = symbols_go_append tokens (token.comma ∷ others) (param_goes p) (comma_goes, params_goes ps)
-
-pub symbols_go : (ts : List Placed) → AllSymbolsGo (symbols ts) → AllGo ts
-symbols_go [] h = tt
-symbols_go (t ∷ ts) h = (h.0, symbols_go ts h.1)
-
-pub goes_closed : Goes Closed
-goes_closed m ts h = symbols_go ts (subst AllSymbolsGo (sym h.1.parts) (symbols_go_append h.1.inner (token.rparen ∷ []) (optional_goes h.1.params) (close_goes, tt)))
-
-pub goes_sign : (s : Symbol) → ¬ (IsLast s) → Goes (Sign s)
-goes_sign s h = goes_just (Is s) (is_goes s h)
-
-pub goes_arguments : Goes Arguments
-goes_arguments = goes_then (Sign token.lparen) Closed (goes_sign token.lparen open_goes) goes_closed
-
-pub goes_keyed : (K : Symbol → Type 0) → ((s : Symbol) → K s → ¬ (IsLast s)) → Goes (Keyed K)
-goes_keyed K f = goes_within (Then (Just K) Arguments) (goes_then (Just K) Arguments (goes_just K f) goes_arguments)
+pub goes_terminal : (s : Symbol) → ¬ (IsLast s) → Goes (Terminal s)
+goes_terminal s h = avoids_just IsLast (Is s) (is_goes s h)
 
 pub key_goes : (s : Symbol) → KeyToken s → ¬ (IsLast s)
 key_goes s k = key_not_last k.1
@@ -92,26 +48,26 @@ key_goes s k = key_not_last k.1
 pub entity_goes : (s : Symbol) → EntityKey s → ¬ (IsLast s)
 entity_goes s k = key_not_last k.0.1
 
-pub goes_more : Goes MoreRecords
-goes_more m ts h = goes_many Records (Sign token.rparen) m ts (goes_keyed KeyToken key_goes) (goes_sign token.rparen close_goes) h
+pub goes_keyed : (K : Symbol → Type 0) → ((s : Symbol) → K s → ¬ (IsLast s)) → Goes (Keyed K)
+goes_keyed K f = avoids_keyed IsLast last_outer K f
 
 pub goes_form : Goes Form
-goes_form = goes_either Records Complex (goes_keyed KeyToken key_goes) (goes_within (Then (Sign token.lparen) SomeRecords) (goes_then (Sign token.lparen) SomeRecords (goes_sign token.lparen open_goes) (goes_then Records MoreRecords (goes_keyed KeyToken key_goes) goes_more)))
+goes_form = avoids_form IsLast last_outer
 
 pub name_token_goes : (s : Symbol) → NameToken s → ¬ (IsLast s)
 name_token_goes s h = is_goes (token.name h.0) (name_goes h.0) s h.1
 
 pub goes_instances : Goes Instances
-goes_instances = goes_then (Just NameToken) EqualsOn (goes_just NameToken name_token_goes) (goes_then (Sign token.equals) FormOn (goes_sign token.equals equals_goes) (goes_then Form (Sign token.semi) goes_form (goes_sign token.semi semi_goes)))
+goes_instances = avoids_then IsLast (Just NameToken) EqualsOn (avoids_just IsLast NameToken name_token_goes) (avoids_then IsLast (Terminal token.equals) FormOn (goes_terminal token.equals equals_goes) (avoids_then IsLast Form (Terminal token.semi) goes_form (goes_terminal token.semi semi_goes)))
 
 pub goes_entities : Goes Entities
-goes_entities = goes_then EntityRecords (Sign token.semi) (goes_keyed EntityKey entity_goes) (goes_sign token.semi semi_goes)
+goes_entities = avoids_then IsLast EntityRecords (Terminal token.semi) (goes_keyed EntityKey entity_goes) (goes_terminal token.semi semi_goes)
 
 pub goes_header_end : Goes HeaderEnd
-goes_header_end = goes_then (Sign (token.keyword endsec_word)) EndsecOn (goes_sign (token.keyword endsec_word) (keyword_goes endsec_word)) (goes_then (Sign token.semi) DataOn (goes_sign token.semi semi_goes) (goes_then (Sign (token.keyword data_word)) (Sign token.semi) (goes_sign (token.keyword data_word) (keyword_goes data_word)) (goes_sign token.semi semi_goes)))
+goes_header_end = avoids_then IsLast (Terminal (token.keyword endsec_word)) EndsecOn (goes_terminal (token.keyword endsec_word) (keyword_goes endsec_word)) (avoids_then IsLast (Terminal token.semi) DataOn (goes_terminal token.semi semi_goes) (avoids_then IsLast (Terminal (token.keyword data_word)) (Terminal token.semi) (goes_terminal (token.keyword data_word) (keyword_goes data_word)) (goes_terminal token.semi semi_goes)))
 
 pub goes_prefaces : Goes Prefaces
-goes_prefaces = goes_then (Sign token.iso) IsoOn (goes_sign token.iso iso_goes) (goes_then (Sign token.semi) Headers (goes_sign token.semi semi_goes) (goes_then (Sign (token.keyword header_word)) HeaderOn (goes_sign (token.keyword header_word) (keyword_goes header_word)) (goes_then (Sign token.semi) HeaderRest (goes_sign token.semi semi_goes) (λ m ts h. goes_many Entities HeaderEnd m ts goes_entities goes_header_end h))))
+goes_prefaces = avoids_then IsLast (Terminal token.iso) IsoOn (goes_terminal token.iso iso_goes) (avoids_then IsLast (Terminal token.semi) Headers (goes_terminal token.semi semi_goes) (avoids_then IsLast (Terminal (token.keyword header_word)) HeaderOn (goes_terminal (token.keyword header_word) (keyword_goes header_word)) (avoids_then IsLast (Terminal token.semi) HeaderRest (goes_terminal token.semi semi_goes) (λ m ts h. avoids_many IsLast Entities HeaderEnd m ts goes_entities goes_header_end h))))
 
 -- whether a token is of a kind
 
@@ -170,26 +126,26 @@ is_entity s = entity_by s (is_key s) (is_word endsec_word s)
 
 -- the parts of a file
 
-pub sign_verdict : (s : Symbol) (l : ℕ) (ts : List Placed) → Decided (Is s) → Verdict (Sign s) l ts
-sign_verdict s l ts d = just_verdict (Is s) l ts (some_sign s l) d
+pub terminal_verdict : (s : Symbol) (l : ℕ) (ts : List Placed) → Decided (Is s) → Verdict (Terminal s) l ts
+terminal_verdict s l ts d = just_verdict (Is s) l ts (some_terminal s l) d
 
 pub arguments_verdict : (l : ℕ) (ts : List Placed) → Verdict Arguments l ts
-arguments_verdict l ts = then_verdict (Sign token.lparen) Closed l ts (some_closed l) (once_sign token.lparen) (grows_sign token.lparen) (goes_sign token.lparen open_goes) (sign_verdict token.lparen l ts is_open) (λ front rest e p. closed_verdict l rest)
+arguments_verdict l ts = then_verdict (Terminal token.lparen) Closed l ts (some_closed l) (once_terminal token.lparen) (grows_terminal token.lparen) (goes_terminal token.lparen open_goes) (terminal_verdict token.lparen l ts is_open) (λ front rest e p. closed_verdict l rest)
 
 pub keyed_verdict : (K : Symbol → Type 0) (s : Symbol) (l : ℕ) (ts : List Placed) → K s → ((x : Symbol) → K x → ¬ (IsLast x)) → Decided K → Verdict (Keyed K) (suc l) ts
-keyed_verdict K s l ts h f d = within_verdict (Then (Just K) Arguments) l ts (then_verdict (Just K) Arguments l ts (some_arguments l) (once_just K) (grows_just K) (goes_just K f) (just_verdict K l ts (some_just K l s h) d) (λ front rest e p. arguments_verdict l rest))
+keyed_verdict K s l ts h f d = within_verdict (Then (Just K) Arguments) l ts (then_verdict (Just K) Arguments l ts (some_arguments l) (once_just K) (grows_just K) (avoids_just IsLast K f) (just_verdict K l ts (some_just K l s h) d) (λ front rest e p. arguments_verdict l rest))
 
 pub records_verdict : (l : ℕ) (ts : List Placed) → Verdict Records (suc l) ts
 records_verdict l ts = keyed_verdict KeyToken (token.keyword []) l ts ([], grammar.standard) key_goes is_key
 
 pub more_verdict : (l : ℕ) (ts : List Placed) → Verdict MoreRecords (suc l) ts
-more_verdict l ts = many_verdict Records (Sign token.rparen) KeyToken (Is token.rparen) (suc l) (length ts) ts (omega arith) (some_sign token.rparen (suc l)) (starts_keyed KeyToken) (starts_sign token.rparen) (λ s e k. key_not k.1 (inl e)) is_key is_close (once_keyed KeyToken) (grows_keyed KeyToken) (goes_keyed KeyToken key_goes) (records_verdict l) (λ us. sign_verdict token.rparen (suc l) us is_close)
+more_verdict l ts = many_verdict Records (Terminal token.rparen) KeyToken (Is token.rparen) (suc l) (length ts) ts (omega arith) (some_terminal token.rparen (suc l)) (starts_keyed KeyToken) (starts_terminal token.rparen) (λ s e k. key_not k.1 (inl e)) is_key is_close (once_keyed KeyToken) (grows_keyed KeyToken) (goes_keyed KeyToken key_goes) (records_verdict l) (λ us. terminal_verdict token.rparen (suc l) us is_close)
 
 pub some_verdict : (l : ℕ) (ts : List Placed) → Verdict SomeRecords (suc l) ts
 some_verdict l ts = then_verdict Records MoreRecords (suc l) ts (some_more (suc l)) (once_keyed KeyToken) (grows_keyed KeyToken) (goes_keyed KeyToken key_goes) (records_verdict l ts) (λ front rest e p. more_verdict l rest)
 
 pub complex_verdict : (l : ℕ) (ts : List Placed) → Verdict Complex (suc (suc l)) ts
-complex_verdict l ts = within_verdict (Then (Sign token.lparen) SomeRecords) (suc l) ts (then_verdict (Sign token.lparen) SomeRecords (suc l) ts some_some (once_sign token.lparen) (grows_sign token.lparen) (goes_sign token.lparen open_goes) (sign_verdict token.lparen (suc l) ts is_open) (λ front rest e p. some_verdict l rest))
+complex_verdict l ts = within_verdict (Then (Terminal token.lparen) SomeRecords) (suc l) ts (then_verdict (Terminal token.lparen) SomeRecords (suc l) ts some_some (once_terminal token.lparen) (grows_terminal token.lparen) (goes_terminal token.lparen open_goes) (terminal_verdict token.lparen (suc l) ts is_open) (λ front rest e p. some_verdict l rest))
   where
     some_some : (m : ℕ) → suc l ≤ m → (us : List Placed) × SomeRecords m us
     some_some m h = ((some_records l m h).0 ++ (some_more m m (omega arith)).0, record { front = (some_records l m h).0; back = (some_more m m (omega arith)).0; parts = refl; first = (some_records l m h).1; second = (some_more m m (omega arith)).1 })
@@ -199,39 +155,39 @@ form_verdict ts = either_verdict Records Complex KeyToken (Is token.lparen) 64 t
 
 pub instances_verdict : (ts : List Placed) → Verdict Instances 64 ts
 instances_verdict ts =
-    then_verdict (Just NameToken) EqualsOn 64 ts (some_equals_on 63) (once_just NameToken) (grows_just NameToken) (goes_just NameToken name_token_goes) (just_verdict NameToken 64 ts (some_just NameToken 64 (token.name 0) (0, refl)) is_name)
-    (λ f us e p. then_verdict (Sign token.equals) FormOn 64 us (some_form_on 63) (once_sign token.equals) (grows_sign token.equals) (goes_sign token.equals equals_goes) (sign_verdict token.equals 64 us is_equals)
-    (λ g vs h q. then_verdict Form (Sign token.semi) 64 vs (some_sign token.semi 64) once_form grows_form goes_form (form_verdict vs) (λ i ws j r. sign_verdict token.semi 64 ws is_semi)))
+    then_verdict (Just NameToken) EqualsOn 64 ts (some_equals_on 63) (once_just NameToken) (grows_just NameToken) (avoids_just IsLast NameToken name_token_goes) (just_verdict NameToken 64 ts (some_just NameToken 64 (token.name 0) (0, refl)) is_name)
+    (λ f us e p. then_verdict (Terminal token.equals) FormOn 64 us (some_form_on 63) (once_terminal token.equals) (grows_terminal token.equals) (goes_terminal token.equals equals_goes) (terminal_verdict token.equals 64 us is_equals)
+    (λ g vs h q. then_verdict Form (Terminal token.semi) 64 vs (some_terminal token.semi 64) once_form grows_form goes_form (form_verdict vs) (λ i ws j r. terminal_verdict token.semi 64 ws is_semi)))
 
 pub entities_verdict : (ts : List Placed) → Verdict Entities 64 ts
-entities_verdict ts = then_verdict EntityRecords (Sign token.semi) 64 ts (some_sign token.semi 64) (once_keyed EntityKey) (grows_keyed EntityKey) (goes_keyed EntityKey entity_goes) (keyed_verdict EntityKey (token.keyword []) 63 ts (([], grammar.standard), λ e. cc) entity_goes is_entity) (λ front rest e p. sign_verdict token.semi 64 rest is_semi)
+entities_verdict ts = then_verdict EntityRecords (Terminal token.semi) 64 ts (some_terminal token.semi 64) (once_keyed EntityKey) (grows_keyed EntityKey) (goes_keyed EntityKey entity_goes) (keyed_verdict EntityKey (token.keyword []) 63 ts (([], grammar.standard), λ e. cc) entity_goes is_entity) (λ front rest e p. terminal_verdict token.semi 64 rest is_semi)
 
 -- behind a token that the grammar names
-pub sign_then : (s : Symbol) (Q : Language) (ts : List Placed) → ((m : ℕ) → 64 ≤ m → (us : List Placed) × Q m us) → ¬ (IsLast s) → Decided (Is s) → ((us : List Placed) → Verdict Q 64 us) → Verdict (Then (Sign s) Q) 64 ts
-sign_then s Q ts i h d v = then_verdict (Sign s) Q 64 ts i (once_sign s) (grows_sign s) (goes_sign s h) (sign_verdict s 64 ts d) (λ front rest e p. v rest)
+pub terminal_then : (s : Symbol) (Q : Language) (ts : List Placed) → ((m : ℕ) → 64 ≤ m → (us : List Placed) × Q m us) → ¬ (IsLast s) → Decided (Is s) → ((us : List Placed) → Verdict Q 64 us) → Verdict (Then (Terminal s) Q) 64 ts
+terminal_then s Q ts i h d v = then_verdict (Terminal s) Q 64 ts i (once_terminal s) (grows_terminal s) (goes_terminal s h) (terminal_verdict s 64 ts d) (λ front rest e p. v rest)
 
 pub header_end_verdict : (ts : List Placed) → Verdict HeaderEnd 64 ts
 header_end_verdict ts =
-    sign_then (token.keyword endsec_word) EndsecOn ts (some_endsec_on 64) (keyword_goes endsec_word) (is_word endsec_word)
-    (λ us. sign_then token.semi DataOn us (some_data_on 64) semi_goes is_semi
-    (λ vs. sign_then (token.keyword data_word) (Sign token.semi) vs (some_sign token.semi 64) (keyword_goes data_word) (is_word data_word) (λ ws. sign_verdict token.semi 64 ws is_semi)))
+    terminal_then (token.keyword endsec_word) EndsecOn ts (some_endsec_on 64) (keyword_goes endsec_word) (is_word endsec_word)
+    (λ us. terminal_then token.semi DataOn us (some_data_on 64) semi_goes is_semi
+    (λ vs. terminal_then (token.keyword data_word) (Terminal token.semi) vs (some_terminal token.semi 64) (keyword_goes data_word) (is_word data_word) (λ ws. terminal_verdict token.semi 64 ws is_semi)))
 
 pub header_verdict : (ts : List Placed) → Verdict HeaderRest 64 ts
 header_verdict ts = many_verdict Entities HeaderEnd EntityKey (Is (token.keyword endsec_word)) 64 (length ts) ts (omega arith) (some_header_end 64) starts_entities starts_header_end (λ s e k. k.1 e) is_entity (is_word endsec_word) once_entities grows_entities goes_entities entities_verdict header_end_verdict
 
 pub preface_verdict : (ts : List Placed) → Verdict Prefaces 64 ts
 preface_verdict ts =
-    sign_then token.iso IsoOn ts (some_iso_on 64) iso_goes is_iso
-    (λ us. sign_then token.semi Headers us (some_headers 64) semi_goes is_semi
-    (λ vs. sign_then (token.keyword header_word) HeaderOn vs (some_header_on 64) (keyword_goes header_word) (is_word header_word)
-    (λ ws. sign_then token.semi HeaderRest ws (some_header_rest 64) semi_goes is_semi header_verdict)))
+    terminal_then token.iso IsoOn ts (some_iso_on 64) iso_goes is_iso
+    (λ us. terminal_then token.semi Headers us (some_headers 64) semi_goes is_semi
+    (λ vs. terminal_then (token.keyword header_word) HeaderOn vs (some_header_on 64) (keyword_goes header_word) (is_word header_word)
+    (λ ws. terminal_then token.semi HeaderRest ws (some_header_rest 64) semi_goes is_semi header_verdict)))
 
 pub tail_verdict : (ts : List Placed) → Verdict Tails 64 ts
 tail_verdict ts =
-    sign_then (token.keyword endsec_word) TailOn ts (some_tail_on 64) (keyword_goes endsec_word) (is_word endsec_word)
-    (λ us. sign_then token.semi EndIsos us (some_end_isos 64) semi_goes is_semi
-    (λ vs. sign_then token.end_iso EndIsoOn vs (some_end_iso_on 64) end_iso_goes is_end_iso
-    (λ ws. sign_then token.semi (Sign token.end) ws (some_sign token.end 64) semi_goes is_semi (λ xs. sign_verdict token.end 64 xs is_end))))
+    terminal_then (token.keyword endsec_word) TailOn ts (some_tail_on 64) (keyword_goes endsec_word) (is_word endsec_word)
+    (λ us. terminal_then token.semi EndIsos us (some_end_isos 64) semi_goes is_semi
+    (λ vs. terminal_then token.end_iso EndIsoOn vs (some_end_iso_on 64) end_iso_goes is_end_iso
+    (λ ws. terminal_then token.semi (Terminal token.end) ws (some_terminal token.end 64) semi_goes is_semi (λ xs. terminal_verdict token.end 64 xs is_end))))
 
 pub body_verdict : (ts : List Placed) → Verdict Bodies 64 ts
 body_verdict ts = many_verdict Instances Tails NameToken (Is (token.keyword endsec_word)) 64 (length ts) ts (omega arith) (some_tails 64) starts_instances starts_tails (λ s e n. names_apart s n e) is_name (is_word endsec_word) once_instances grows_instances goes_instances instances_verdict tail_verdict
@@ -254,23 +210,55 @@ pub no_go : (ts : List Placed) → IsTokenList ts → AllGo ts → ⊥
 no_go ts (law.last h) g = g.0 h
 no_go ts (law.more n i) g = no_go _ i g.1
 
-pub tail_end : (x : List Placed) → IsTail x → (pre : List Placed) × (e : Placed) × (x ≡ pre ++ e ∷ []) × (e.token ≡ token.end)
-tail_end x (sentence.made endsec s1 end_iso s2 end a b c d e) = (endsec ∷ s1 ∷ end_iso ∷ s2 ∷ [], end, refl, e)
+-- what a sentence that goes up to the end of the text ends with
+pub record Closes (ts : List Placed) : Type 0 where
+  pub front : List Placed
+  pub end : Placed
+  pub parts : ts ≡ front ++ end ∷ []
+  pub is_end : end.token ≡ token.end
 
-pub file_ends : (l : ℕ) (front rest : List Placed) → Files l front → IsTokenList (front ++ rest) → rest ≡ []
-file_ends l front rest h i =
-    let b : BodyBack l h.back = body_back l h.back h.second in
-    let t : (pre : List Placed) × (e : Placed) × (b.rest ≡ pre ++ e ∷ []) × (e.token ≡ token.end) = tail_end b.rest b.is_tail in
-    let f : front ≡ (h.front ++ (b.body ++ t.0)) ++ t.1 ∷ [] = h.parts ∙ (ap (λ x. h.front ++ x) (b.parts ∙ (ap (λ x. b.body ++ x) t.2 ∙ sym (append_assoc b.body t.0 (t.1 ∷ [])))) ∙ sym (append_assoc h.front (b.body ++ t.0) (t.1 ∷ []))) in
-    let g : front ++ rest ≡ (h.front ++ (b.body ++ t.0)) ++ t.1 ∷ rest = ap (λ x. x ++ rest) f ∙ append_assoc (h.front ++ (b.body ++ t.0)) (t.1 ∷ []) rest in
-    list_ends (h.front ++ (b.body ++ t.0)) t.1 rest (subst IsLast (sym t.3) text.at_end) (subst IsTokenList g i)
+pub closes_behind : (ts a b : List Placed) → ts ≡ a ++ b → Closes b → Closes ts
+closes_behind ts a b e c = record { front = a ++ c.front; end = c.end; parts = e ∙ (ap (λ x. a ++ x) c.parts ∙ sym (append_assoc a c.front (c.end ∷ []))); is_end = c.is_end }
 
-pub answer_by : (ts : List Placed) → IsTokenList ts → Verdict Files 64 ts → files deepest ts ⊎ FaultOf files ts
-answer_by ts i (reads front rest e p) =
-    let f : rest ≡ [] = file_ends 64 front rest p (subst IsTokenList e i) in
-    inl (subst (λ x. files deepest x) (sym (e ∙ (ap (λ x. front ++ x) f ∙ append-nil front))) (file_back 64 front p))
-answer_by ts i (leaves b t r k e s) = inr (record { before = b; token = t; behind = r; kind = k; at = t.start; parts = e; is_fault = stuck_is_fault files b t k (stuck_same Files files 64 b t k file_back file_into s) })
-answer_by ts i (begins g h) = absurd (no_go ts i g)
+pub tail_closes : (l : ℕ) (ts : List Placed) → Tails l ts → Closes ts
+tail_closes l ts h = tail_by (tail_back l ts h)
+  where
+    tail_by : {x : List Placed} → IsTail x → Closes x
+    tail_by (sentence.made endsec s1 end_iso s2 end a b c d e) = record { front = endsec ∷ s1 ∷ end_iso ∷ s2 ∷ []; end = end; parts = refl; is_end = e }
 
-pub one_answer : HasOneAnswer
-one_answer ts i = answer_by ts i (file_verdict ts)
+pub body_closes : (l : ℕ) (ts : List Placed) → Bodies l ts → Closes ts
+body_closes l ts (stop h) = tail_closes l ts h
+body_closes l ts (again front back e p h) = closes_behind ts front back e (body_closes l back h)
+
+pub file_closes : (l : ℕ) (ts : List Placed) → Files l ts → Closes ts
+file_closes l ts h = closes_behind ts h.front h.back h.parts (body_closes l h.back h.second)
+
+pub piece_closes : (l : ℕ) (ts : List Placed) → Pieces l ts → Closes ts
+piece_closes l ts h = record { front = h.front; end = h.second.token; parts = h.parts ∙ ap (λ x. h.front ++ x) h.second.alone; is_end = h.second.fits }
+
+-- where the language has such sentences alone
+module _ (L M : Language) (into : (l : ℕ) (ts : List Placed) → L l ts → M l ts) (back : (l : ℕ) (ts : List Placed) → M l ts → L l ts) (closes : (l : ℕ) (ts : List Placed) → M l ts → Closes ts) where
+  pub ends : (front rest : List Placed) → M 64 front → IsTokenList (front ++ rest) → rest ≡ []
+  ends front rest h i =
+      let c : Closes front = closes 64 front h in
+      let e : front ++ rest ≡ c.front ++ c.end ∷ rest = ap (λ x. x ++ rest) c.parts ∙ append_assoc c.front (c.end ∷ []) rest in
+      list_ends c.front c.end rest (subst IsLast (sym c.is_end) text.at_end) (subst IsTokenList e i)
+
+  pub answer_by : (ts : List Placed) → IsTokenList ts → Verdict M 64 ts → L deepest ts ⊎ FaultOf L ts
+  answer_by ts i (reads front rest e p) =
+      let f : rest ≡ [] = ends front rest p (subst IsTokenList e i) in
+      inl (subst (λ x. L deepest x) (sym (e ∙ (ap (λ x. front ++ x) f ∙ append-nil front))) (back 64 front p))
+  answer_by ts i (leaves b t r k e s) = inr (record { before = b; token = t; behind = r; kind = k; at = t.start; parts = e; is_fault = stuck_is_fault L b t k (stuck_same M L 64 b t k back into s) })
+  answer_by ts i (begins g h) = absurd (no_go ts i g)
+
+pub piece_verdict : (ts : List Placed) → Verdict Pieces 64 ts
+piece_verdict ts = then_verdict Instances (Terminal token.end) 64 ts (some_terminal token.end 64) once_instances grows_instances goes_instances (instances_verdict ts) (λ front rest e p. terminal_verdict token.end 64 rest is_end)
+
+pub file_answer : HasAnswer files
+file_answer ts i = answer_by files Files file_into file_back file_closes ts i (file_verdict ts)
+
+pub piece_answer : HasAnswer pieces
+piece_answer ts i = answer_by pieces Pieces piece_into piece_back piece_closes ts i (piece_verdict ts)
+
+pub tail_answer : HasAnswer tails
+tail_answer ts i = answer_by tails Tails tail_into tail_back tail_closes ts i (tail_verdict ts)

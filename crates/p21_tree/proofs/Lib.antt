@@ -15,10 +15,13 @@ pub mod ExitLemmas
 pub mod BodyLemmas
 pub mod RecordLemmas
 pub mod DataLemmas
-pub mod SignLemmas
+pub mod TerminalLemmas
 pub mod HeaderLemmas
 pub mod ReaderLemmas
 pub mod LawLemmas
 pub mod TreeLaws
+pub mod Avoiding
 pub mod Verdicts
 pub mod FileVerdict
+pub mod InOrder
+pub mod TextFaults

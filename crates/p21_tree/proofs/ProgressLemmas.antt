@@ -5,13 +5,13 @@ use Rattle.p21_text.specs.Tokens.{Placed, First, TokensUpTo, Tokens, IsLast, sym
 use Rattle.p21_text.specs.Tokens as text
 use Rattle.p21_tree.specs.declared.source.Source.{Source}
 use Rattle.p21_tree.specs.declared.faults.Fault.{Fault}
-use Rattle.p21_tree.specs.declared.signs.Sign as source
-use Rattle.p21_tree.specs.declared.signs.Sign.TheVariants as variants
+use Rattle.p21_tree.specs.declared.terminals.Terminal as source
+use Rattle.p21_tree.specs.declared.terminals.Terminal.TheVariants as variants
 use Rattle.p21_tree.specs.Fault.{Kind}
 use Rattle.p21_tree.specs.Texts.{shift, shifted, fault_kind}
 use Rattle.p21_tree.specs.Languages.{Language, Just, Then, Within, Many, Stuck, kind_now}
-use Rattle.p21_tree.specs.Parts.{Is, Sign}
-use Rattle.p21_tree.specs.Signs.{sign_of, sign_in}
+use Rattle.p21_tree.specs.Parts.{Is, Terminal}
+use Rattle.p21_tree.specs.Terminals.{terminal_of, terminal_in}
 use Rattle.p21_tree.specs.Progress.{Chain, Fails}
 use Rattle.p21_tree.proofs.LanguageLemmas.{Inhabited, Grows, Once, Starts, stuck_first, stuck_second, stuck_within, stuck_now}
 use Rattle.p21_tree.proofs.Combined.{Apart, starts_just, some_just, grows_just, once_just, starts_then, some_stop, stuck_left, stuck_right, stuck_many}
@@ -63,22 +63,22 @@ fails_within L l s at f h = fails_map L (Within L) l (suc l) s at f (λ b t k. s
 
 -- the token that was wanted
 
-pub sign_is_in : (w : source.Sign) → sign_in (sign_of w) ≡ Some w
-sign_is_in variants.Iso = refl
-sign_is_in variants.EndIso = refl
-sign_is_in variants.Header = refl
-sign_is_in variants.EndSec = refl
-sign_is_in variants.Data = refl
-sign_is_in variants.Open = refl
-sign_is_in variants.Equals = refl
-sign_is_in variants.Semi = refl
-sign_is_in variants.End = refl
+pub terminal_is_in : (w : source.Terminal) → terminal_in (terminal_of w) ≡ Some w
+terminal_is_in variants.Iso = refl
+terminal_is_in variants.EndIso = refl
+terminal_is_in variants.Header = refl
+terminal_is_in variants.EndSec = refl
+terminal_is_in variants.Data = refl
+terminal_is_in variants.Open = refl
+terminal_is_in variants.Equals = refl
+terminal_is_in variants.Semi = refl
+terminal_is_in variants.End = refl
 
-pub not_sign : (t : Symbol) (w : source.Sign) → sign_in t ≢ Some w → t ≢ sign_of w
-not_sign t w h e = h (ap sign_in e ∙ sign_is_in w)
+pub not_terminal : (t : Symbol) (w : source.Terminal) → terminal_in t ≢ Some w → t ≢ terminal_of w
+not_terminal t w h e = h (ap terminal_in e ∙ terminal_is_in w)
 
-pub sign_fails : (w : Symbol) (l : ℕ) (s : Source) (at : ℕ) (t : Placed) (f : Fault) → First s.text.now at t → t.token ≢ w → f.at ≡ s.base + t.start → f.kind ≡ fault_kind (kind_now t.token) → Fails (Sign w) l s at f
-sign_fails w l s at t f n no_ p k = fails_now (Sign w) l s at t f n (stuck_now (Sign w) (Is w) l (shift s.base t) (some_just (Is w) l w refl) (starts_just (Is w)) no_) p k
+pub terminal_fails : (w : Symbol) (l : ℕ) (s : Source) (at : ℕ) (t : Placed) (f : Fault) → First s.text.now at t → t.token ≢ w → f.at ≡ s.base + t.start → f.kind ≡ fault_kind (kind_now t.token) → Fails (Terminal w) l s at f
+terminal_fails w l s at t f n no_ p k = fails_now (Terminal w) l s at t f n (stuck_now (Terminal w) (Is w) l (shift s.base t) (some_just (Is w) l w refl) (starts_just (Is w)) no_) p k
 
 -- what is repeated
 

@@ -10,14 +10,15 @@ use Rattle.p21_tree.specs.Sentence.{Instance, Opening, IsInstance, IsPreface, Is
 use Rattle.p21_tree.specs.Fault.{Kind, IsFault, files, prefaces, pieces, tails}
 use Rattle.p21_tree.specs.Texts.{shift, shifted, fault_kind, IsFileText, BeginsPreface, HasTail, IsPieceText, HasFault, HasPieceFault, HasPrefaceFault}
 use Rattle.p21_tree.specs.Languages.{Language, Stuck, kind_now}
-use Rattle.p21_tree.specs.Parts.{Sign, NameToken, EqualsOn, Instances, IsBehindName, TailOn, Tails, IsBehindEndsec, Bodies, IsBody, Prefaces, Files, Pieces}
+use Rattle.p21_tree.specs.Parts.{Terminal, NameToken, EqualsOn, Instances, IsBehindName, TailOn, Tails, IsBehindEndsec, Bodies, IsBody, Prefaces, Files, Pieces}
 use Rattle.p21_tree.specs.Progress.{Covers, Finishes, Fails}
 use Rattle.p21_tree.proofs.LanguageLemmas.{Inhabited, Starts, fronts, stuck_same, stuck_first, stuck_now}
 use Rattle.p21_tree.proofs.Combined.{stuck_is_fault, starts_then, some_then}
-use Rattle.p21_tree.proofs.PartLemmas.{some_sign, some_bodies, some_instances, starts_instances, once_instances, once_prefaces, grows_instances, grows_prefaces}
+use Rattle.p21_tree.proofs.PartLemmas.{some_terminal, some_bodies, some_instances, starts_instances, once_instances, once_prefaces, grows_instances, grows_prefaces}
 use Rattle.p21_tree.proofs.Sentences.{instance_into, preface_into, preface_back, tail_into, tail_back, file_into, file_back, piece_into, piece_back}
+use Rattle.p21_tree.proofs.TreeLaws.{preface_language}
 use Rattle.p21_tree.proofs.ProgressLemmas.{fails_map, fails_now, fails_first, fails_second}
-use Rattle.p21_tree.proofs.DataLemmas.{keyword_goes, after_sign, finishes_behind, finishes_end, fails_instance, covers_named, finishes_tail}
+use Rattle.p21_tree.proofs.DataLemmas.{keyword_goes, after_terminal, finishes_behind, finishes_end, fails_instance, covers_named, finishes_tail}
 
 pub shift_zero : (t : Placed) → shift 0 t ≡ t
 shift_zero t = ap (λ x. record { start = x; after = 0 + t.after; token = t.token }) (zero-add t.start) ∙ ap (λ x. record { start = t.start; after = x; token = t.token }) (zero-add t.after)
@@ -54,9 +55,6 @@ pub in_tails : (s : Source) (at : ℕ) (f : Fault) → s.base ≡ 0 → Fails Ta
 in_tails s at f z h = has_fault tails s at f z (fails_map Tails tails deepest deepest s at f (λ b t k. stuck_same Tails tails deepest b t k tail_back tail_into) h)
 
 -- the preface
-
-pub preface_language : (l : ℕ) (ts : List Placed) → prefaces l ts → Prefaces l ts
-preface_language l ts h = preface_into l ts h.0 h.1
 
 pub stuck_preface : (b : List Placed) (t : Placed) (k : Kind) → Stuck Prefaces deepest b t k → Stuck prefaces deepest b t k
 stuck_preface b t k s = stuck_same Prefaces prefaces deepest b t k preface_back preface_language s
@@ -121,7 +119,7 @@ has_tail s at t z n e h =
     (w.raw, w.whole, subst IsTail g w.are)
 
 pub fails_behind_endsec : (s : Source) (at : ℕ) (t : Placed) (f : Fault) → First s.text.now at t → t.token ≡ token.keyword endsec_word → Fails TailOn deepest s t.after f → Fails Tails deepest s at f
-fails_behind_endsec s at t f n e h = after_sign (token.keyword endsec_word) TailOn deepest s at t f (keyword_goes endsec_word) n e h
+fails_behind_endsec s at t f n e h = after_terminal (token.keyword endsec_word) TailOn deepest s at t f (keyword_goes endsec_word) n e h
 
 -- a piece
 
@@ -139,21 +137,21 @@ in_piece s p f e b h = record {
 }
 
 pub starts_pieces : Starts Pieces NameToken
-starts_pieces = starts_then Instances (Sign token.end) NameToken starts_instances
+starts_pieces = starts_then Instances (Terminal token.end) NameToken starts_instances
 
 pub some_pieces : Inhabited Pieces deepest
-some_pieces = some_then Instances (Sign token.end) deepest (some_instances 63) (some_sign token.end deepest)
+some_pieces = some_then Instances (Terminal token.end) deepest (some_instances 63) (some_terminal token.end deepest)
 
 pub fails_no_piece : (s : Source) (t : Placed) (f : Fault) → First s.text.now 0 t → ((n : ℕ) → t.token ≡ token.name n → ⊥) → f.at ≡ s.base + t.start → f.kind ≡ fault_kind (kind_now t.token) → Fails Pieces deepest s 0 f
 fails_no_piece s t f n h p k = fails_now Pieces deepest s 0 t f n (stuck_now Pieces NameToken deepest (shift s.base t) some_pieces starts_pieces (λ m. h m.0 m.1)) p k
 
 pub fails_piece : (s : Source) (name : ℕ) (t : Placed) (f : Fault) → First s.text.now 0 t → t.token ≡ token.name name → Fails EqualsOn deepest s t.after f → Fails Pieces deepest s 0 f
-fails_piece s name t f n e h = fails_first Instances (Sign token.end) deepest s 0 f (some_sign token.end deepest) (fails_instance s 0 name t n e f h)
+fails_piece s name t f n e h = fails_first Instances (Terminal token.end) deepest s 0 f (some_terminal token.end deepest) (fails_instance s 0 name t n e f h)
 
-pub fails_piece_end : (s : Source) (name mid : ℕ) (t : Placed) (i : Instance) (f : Fault) → First s.text.now 0 t → t.token ≡ token.name name → Covers (IsBehindName name (s.base + t.start) i) s t.after mid → Fails (Sign token.end) deepest s mid f → Fails Pieces deepest s 0 f
+pub fails_piece_end : (s : Source) (name mid : ℕ) (t : Placed) (i : Instance) (f : Fault) → First s.text.now 0 t → t.token ≡ token.name name → Covers (IsBehindName name (s.base + t.start) i) s t.after mid → Fails (Terminal token.end) deepest s mid f → Fails Pieces deepest s 0 f
 fails_piece_end s name mid t i f n e c h =
     let w : Covers (λ ts. IsInstance deepest ts i) s 0 mid = covers_named s 0 name t n e mid i c in
-    fails_second Instances (Sign token.end) deepest s 0 mid w.tokens f once_instances grows_instances w.chain (instance_into deepest w.tokens i w.are) h
+    fails_second Instances (Terminal token.end) deepest s 0 mid w.tokens f once_instances grows_instances w.chain (instance_into deepest w.tokens i w.are) h
 
 pub finishes_piece : (s : Source) (name mid : ℕ) (t end : Placed) (i : Instance) → First s.text.now 0 t → t.token ≡ token.name name → Covers (IsBehindName name (s.base + t.start) i) s t.after mid → First s.text.now mid end → end.token ≡ token.end → Finishes (λ ts. IsPiece deepest ts i) s 0
 finishes_piece s name mid t end i n q c m g =

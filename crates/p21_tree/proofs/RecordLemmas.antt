@@ -18,13 +18,13 @@ use Rattle.p21_tree.specs.Views.{plain_record}
 use Rattle.p21_tree.specs.Fault.{Kind}
 use Rattle.p21_tree.specs.Texts.{shift, fault_kind}
 use Rattle.p21_tree.specs.Languages.{Just, Then, Stuck, kind_now}
-use Rattle.p21_tree.specs.Parts.{Is, Sign, KeyToken, IsArguments, Arguments, IsKeyed, Records, MoreRecords, SomeRecords, IsSomeRecords, Complex, Form, IsForm, IsFormOf}
+use Rattle.p21_tree.specs.Parts.{Is, Terminal, KeyToken, IsArguments, Arguments, IsKeyed, Records, MoreRecords, SomeRecords, IsSomeRecords, Complex, Form, IsForm, IsFormOf}
 use Rattle.p21_tree.specs.Progress.{Covers, Fails}
 use Rattle.p21_tree.specs.Keywords.{keyword_in}
 use Rattle.p21_tree.proofs.LanguageLemmas.{stuck_second, stuck_within, stuck_now}
 use Rattle.p21_tree.proofs.Combined.{stuck_left, stuck_right, grows_just, once_just}
-use Rattle.p21_tree.proofs.PartLemmas.{some_records, some_more, some_form, some_sign, starts_keyed, starts_complex, starts_more, starts_form, starts_sign, once_keyed, grows_keyed, key_not, FormToken, MoreToken}
-use Rattle.p21_tree.proofs.Sentences.{sign, more_into, record_made, record_into}
+use Rattle.p21_tree.proofs.PartLemmas.{some_records, some_more, some_form, some_terminal, starts_keyed, starts_complex, starts_more, starts_form, starts_terminal, once_keyed, grows_keyed, key_not, FormToken, MoreToken}
+use Rattle.p21_tree.proofs.Sentences.{terminal, more_into, record_made, record_into}
 use Rattle.p21_tree.proofs.ProgressLemmas.{chain_one, chain_then, fails_behind, fails_now, fails_second, fails_after, fails_within, stuck_item, fails_again}
 
 -- the keyword
@@ -80,7 +80,7 @@ module _ (s : Source) (at left : ℕ) (t : Placed) (k : List ℕ) (first : First
 
   -- as one of several
   pub fails_one : (f : Fault) → Fails Arguments left s t.after f → Fails MoreRecords (suc left) s at f
-  fails_one f h = fails_behind Arguments MoreRecords left (suc left) s at t.after (shift s.base t ∷ []) f (chain_one s at t first (key_not_last key)) (λ b u j r. stuck_item Records (Sign token.rparen) (Is token.rparen) (suc left) (shift s.base t) b u j (some_sign token.rparen (suc left)) (starts_sign token.rparen) (λ e. key_not key (inl e)) (stuck_record b u j r)) h
+  fails_one f h = fails_behind Arguments MoreRecords left (suc left) s at t.after (shift s.base t ∷ []) f (chain_one s at t first (key_not_last key)) (λ b u j r. stuck_item Records (Terminal token.rparen) (Is token.rparen) (suc left) (shift s.base t) b u j (some_terminal token.rparen (suc left)) (starts_terminal token.rparen) (λ e. key_not key (inl e)) (stuck_record b u j r)) h
 
   -- as the whole form of an instance
   pub fails_simple : (f : Fault) → Fails Arguments left s t.after f → Fails Form (suc left) s at f
@@ -126,7 +126,7 @@ pub faults_start : (s : Source) (at mid l : ℕ) (e : Entry) (f : Fault) → Cov
 faults_start s at mid l e f c h = fails_second Records MoreRecords l s at mid c.tokens f (once_keyed KeyToken) (grows_keyed KeyToken) c.chain (record_into l c.tokens e c.are) h
 
 pub faults_go_on : (s : Source) (at mid l : ℕ) (e : Entry) (f : Fault) → Covers (λ ts. IsRecord l (symbols ts) e) s at mid → Fails MoreRecords l s mid f → Fails MoreRecords l s at f
-faults_go_on s at mid l e f c h = fails_again Records (Sign token.rparen) KeyToken (Is token.rparen) l s at mid c.tokens f (starts_keyed KeyToken) (starts_sign token.rparen) (λ x k r. key_not k.1 (inl r)) (once_keyed KeyToken) (grows_keyed KeyToken) c.chain (record_into l c.tokens e c.are) h
+faults_go_on s at mid l e f c h = fails_again Records (Terminal token.rparen) KeyToken (Is token.rparen) l s at mid c.tokens f (starts_keyed KeyToken) (starts_terminal token.rparen) (λ x k r. key_not k.1 (inl r)) (once_keyed KeyToken) (grows_keyed KeyToken) c.chain (record_into l c.tokens e c.are) h
 
 pub fails_no_more : (s : Source) (at l : ℕ) (t : Placed) (f : Fault) → First s.text.now at t → ¬ (KeyToken t.token) → t.token ≢ token.rparen → f.at ≡ s.base + t.start → f.kind ≡ fault_kind (kind_now t.token) → Fails MoreRecords l s at f
 fails_no_more s at l t f n h r p k = fails_now MoreRecords l s at t f n (stuck_now MoreRecords MoreToken l (shift s.base t) (some_more l) starts_more (λ m. elim m [ inl e ↦ r e | inr e ↦ h e ])) p k
@@ -152,7 +152,7 @@ complex_form l o ts rs e h n q s name hn hq hs =
 pub complex_language : (l : ℕ) (o : Placed) (ts : List Placed) (rs : List Entry) → o.token ≡ token.lparen → IsSomeRecords l ts rs → Form (suc l) (o ∷ ts)
 complex_language l o ts rs e h =
     let m : SomeRecords l ts = subst (λ x. SomeRecords l x) (sym h.parts) (more_into l h.body h.close rs h.are_records h.is_close) in
-    inr (record { left = l; limit_is = refl; inside = record { front = o ∷ []; back = ts; parts = refl; first = sign token.lparen l o e; second = m } })
+    inr (record { left = l; limit_is = refl; inside = record { front = o ∷ []; back = ts; parts = refl; first = terminal token.lparen l o e; second = m } })
 
 pub covers_complex : (s : Source) (at end l : ℕ) (t : Placed) (rs : List Entry) → First s.text.now at t → t.token ≡ token.lparen → Covers (λ ts. IsSomeRecords l ts rs) s t.after end → Covers (λ ts. IsFormOf (suc l) ts true rs) s at end
 covers_complex s at end l t rs n e c = record {
@@ -164,7 +164,7 @@ covers_complex s at end l t rs n e c = record {
 pub stuck_complex : (l : ℕ) (t : Placed) (b : List Placed) (u : Placed) (j : Kind) → t.token ≡ token.lparen → Stuck SomeRecords l b u j → Stuck Form (suc l) (t ∷ b) u j
 stuck_complex l t b u j e h =
     stuck_right Records Complex KeyToken (suc l) t b u j (starts_keyed KeyToken) (λ k. key_not k.1 (inr e))
-    (stuck_within (Then (Sign token.lparen) SomeRecords) l (t ∷ b) u j (stuck_second (Sign token.lparen) SomeRecords l (t ∷ []) b u j (once_just (Is token.lparen)) (grows_just (Is token.lparen)) (record { token = t; alone = refl; fits = e }) h))
+    (stuck_within (Then (Terminal token.lparen) SomeRecords) l (t ∷ b) u j (stuck_second (Terminal token.lparen) SomeRecords l (t ∷ []) b u j (once_just (Is token.lparen)) (grows_just (Is token.lparen)) (record { token = t; alone = refl; fits = e }) h))
 
 pub fails_complex : (s : Source) (at l : ℕ) (t : Placed) (f : Fault) → First s.text.now at t → t.token ≡ token.lparen → Fails SomeRecords l s t.after f → Fails Form (suc l) s at f
 fails_complex s at l t f n e h = fails_behind SomeRecords Form l (suc l) s at t.after (shift s.base t ∷ []) f (chain_one s at t n (open_not_last t.token e)) (λ b u j r. stuck_complex l (shift s.base t) b u j e r) h

@@ -10,10 +10,10 @@ use Rattle.p21_tree.specs.Sentence.{Instance, Opening, File, IsEntities, IsRecor
 use Rattle.p21_tree.specs.Sentence as sentence
 use Rattle.p21_tree.specs.Fault.{files, pieces}
 use Rattle.p21_tree.specs.Languages.{stop, again}
-use Rattle.p21_tree.specs.Parts.{IsClosed, Sign, KeyToken, EntityKey, Keyed, Records, MoreRecords, SomeRecords, Complex, Form, Instances, EntityRecords, Entities, HeaderEnd, HeaderRest, Prefaces, Tails, Bodies, Files, Pieces}
+use Rattle.p21_tree.specs.Parts.{IsClosed, Terminal, KeyToken, EntityKey, Keyed, Records, MoreRecords, SomeRecords, Complex, Form, Instances, EntityRecords, Entities, HeaderEnd, HeaderRest, Prefaces, Tails, Bodies, Files, Pieces}
 
-pub sign : (s : Symbol) (l : ℕ) (t : Placed) → t.token ≡ s → Sign s l (t ∷ [])
-sign s l t e = record { token = t; alone = refl; fits = e }
+pub terminal : (s : Symbol) (l : ℕ) (t : Placed) → t.token ≡ s → Terminal s l (t ∷ [])
+terminal s l t e = record { token = t; alone = refl; fits = e }
 
 -- what a record's tokens are
 pub record RecordParts (limit : ℕ) (ts : List Symbol) (e : Entry) : Type 0 where
@@ -59,7 +59,7 @@ keyed_into K l ts e h keys =
           front = q.two ∷ [];
           back = q.others;
           parts = refl;
-          first = sign token.lparen p.left q.two q.second;
+          first = terminal token.lparen p.left q.two q.second;
           second = (e.params, record { inner = p.tokens; parts = q.behind; params = p.params });
         };
       };
@@ -120,7 +120,7 @@ pub entities_into : (l : ℕ) (a b : List Placed) (es : List Entry) → IsEntiti
 entities_into l a b es sentence.none h = stop h
 entities_into l a b es (sentence.more ts s {rest} {e} {es = others} r n f is) h =
     again (ts ++ s ∷ []) (rest ++ b) (append_assoc ts (s ∷ rest) b ∙ sym (append_assoc ts (s ∷ []) (rest ++ b)))
-    (record { front = ts; back = s ∷ []; parts = refl; first = entity_into l ts e r n; second = sign token.semi l s f })
+    (record { front = ts; back = s ∷ []; parts = refl; first = entity_into l ts e r n; second = terminal token.semi l s f })
     (entities_into l rest b others is h)
 
 -- what stands between the header's first semicolon and its end
@@ -148,7 +148,7 @@ entities_back l ts (again front back e p h) =
 -- records of a complex instance
 
 pub more_into : (l : ℕ) (a : List Placed) (c : Placed) (rs : List Entry) → IsRecords l a rs → c.token ≡ token.rparen → SomeRecords l (a ++ c ∷ [])
-more_into l a c rs (sentence.one ts {r} h) e = record { front = a; back = c ∷ []; parts = refl; first = record_into l a r h; second = stop (sign token.rparen l c e) }
+more_into l a c rs (sentence.one ts {r} h) e = record { front = a; back = c ∷ []; parts = refl; first = record_into l a r h; second = stop (terminal token.rparen l c e) }
 more_into l a c rs (sentence.more ts {rest} {r} {rs = others} h is) e =
     let m : SomeRecords l (rest ++ c ∷ []) = more_into l rest c others is e in
     record { front = ts; back = rest ++ c ∷ []; parts = append_assoc ts rest (c ∷ []); first = record_into l ts r h; second = again m.front m.back m.parts m.first m.second }
@@ -182,8 +182,8 @@ form_into l n e form s name hn he h hs = record {
     front = e ∷ [];
     back = form ++ s ∷ [];
     parts = refl;
-    first = sign token.equals l e he;
-    second = record { front = form; back = s ∷ []; parts = refl; first = h; second = sign token.semi l s hs };
+    first = terminal token.equals l e he;
+    second = record { front = form; back = s ∷ []; parts = refl; first = h; second = terminal token.semi l s hs };
   };
 }
 
@@ -191,7 +191,7 @@ pub instance_into : (l : ℕ) (ts : List Placed) (i : Instance) → IsInstance l
 instance_into l ts i (sentence.simple {limit} {name} n e rs s {r} hn he h hs) = form_into l n e rs s name hn he (inl (record_into l rs r h)) hs
 instance_into l ts i (sentence.complex {left} {name} {ts = body} n e o c s {rs} hn he ho h hc hs) =
     let m : SomeRecords left (body ++ c ∷ []) = more_into left body c rs h hc in
-    let k : Complex (suc left) (o ∷ (body ++ c ∷ [])) = record { left = left; limit_is = refl; inside = record { front = o ∷ []; back = body ++ c ∷ []; parts = refl; first = sign token.lparen left o ho; second = m } } in
+    let k : Complex (suc left) (o ∷ (body ++ c ∷ [])) = record { left = left; limit_is = refl; inside = record { front = o ∷ []; back = body ++ c ∷ []; parts = refl; first = terminal token.lparen left o ho; second = m } } in
     subst (λ x. Instances (suc left) (n ∷ e ∷ o ∷ x)) (append_assoc body (c ∷ []) (s ∷ [])) (form_into (suc left) n e (o ∷ (body ++ c ∷ [])) s name hn he (inr k) hs)
 
 pub form_back : (l : ℕ) (n e : Placed) (form : List Placed) (s : Placed) (name : ℕ) → n.token ≡ token.name name → e.token ≡ token.equals → Form l form → s.token ≡ token.semi → (i : Instance) × IsInstance l (n ∷ e ∷ (form ++ s ∷ [])) i
@@ -223,18 +223,18 @@ tail_into l ts (sentence.made endsec s1 end_iso s2 end a b c d e) = record {
   front = endsec ∷ [];
   back = s1 ∷ end_iso ∷ s2 ∷ end ∷ [];
   parts = refl;
-  first = sign (token.keyword endsec_word) l endsec a;
+  first = terminal (token.keyword endsec_word) l endsec a;
   second = record {
     front = s1 ∷ [];
     back = end_iso ∷ s2 ∷ end ∷ [];
     parts = refl;
-    first = sign token.semi l s1 b;
+    first = terminal token.semi l s1 b;
     second = record {
       front = end_iso ∷ [];
       back = s2 ∷ end ∷ [];
       parts = refl;
-      first = sign token.end_iso l end_iso c;
-      second = record { front = s2 ∷ []; back = end ∷ []; parts = refl; first = sign token.semi l s2 d; second = sign token.end l end e };
+      first = terminal token.end_iso l end_iso c;
+      second = record { front = s2 ∷ []; back = end ∷ []; parts = refl; first = terminal token.semi l s2 d; second = terminal token.end l end e };
     };
   };
 }
@@ -256,13 +256,13 @@ header_end l endsec s3 data_ s4 a b c d = record {
   front = endsec ∷ [];
   back = s3 ∷ data_ ∷ s4 ∷ [];
   parts = refl;
-  first = sign (token.keyword endsec_word) l endsec a;
+  first = terminal (token.keyword endsec_word) l endsec a;
   second = record {
     front = s3 ∷ [];
     back = data_ ∷ s4 ∷ [];
     parts = refl;
-    first = sign token.semi l s3 b;
-    second = record { front = data_ ∷ []; back = s4 ∷ []; parts = refl; first = sign (token.keyword data_word) l data_ c; second = sign token.semi l s4 d };
+    first = terminal token.semi l s3 b;
+    second = record { front = data_ ∷ []; back = s4 ∷ []; parts = refl; first = terminal (token.keyword data_word) l data_ c; second = terminal token.semi l s4 d };
   };
 }
 
@@ -271,22 +271,22 @@ preface_into l ts o (sentence.made iso s1 header s2 body endsec s3 data_ s4 {es}
   front = iso ∷ [];
   back = s1 ∷ header ∷ s2 ∷ (body ++ endsec ∷ s3 ∷ data_ ∷ s4 ∷ []);
   parts = refl;
-  first = sign token.iso l iso a;
+  first = terminal token.iso l iso a;
   second = record {
     front = s1 ∷ [];
     back = header ∷ s2 ∷ (body ++ endsec ∷ s3 ∷ data_ ∷ s4 ∷ []);
     parts = refl;
-    first = sign token.semi l s1 b;
+    first = terminal token.semi l s1 b;
     second = record {
       front = header ∷ [];
       back = s2 ∷ (body ++ endsec ∷ s3 ∷ data_ ∷ s4 ∷ []);
       parts = refl;
-      first = sign (token.keyword header_word) l header c;
+      first = terminal (token.keyword header_word) l header c;
       second = record {
         front = s2 ∷ [];
         back = body ++ endsec ∷ s3 ∷ data_ ∷ s4 ∷ [];
         parts = refl;
-        first = sign token.semi l s2 d;
+        first = terminal token.semi l s2 d;
         second = entities_into l body (endsec ∷ s3 ∷ data_ ∷ s4 ∷ []) es is (header_end l endsec s3 data_ s4 e f g h);
       };
     };
@@ -340,7 +340,7 @@ file_back l ts h =
     (record { opening = o.0; instances = b.instances }, record { opening = h.front; body = b.body; tail = b.rest; parts = h.parts ∙ ap (λ x. h.front ++ x) b.parts; is_opening = o.1; are_instances = b.are_instances; is_tail = b.is_tail })
 
 pub piece_into : (l : ℕ) (ts : List Placed) → pieces l ts → Pieces l ts
-piece_into l ts h = record { front = h.1.body; back = h.1.end ∷ []; parts = h.1.parts; first = instance_into l h.1.body h.0 h.1.is_instance; second = sign token.end l h.1.end h.1.is_end }
+piece_into l ts h = record { front = h.1.body; back = h.1.end ∷ []; parts = h.1.parts; first = instance_into l h.1.body h.0 h.1.is_instance; second = terminal token.end l h.1.end h.1.is_end }
 
 pub piece_back : (l : ℕ) (ts : List Placed) → Pieces l ts → pieces l ts
 piece_back l ts h =

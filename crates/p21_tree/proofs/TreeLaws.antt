@@ -7,12 +7,16 @@ use Rattle.p21_tree.specs.Grammar.{Entry, IsKey, IsRecord}
 use Rattle.p21_tree.specs.Grammar as grammar
 use Rattle.p21_tree.specs.Sentence.{Instance, Opening, File, IsEntities, IsRecords, IsInstance, IsInstances, IsPreface, IsTail, IsPiece, IsFile, deepest, header_word, endsec_word, data_word}
 use Rattle.p21_tree.specs.Sentence as sentence
-use Rattle.p21_tree.specs.Parts.{KeyToken}
-use Rattle.p21_tree.specs.Laws.{HasOneTree}
-use Rattle.p21_tree.proofs.LanguageLemmas.{cancel}
+use Rattle.p21_tree.specs.Fault.{instances, prefaces}
+use Rattle.p21_tree.specs.Languages.{Language}
+use Rattle.p21_tree.specs.Parts.{Is, Terminal, KeyToken, NameToken, Instances, Prefaces, EndIsoOn, EndIsos, TailOn, Tails, Bodies, Files, Pieces}
+use Rattle.p21_tree.specs.Laws.{HasOneTree, NoneBeginsAnother}
+use Rattle.p21_tree.proofs.LanguageLemmas.{Once, cancel}
+use Rattle.p21_tree.proofs.Combined.{once_then, once_many}
+use Rattle.p21_tree.proofs.DataLemmas.{names_apart}
 use Rattle.p21_tree.proofs.ParamFaults.{closed_both}
-use Rattle.p21_tree.proofs.PartLemmas.{once_keyed, once_instances, once_entities, once_prefaces}
-use Rattle.p21_tree.proofs.Sentences.{RecordParts, record_parts, TwoTokens, two_tokens, record_into, entity_into, instance_into, preface_into, sign}
+use Rattle.p21_tree.proofs.PartLemmas.{starts_instances, starts_tails, once_terminal, once_keyed, once_instances, once_entities, once_prefaces}
+use Rattle.p21_tree.proofs.Sentences.{RecordParts, record_parts, TwoTokens, two_tokens, record_into, entity_into, instance_into, preface_into, terminal}
 
 pub keys_agree : {s : Symbol} {j k : List ℕ} → IsKey s j → IsKey s k → j ≡ k
 keys_agree grammar.standard grammar.standard = refl
@@ -158,8 +162,8 @@ header_once a c es fs e g x y (sentence.more us s {rest} {e = d} r n k is) sente
 header_once a c es fs e g x y (sentence.more us s {rest} {e = d} {es = others} r n k is) (sentence.more vs t {rest = rest'} {e = f} {es = others'} u o w js) p q h =
     let i : (us ++ s ∷ []) ++ (rest ++ e ∷ x) ≡ (vs ++ t ∷ []) ++ (rest' ++ g ∷ y) = append_assoc us (s ∷ []) (rest ++ e ∷ x) ∙ (sym (append_assoc us (s ∷ rest) (e ∷ x)) ∙ (h ∙ (append_assoc vs (t ∷ rest') (g ∷ y) ∙ sym (append_assoc vs (t ∷ []) (rest' ++ g ∷ y))))) in
     let j : us ++ s ∷ [] ≡ vs ++ t ∷ [] = once_entities deepest deepest (us ++ s ∷ []) (vs ++ t ∷ []) (rest ++ e ∷ x) (rest' ++ g ∷ y)
-    (record { front = us; back = s ∷ []; parts = refl; first = entity_into deepest us d r n; second = sign token.semi deepest s k })
-    (record { front = vs; back = t ∷ []; parts = refl; first = entity_into deepest vs f u o; second = sign token.semi deepest t w }) i in
+    (record { front = us; back = s ∷ []; parts = refl; first = entity_into deepest us d r n; second = terminal token.semi deepest s k })
+    (record { front = vs; back = t ∷ []; parts = refl; first = entity_into deepest vs f u o; second = terminal token.semi deepest t w }) i in
     let b : rest ++ e ∷ x ≡ rest' ++ g ∷ y = cancel (us ++ s ∷ []) (rest ++ e ∷ x) (rest' ++ g ∷ y) (i ∙ ap (λ z. z ++ (rest' ++ g ∷ y)) (sym j)) in
     let v : us ≡ vs = (snoc_same us vs s t j).0 in
     let z : (others ≡ others') × (e ∷ x ≡ g ∷ y) = header_once rest rest' others others' e g x y is js p q b in
@@ -230,3 +234,23 @@ file_once ts f g p q =
 
 pub one_tree : HasOneTree
 one_tree ts = (file_once ts, λ o p h k. preface_once ts o p (preface_parts h) (preface_parts k), piece_once ts)
+
+-- no sentence is a proper beginning of another
+
+pub once_tails : Once Tails
+once_tails = once_then (Terminal (token.keyword endsec_word)) TailOn (once_terminal (token.keyword endsec_word)) (once_then (Terminal token.semi) EndIsos (once_terminal token.semi) (once_then (Terminal token.end_iso) EndIsoOn (once_terminal token.end_iso) (once_then (Terminal token.semi) (Terminal token.end) (once_terminal token.semi) (once_terminal token.end))))
+
+pub once_files : Once Files
+once_files = once_then Prefaces Bodies once_prefaces (λ l m a c x y p q e. once_many Instances Tails NameToken (Is (token.keyword endsec_word)) l m a c x y starts_instances starts_tails names_apart once_instances once_tails p q e)
+
+pub once_pieces : Once Pieces
+once_pieces = once_then Instances (Terminal token.end) once_instances (once_terminal token.end)
+
+pub preface_language : (l : ℕ) (ts : List Placed) → prefaces l ts → Prefaces l ts
+preface_language l ts h = preface_into l ts h.0 h.1
+
+pub instance_language : (l : ℕ) (ts : List Placed) → instances l ts → Instances l ts
+instance_language l ts h = instance_into l ts h.0 h.1
+
+pub none_begins_another : (L M : Language) → ((l : ℕ) (ts : List Placed) → L l ts → M l ts) → Once M → NoneBeginsAnother L
+none_begins_another L M into one ts rest p q = empty_back ts rest (one deepest deepest ts (ts ++ rest) rest [] (into deepest ts p) (into deepest (ts ++ rest) q) (sym (append-nil (ts ++ rest))))

@@ -4,7 +4,7 @@ use Rattle.p21_text.specs.Spelling.{Symbol}
 use Rattle.p21_text.specs.Spelling as token
 use Rattle.p21_text.specs.Tokens.{Placed, IsLast, symbols}
 use Rattle.p21_tree.specs.Fault.{Begins, Kind, bad_token, unexpected, truncated, too_deep}
-use Rattle.p21_tree.specs.Languages.{Language, Just, Then, Either, Within, Many, stop, again, Why, Stuck, kind_now}
+use Rattle.p21_tree.specs.Languages.{Language, Just, Then, Either, Within, Many, stop, Why, Stuck, kind_now}
 use Rattle.p21_tree.specs.Parts.{IsClosed, Closed}
 use Rattle.p21_tree.specs.Machine.{State, Step, Answer, go, closed, refused, deep, going, ended, fault, next, step, run, start}
 use Rattle.p21_tree.proofs.LanguageLemmas.{Inhabited, Grows, Once, FirstIs, Starts, begins_then, begins_both, stuck_first, stuck_second, stuck_same, stuck_within, stuck_now, begins_same, begins_within, empty_front}
@@ -12,34 +12,14 @@ use Rattle.p21_tree.proofs.Combined.{Apart, blank, left_begins, begins_left, stu
 use Rattle.p21_tree.proofs.ParamFaults.{run_next, run_none, going_begins, stuck_refused, stuck_deep}
 use Rattle.p21_tree.proofs.Closing.{ended_closed}
 use Rattle.p21_tree.proofs.ArgumentLemmas.{go_not_last}
+use Rattle.p21_tree.proofs.Avoiding.{NoneOf, Avoids, none_append}
 
 -- none of the tokens is End or Bad
 abbrev pub AllGo : List Placed → Type 0
-AllGo [] = Unit {0}
-AllGo (t ∷ ts) = (¬ (IsLast t.token)) × AllGo ts
+AllGo = NoneOf IsLast
 
 abbrev pub Goes : Language → Type 0
-Goes L = (m : ℕ) (ts : List Placed) → L m ts → AllGo ts
-
-pub go_append : (a b : List Placed) → AllGo a → AllGo b → AllGo (a ++ b)
-go_append [] b p q = q
-go_append (t ∷ a) b p q = (p.0, go_append a b p.1 q)
-
-pub goes_just : (T : Symbol → Type 0) → ((s : Symbol) → T s → ¬ (IsLast s)) → Goes (Just T)
-goes_just T f m ts h = subst AllGo (sym h.alone) (f h.token.token h.fits, tt)
-
-pub goes_then : (P Q : Language) → Goes P → Goes Q → Goes (Then P Q)
-goes_then P Q p q m ts h = subst AllGo (sym h.parts) (go_append h.front h.back (p m h.front h.first) (q m h.back h.second))
-
-pub goes_either : (P Q : Language) → Goes P → Goes Q → Goes (Either P Q)
-goes_either P Q p q m ts h = elim h [ inl x ↦ p m ts x | inr x ↦ q m ts x ]
-
-pub goes_within : (P : Language) → Goes P → Goes (Within P)
-goes_within P p m ts h = p h.left ts h.inside
-
-pub goes_many : (P Q : Language) (m : ℕ) (ts : List Placed) → Goes P → Goes Q → Many P Q m ts → AllGo ts
-goes_many P Q m ts p q (stop h) = q m ts h
-goes_many P Q m ts p q (again front back e x h) = subst AllGo (sym e) (go_append front back (p m front x) (goes_many P Q m back p q h))
+Goes = Avoids IsLast
 
 pub data Verdict (L : ℕ → List Placed → Type 0) (l : ℕ) (ts : List Placed) : Type 0 where
   reads : (front rest : List Placed) → ts ≡ front ++ rest → L l front → Verdict L l ts
@@ -49,7 +29,7 @@ pub data Verdict (L : ℕ → List Placed → Type 0) (l : ℕ) (ts : List Place
 pub behind_verdict : (P Q : Language) (l : ℕ) (ts front rest : List Placed) → Once P → Grows P → Goes P → ts ≡ front ++ rest → P l front → Verdict Q l rest → Verdict (Then P Q) l ts
 behind_verdict P Q l ts front rest one grows goes e p (reads f r g q) = reads (front ++ f) r (e ∙ (ap (λ x. front ++ x) g ∙ sym (append_assoc front f r))) (record { front = front; back = f; parts = refl; first = p; second = q })
 behind_verdict P Q l ts front rest one grows goes e p (leaves b t r k g s) = leaves (front ++ b) t r k (e ∙ (ap (λ x. front ++ x) g ∙ sym (append_assoc front b (t ∷ r)))) (stuck_second P Q l front b t k one grows p s)
-behind_verdict P Q l ts front rest one grows goes e p (begins g h) = begins (subst AllGo (sym e) (go_append front rest (goes l front p) g)) (subst (λ x. Begins (Then P Q) l x) (sym e) (begins_both P Q l front rest p h))
+behind_verdict P Q l ts front rest one grows goes e p (begins g h) = begins (subst AllGo (sym e) (none_append IsLast front rest (goes l front p) g)) (subst (λ x. Begins (Then P Q) l x) (sym e) (begins_both P Q l front rest p h))
 
 pub then_verdict : (P Q : Language) (l : ℕ) (ts : List Placed) → Inhabited Q l → Once P → Grows P → Goes P → Verdict P l ts → ((front rest : List Placed) → ts ≡ front ++ rest → P l front → Verdict Q l rest) → Verdict (Then P Q) l ts
 then_verdict P Q l ts q one grows goes (reads front rest e p) next_ = behind_verdict P Q l ts front rest one grows goes e p (next_ front rest e p)

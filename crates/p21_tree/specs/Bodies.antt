@@ -1,16 +1,12 @@
 -- Trees whose strings and binaries hold the bodies of such tokens.
-use Rattle.std.proofs.Common.{ℕ, zero, suc, ◌<◌, List, [], ◌∷◌, length, get_or, arith}
-use Rattle.p21_tree.specs.Plain.{plain, plain_all}
+use Rattle.std.specs.Prelude.{List, All}
+use Rattle.p21_tree.specs.Plain.{plain}
 use Rattle.p21_tree.specs.declared.params.Param.{Param}
 use mathlib.Core.HLevel.{Unit-prop, ×_prop}
 use mathlib.Core.Logic.{∥∥₁_prop}
 use Rattle.p21_text.specs.Items.{IsBody}
-use Rattle.p21_text.specs.Spelling.{IsBinary}
+use Rattle.p21_text.specs.Spelling.{IsBinaryBody}
 use Rattle.p21_tree.specs.Tree.{Tree, Trees, absent, derived, int, real, str, enumeration, binary, reference, items, typed, nil, cons}
-
--- the digits of a binary
-abbrev pub IsBinaryBody : List ℕ → Type 0
-IsBinaryBody text = ∥ IsBinary text ∥₁
 
 abbrev mutual
   -- each string and binary of a tree holds the body of such a token
@@ -49,8 +45,10 @@ mutual
   HaveBodies-prop nil = Unit-prop
   HaveBodies-prop (cons t ts) = ×_prop (HasBodies-prop t) (HaveBodies-prop ts)
 
--- a parameter of a list of which it is known
-pub bodies_at : (ps : List Param) (k : ℕ) (d : Param) → k < length ps → HaveBodies (plain_all ps) → HasBodies (plain (get_or ps k d))
-bodies_at [] k d h bs = absurd (omega arith)
-bodies_at (p ∷ ps) zero d h bs = bs.0
-bodies_at (p ∷ ps) (suc k) d h bs = bodies_at ps k d (omega arith) bs.1
+-- each of some parameters holds such bodies
+abbrev pub AllHaveBodies : List Param → Type 0
+AllHaveBodies ps = All (λ p. HasBodies (plain p)) ps
+
+-- there is at most one proof of it
+pub AllHaveBodies-prop : (ps : List Param) → IsProp (AllHaveBodies ps)
+AllHaveBodies-prop ps = hlevel HasBodies-prop

@@ -3,13 +3,16 @@
 use Rattle.std.specs.Prelude.{◌≡◌, ◌≢◌, ℕ, List, [], ◌∷◌, ◌++◌}
 use Rattle.p21_text.specs.Spelling as token
 use Rattle.p21_text.specs.Tokens.{Placed}
-use Rattle.p21_tree.specs.Sentence.{File, Opening, Instance, IsFile, IsPreface, IsPiece, IsTail, deepest}
+use Rattle.p21_tree.specs.Sentence.{File, Opening, Instance, IsFile, IsPreface, IsInstance, IsPiece, IsTail, deepest}
 
 abbrev pub files : ℕ → List Placed → Type 0
 files limit tokens = (f : File) × IsFile limit tokens f
 
 abbrev pub prefaces : ℕ → List Placed → Type 0
 prefaces limit tokens = (o : Opening) × IsPreface limit tokens o
+
+abbrev pub instances : ℕ → List Placed → Type 0
+instances limit tokens = (i : Instance) × IsInstance limit tokens i
 
 abbrev pub pieces : ℕ → List Placed → Type 0
 pieces limit tokens = (i : Instance) × IsPiece limit tokens i

@@ -10,7 +10,8 @@ pub mod Machine
 pub mod Languages
 pub mod Parts
 pub mod Opened
-pub mod Signs
+pub mod Terminals
 pub mod Keywords
 pub mod Progress
 pub mod Laws
+pub mod InOrder

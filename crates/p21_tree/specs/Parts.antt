@@ -22,8 +22,8 @@ Closed left ts = (found : Trees) × IsClosed left (symbols ts) found
 abbrev pub Is : Symbol → Symbol → Type 0
 Is s t = t ≡ s
 
-abbrev pub Sign : Symbol → ℕ → List Placed → Type 0
-Sign s = Just (Is s)
+abbrev pub Terminal : Symbol → ℕ → List Placed → Type 0
+Terminal s = Just (Is s)
 
 -- KEY
 abbrev pub KeyToken : Symbol → Type 0
@@ -35,7 +35,7 @@ EntityKey s = KeyToken s × (s ≢ token.keyword endsec_word)
 
 -- '(' [ params ] ')', where its own parenthesis is not counted
 abbrev pub Arguments : ℕ → List Placed → Type 0
-Arguments = Then (Sign token.lparen) Closed
+Arguments = Then (Terminal token.lparen) Closed
 
 -- the tokens are such parameters in their parentheses
 pub record IsArguments (left : ℕ) (ts : List Placed) (found : Trees) : Type 0 where
@@ -59,7 +59,7 @@ Records = Keyed KeyToken
 
 -- { rec } ')'
 abbrev pub MoreRecords : ℕ → List Placed → Type 0
-MoreRecords = Many Records (Sign token.rparen)
+MoreRecords = Many Records (Terminal token.rparen)
 
 -- rec { rec } ')'
 abbrev pub SomeRecords : ℕ → List Placed → Type 0
@@ -75,13 +75,13 @@ pub record IsSomeRecords (limit : ℕ) (ts : List Placed) (rs : List Entry) : Ty
 
 -- '(' rec { rec } ')'
 abbrev pub Complex : ℕ → List Placed → Type 0
-Complex = Within (Then (Sign token.lparen) SomeRecords)
+Complex = Within (Then (Terminal token.lparen) SomeRecords)
 
 -- rec | '(' rec { rec } ')'
 abbrev pub Form : ℕ → List Placed → Type 0
 Form = Either Records Complex
 
--- such tokens, between a name, an equals sign and a semicolon, make an instance
+-- such tokens, between a name, an equals terminal and a semicolon, make an instance
 abbrev pub IsForm : ℕ → List Placed → Bool → List Entry → Type 0
 IsForm limit ts complex rs = (n e s : Placed) (name : ℕ) → n.token ≡ token.name name → e.token ≡ token.equals → s.token ≡ token.semi → IsInstance limit (n ∷ e ∷ (ts ++ s ∷ [])) (record { name = name; at = n.start; complex = complex; records = rs })
 
@@ -95,11 +95,11 @@ NameToken s = (n : ℕ) × (s ≡ token.name n)
 
 -- ( rec | '(' rec { rec } ')' ) ';'
 abbrev pub FormOn : ℕ → List Placed → Type 0
-FormOn = Then Form (Sign token.semi)
+FormOn = Then Form (Terminal token.semi)
 
 -- '=' ( rec | '(' rec { rec } ')' ) ';'
 abbrev pub EqualsOn : ℕ → List Placed → Type 0
-EqualsOn = Then (Sign token.equals) FormOn
+EqualsOn = Then (Terminal token.equals) FormOn
 
 -- Name '=' ( rec | '(' rec { rec } ')' ) ';'
 abbrev pub Instances : ℕ → List Placed → Type 0
@@ -115,11 +115,11 @@ EntityRecords = Keyed EntityKey
 
 -- entity = KEY '(' [ params ] ')' ';'
 abbrev pub Entities : ℕ → List Placed → Type 0
-Entities = Then EntityRecords (Sign token.semi)
+Entities = Then EntityRecords (Terminal token.semi)
 
 -- the rest of a header entity behind its keyword, where its own parenthesis is not counted
 abbrev pub EntityRest : ℕ → List Placed → Type 0
-EntityRest = Then Arguments (Sign token.semi)
+EntityRest = Then Arguments (Terminal token.semi)
 
 -- such tokens behind a keyword make a header entity
 pub record IsBehindKey (k : List ℕ) (e : Entry) (ts : List Placed) : Type 0 where
@@ -139,15 +139,15 @@ pub record IsHeaderBody (ts : List Placed) (es : List Entry) : Type 0 where
 
 -- DATA ';'
 abbrev pub DataOn : ℕ → List Placed → Type 0
-DataOn = Then (Sign (token.keyword data_word)) (Sign token.semi)
+DataOn = Then (Terminal (token.keyword data_word)) (Terminal token.semi)
 
 -- ';' DATA ';'
 abbrev pub EndsecOn : ℕ → List Placed → Type 0
-EndsecOn = Then (Sign token.semi) DataOn
+EndsecOn = Then (Terminal token.semi) DataOn
 
 -- ENDSEC ';' DATA ';'
 abbrev pub HeaderEnd : ℕ → List Placed → Type 0
-HeaderEnd = Then (Sign (token.keyword endsec_word)) EndsecOn
+HeaderEnd = Then (Terminal (token.keyword endsec_word)) EndsecOn
 
 -- { entity } ENDSEC ';' DATA ';'
 abbrev pub HeaderRest : ℕ → List Placed → Type 0
@@ -155,15 +155,15 @@ HeaderRest = Many Entities HeaderEnd
 
 -- ';' { entity } ENDSEC ';' DATA ';'
 abbrev pub HeaderOn : ℕ → List Placed → Type 0
-HeaderOn = Then (Sign token.semi) HeaderRest
+HeaderOn = Then (Terminal token.semi) HeaderRest
 
 -- HEADER ';' { entity } ENDSEC ';' DATA ';'
 abbrev pub Headers : ℕ → List Placed → Type 0
-Headers = Then (Sign (token.keyword header_word)) HeaderOn
+Headers = Then (Terminal (token.keyword header_word)) HeaderOn
 
 -- ';' HEADER ';' { entity } ENDSEC ';' DATA ';'
 abbrev pub IsoOn : ℕ → List Placed → Type 0
-IsoOn = Then (Sign token.semi) Headers
+IsoOn = Then (Terminal token.semi) Headers
 
 -- the tokens are Iso ';' HEADER ';'
 pub record IsOpening (ts : List Placed) (header_at : ℕ) : Type 0 where
@@ -191,23 +191,23 @@ pub record IsDataStart (ts : List Placed) (data_at : ℕ) : Type 0 where
 
 -- Iso ';' HEADER ';' { entity } ENDSEC ';' DATA ';'
 abbrev pub Prefaces : ℕ → List Placed → Type 0
-Prefaces = Then (Sign token.iso) IsoOn
+Prefaces = Then (Terminal token.iso) IsoOn
 
 -- ';' End
 abbrev pub EndIsoOn : ℕ → List Placed → Type 0
-EndIsoOn = Then (Sign token.semi) (Sign token.end)
+EndIsoOn = Then (Terminal token.semi) (Terminal token.end)
 
 -- EndIso ';' End
 abbrev pub EndIsos : ℕ → List Placed → Type 0
-EndIsos = Then (Sign token.end_iso) EndIsoOn
+EndIsos = Then (Terminal token.end_iso) EndIsoOn
 
 -- ';' EndIso ';' End
 abbrev pub TailOn : ℕ → List Placed → Type 0
-TailOn = Then (Sign token.semi) EndIsos
+TailOn = Then (Terminal token.semi) EndIsos
 
 -- ENDSEC ';' EndIso ';' End
 abbrev pub Tails : ℕ → List Placed → Type 0
-Tails = Then (Sign (token.keyword endsec_word)) TailOn
+Tails = Then (Terminal (token.keyword endsec_word)) TailOn
 
 -- such tokens behind ENDSEC make a tail
 abbrev pub IsBehindEndsec : List Placed → Type 0
@@ -230,4 +230,4 @@ Files = Then Prefaces Bodies
 
 -- an instance up to the end of its text
 abbrev pub Pieces : ℕ → List Placed → Type 0
-Pieces = Then Instances (Sign token.end)
+Pieces = Then Instances (Terminal token.end)

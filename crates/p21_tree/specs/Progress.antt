@@ -3,8 +3,6 @@ use Rattle.std.specs.Prelude.{◌≡◌, ℕ, ◌+◌, List}
 use Rattle.p21_text.specs.Tokens.{Placed, First, Tokens, TokensUpTo}
 use Rattle.p21_tree.specs.declared.source.Source.{Source}
 use Rattle.p21_tree.specs.declared.faults.Fault.{Fault}
-use Rattle.p21_tree.specs.declared.faults.TreeError.{TreeError}
-use Rattle.p21_tree.specs.declared.faults.TreeError.TheVariants as error
 use Rattle.p21_tree.specs.Fault.{Kind}
 use Rattle.p21_tree.specs.Texts.{shift, shifted, fault_kind}
 use Rattle.p21_tree.specs.Languages.{Stuck}
@@ -40,8 +38,3 @@ pub record Fails (L : ℕ → List Placed → Type 0) (limit : ℕ) (s : Source)
   pub stuck : Stuck L limit before (shift s.base token) kind
   pub place_is : fault.at ≡ s.base + token.start
   pub kind_is : fault.kind ≡ fault_kind kind
-
--- a fact for a grammar fault
-abbrev pub OnGrammar : TreeError → (Fault → Type 0) → Type 0
-OnGrammar (error.Grammar fault) P = P fault
-OnGrammar error.Memory P = Unit {0}

@@ -4,6 +4,8 @@ use Rattle.p21_text.specs.Tokens.{Placed, First, Tokens, TokensUpTo}
 use Rattle.p21_tree.specs.declared.faults.Fault.{Fault}
 use Rattle.p21_tree.specs.declared.faults.FaultKind.{FaultKind}
 use Rattle.p21_tree.specs.declared.faults.FaultKind.TheVariants as variants
+use Rattle.p21_tree.specs.declared.faults.TreeError.{TreeError}
+use Rattle.p21_tree.specs.declared.faults.TreeError.TheVariants as error
 use Rattle.p21_tree.specs.declared.pieces.Piece.{Piece}
 use Rattle.p21_tree.specs.Sentence.{Instance, Opening, IsFile, IsPreface, IsPiece, IsTail, deepest}
 use Rattle.p21_tree.specs.Fault.{Kind, bad_token, unexpected, truncated, too_deep, IsFault, files, prefaces, pieces}
@@ -14,6 +16,11 @@ fault_kind bad_token = variants.BadToken
 fault_kind unexpected = variants.Unexpected
 fault_kind truncated = variants.Truncated
 fault_kind too_deep = variants.TooDeep
+
+-- a fact for a grammar fault
+abbrev pub OnGrammar : TreeError → (Fault → Type 0) → Type 0
+OnGrammar (error.Grammar fault) P = P fault
+OnGrammar error.Memory P = Unit {0}
 
 -- the tokens of the text are a file
 abbrev pub IsFileText : List ℕ → Opening → List Instance → Type 0

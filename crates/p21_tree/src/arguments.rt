@@ -4,22 +4,23 @@ ghost use Rattle.std.specs.Prelude.{ℕ, ◌≡◌, ◌≤◌, length, IfOk, IfE
 ghost use Rattle.p21_text.specs.Tokens.{symbols};
 ghost use Rattle.p21_tree.specs.Plain.{plain_all};
 ghost use Rattle.p21_tree.specs.Parts.{Closed, Arguments, IsClosed, IsArguments};
-ghost use Rattle.p21_tree.specs.Progress.{Covers, Fails, OnGrammar};
+ghost use Rattle.p21_tree.specs.Progress.{Covers, Fails};
+ghost use Rattle.p21_tree.specs.Texts.{OnGrammar};
 
 use crate::faults::{Fault, FaultKind, TreeError};
 use crate::nest::{Mode, Nest, Step};
 use crate::params::Param;
-use crate::signs::Sign;
 use crate::source::Source;
 use crate::steps::take_token;
+use crate::terminals::Terminal;
 use crate::tokens::{expect, refused, token};
-use smallvec::SmallVec;
 use std::alloc::Global;
 
 /// Reads parameters and the parenthesis that closes them, and gives them with the place behind it. At most `left`
 /// more parentheses may be open at once.
 fn parameters<'a>(
     alloc: Global,
+    nest: &mut Nest<'a>,
     source: Source<'a>,
     at: usize,
     left: usize,
@@ -31,16 +32,12 @@ fn parameters<'a>(
     ensures within { IfOk result (λ r. r.1 ≤ length source.entry.text.now) }
     ensures fault { IfErr result (λ e. OnGrammar e (Fails Closed left source.entry at)) }
 {
-    let mut nest = Nest {
-        current: Vec::new(alloc),
-        frames: SmallVec::new(alloc),
-        room: left,
-    };
+    nest.restart(left);
     let mut mode = Mode::First;
     let mut place = at;
     'tokens: loop {
         let lexed = token(source, place);
-        match take_token(alloc, &mut nest, mode, lexed.token)? {
+        match take_token(alloc, nest, mode, lexed.token)? {
             Step::Go(next) => {
                 mode = next;
                 place = lexed.after;
@@ -60,6 +57,7 @@ fn parameters<'a>(
 /// `left` more parentheses may be open at once.
 pub fn arguments<'a>(
     alloc: Global,
+    nest: &mut Nest<'a>,
     source: Source<'a>,
     at: usize,
     left: usize,
@@ -71,6 +69,6 @@ pub fn arguments<'a>(
     ensures within { IfOk result (λ r. r.1 ≤ length source.entry.text.now) }
     ensures fault { IfErr result (λ e. OnGrammar e (Fails Arguments left source.entry at)) }
 {
-    let open = expect(source, at, Sign::Open)?;
-    parameters(alloc, source, open.after, left)
+    let open = expect(source, at, Terminal::Open)?;
+    parameters(alloc, nest, source, open.after, left)
 }

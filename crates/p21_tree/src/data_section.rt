@@ -6,13 +6,15 @@ ghost use Rattle.p21_text.specs.Tokens.{First, placed};
 ghost use Rattle.p21_tree.specs.Sentence.{IsTail};
 ghost use Rattle.p21_tree.specs.Views.{plain_instance};
 ghost use Rattle.p21_tree.specs.Parts.{EqualsOn, TailOn, Bodies, IsBehindName, IsBehindEndsec, IsBody};
-ghost use Rattle.p21_tree.specs.Progress.{Covers, Finishes, Fails, OnGrammar};
+ghost use Rattle.p21_tree.specs.Progress.{Covers, Finishes, Fails};
+ghost use Rattle.p21_tree.specs.Texts.{OnGrammar};
 
 use crate::faults::{Fault, TreeError};
 use crate::instances::RawInstance;
+use crate::nest::Nest;
 use crate::records::{InstanceBody, form};
-use crate::signs::Sign;
 use crate::source::Source;
+use crate::terminals::Terminal;
 use crate::tokens::{expect, is, refused, token};
 use p21_text::{Lexed, Token};
 use std::alloc::Global;
@@ -20,6 +22,7 @@ use std::alloc::Global;
 /// Reads an instance whose name stands before a place, and gives it with the place behind it.
 pub fn instance<'a>(
     alloc: Global,
+    nest: &mut Nest<'a>,
     source: Source<'a>,
     name: u64,
     start: usize,
@@ -32,14 +35,14 @@ pub fn instance<'a>(
     ensures within { IfOk result (λ r. r.1 ≤ length source.entry.text.now) }
     ensures fault { IfErr result (λ e. OnGrammar e (Fails EqualsOn 64 source.entry at)) }
 {
-    let equals = expect(source, at, Sign::Equals)?;
-    let body = form(alloc, source, equals.after)?;
+    let equals = expect(source, at, Terminal::Equals)?;
+    let body = form(alloc, nest, source, equals.after)?;
     let InstanceBody {
         complex,
         records,
         after,
     } = body;
-    let semi = expect(source, after, Sign::Semi)?;
+    let semi = expect(source, after, Terminal::Semi)?;
     let at = source.base + start as u64;
     let instance = RawInstance {
         name,
@@ -56,10 +59,10 @@ pub fn behind_endsec(source: Source<'_>, at: usize) -> Result<(), Fault>
     ensures ok { OnOk result (Finishes IsBehindEndsec source.entry at) }
     ensures fault { IfErr result (λ f. (limit : ℕ) → Fails TailOn limit source.entry at f) }
 {
-    let semi = expect(source, at, Sign::Semi)?;
-    let end_iso = expect(source, semi.after, Sign::EndIso)?;
-    let last = expect(source, end_iso.after, Sign::Semi)?;
-    let _end = expect(source, last.after, Sign::End)?;
+    let semi = expect(source, at, Terminal::Semi)?;
+    let end_iso = expect(source, semi.after, Terminal::EndIso)?;
+    let last = expect(source, end_iso.after, Terminal::Semi)?;
+    let _end = expect(source, last.after, Terminal::End)?;
     Ok(())
 }
 
@@ -71,7 +74,7 @@ fn close<'a>(source: Source<'a>, at: usize, lexed: Lexed<'a>) -> Result<(), Faul
     ensures ok { OnOk result (Finishes IsTail source.entry at) }
     ensures fault { IfErr result (Fails Bodies 64 source.entry at) }
 {
-    if is(lexed.token, Sign::EndSec) {
+    if is(lexed.token, Terminal::EndSec) {
         behind_endsec(source, lexed.after)
     } else {
         Err(refused(source, lexed))
@@ -81,6 +84,7 @@ fn close<'a>(source: Source<'a>, at: usize, lexed: Lexed<'a>) -> Result<(), Faul
 /// Reads instances and the rest of the file behind them.
 pub fn instances<'a>(
     alloc: Global,
+    nest: &mut Nest<'a>,
     source: Source<'a>,
     at: usize,
 ) -> Result<Vec<RawInstance<'a>>, TreeError>
@@ -96,7 +100,7 @@ pub fn instances<'a>(
             close(source, place, lexed)?;
             return Ok(instances);
         };
-        let (read, after) = instance(alloc, source, name, lexed.start, lexed.after)?;
+        let (read, after) = instance(alloc, nest, source, name, lexed.start, lexed.after)?;
         instances.push(read)?;
         place = after;
     }

@@ -6,20 +6,23 @@ ghost use Rattle.p21_tree.specs.Views.{plain_entity, plain_preface};
 ghost use Rattle.p21_tree.specs.Sentence.{IsPreface, deepest};
 ghost use Rattle.p21_tree.specs.Parts.{EndsecOn, HeaderRest, Prefaces, IsBehindKey, IsHeaderBody, IsOpening, IsDataStart};
 ghost use Rattle.p21_tree.specs.Parts.{EntityRest};
-ghost use Rattle.p21_tree.specs.Progress.{Covers, Fails, OnGrammar};
+ghost use Rattle.p21_tree.specs.Progress.{Covers, Fails};
+ghost use Rattle.p21_tree.specs.Texts.{OnGrammar};
 
 use crate::arguments::arguments;
 use crate::faults::{Fault, TreeError};
 use crate::headers::{HeaderEntity, Preface};
 use crate::keywords::keyword;
-use crate::signs::Sign;
+use crate::nest::Nest;
 use crate::source::Source;
+use crate::terminals::Terminal;
 use crate::tokens::{expect, is, refused, token};
 use std::alloc::Global;
 
 /// Reads a header entity behind its keyword, and gives it with the place behind it.
 fn entity<'a>(
     alloc: Global,
+    nest: &mut Nest<'a>,
     source: Source<'a>,
     at: usize,
     keyword: &'a [u8],
@@ -30,14 +33,15 @@ fn entity<'a>(
     ensures within { IfOk result (λ r. r.1 ≤ length source.entry.text.now) }
     ensures fault { IfErr result (λ e. OnGrammar e (Fails EntityRest 63 source.entry at)) }
 {
-    let (params, after) = arguments(alloc, source, at, 63)?;
-    let semi = expect(source, after, Sign::Semi)?;
+    let (params, after) = arguments(alloc, nest, source, at, 63)?;
+    let semi = expect(source, after, Terminal::Semi)?;
     Ok((HeaderEntity { keyword, params }, semi.after))
 }
 
 /// Reads the header entities and the `ENDSEC` behind them, and gives them with the place behind it.
 fn entities<'a>(
     alloc: Global,
+    nest: &mut Nest<'a>,
     source: Source<'a>,
     at: usize,
 ) -> Result<(Vec<HeaderEntity<'a>>, usize), TreeError>
@@ -52,13 +56,13 @@ fn entities<'a>(
     let mut place = at;
     'entities: loop {
         let lexed = token(source, place);
-        if is(lexed.token, Sign::EndSec) {
+        if is(lexed.token, Terminal::EndSec) {
             return Ok((entities, lexed.after));
         }
         let Some(keyword) = keyword(lexed.token) else {
             return Err(TreeError::Grammar(refused(source, lexed)));
         };
-        let (read, after) = entity(alloc, source, lexed.after, keyword)?;
+        let (read, after) = entity(alloc, nest, source, lexed.after, keyword)?;
         entities.push(read)?;
         place = after;
     }
@@ -70,10 +74,10 @@ fn opening(source: Source<'_>) -> Result<(u64, usize), Fault>
     ensures within { IfOk result (λ r. r.1 ≤ length source.entry.text.now) }
     ensures fault { IfErr result (Fails Prefaces 64 source.entry 0) }
 {
-    let iso = expect(source, 0, Sign::Iso)?;
-    let semi = expect(source, iso.after, Sign::Semi)?;
-    let header = expect(source, semi.after, Sign::Header)?;
-    let last = expect(source, header.after, Sign::Semi)?;
+    let iso = expect(source, 0, Terminal::Iso)?;
+    let semi = expect(source, iso.after, Terminal::Semi)?;
+    let header = expect(source, semi.after, Terminal::Header)?;
+    let last = expect(source, header.after, Terminal::Semi)?;
     Ok((source.base + header.start as u64, last.after))
 }
 
@@ -84,21 +88,25 @@ fn data_start(source: Source<'_>, at: usize) -> Result<usize, Fault>
     ensures within { IfOk result (λ r. r ≤ length source.entry.text.now) }
     ensures fault { IfErr result (Fails EndsecOn 64 source.entry at) }
 {
-    let semi = expect(source, at, Sign::Semi)?;
-    let data = expect(source, semi.after, Sign::Data)?;
-    let last = expect(source, data.after, Sign::Semi)?;
+    let semi = expect(source, at, Terminal::Semi)?;
+    let data = expect(source, semi.after, Terminal::Data)?;
+    let last = expect(source, data.after, Terminal::Semi)?;
     Ok(last.after)
 }
 
 /// Reads the preface, and gives it with the place behind it.
-pub fn preface<'a>(alloc: Global, source: Source<'a>) -> Result<(Preface<'a>, usize), TreeError>
+pub fn preface<'a>(
+    alloc: Global,
+    nest: &mut Nest<'a>,
+    source: Source<'a>,
+) -> Result<(Preface<'a>, usize), TreeError>
     ensures ok { IfOk result (λ r. Covers (λ ts. IsPreface deepest ts (plain_preface r.0)) source.entry 0 r.1) }
     ensures within { IfOk result (λ r. r.1 ≤ length source.entry.text.now) }
     ensures data_at { IfOk result (λ r. r.0.data_at ≡ source.entry.base + r.1) }
     ensures fault { IfErr result (λ e. OnGrammar e (Fails Prefaces 64 source.entry 0)) }
 {
     let (header_at, body) = opening(source)?;
-    let (entities, rest) = entities(alloc, source, body)?;
+    let (entities, rest) = entities(alloc, nest, source, body)?;
     let after = data_start(source, rest)?;
     let data_at = source.base + after as u64;
     Ok((

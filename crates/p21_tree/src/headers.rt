@@ -1,11 +1,10 @@
 //! The header section.
 
-ghost use Rattle.p21_tree.specs.Plain.{plain_all};
-ghost use Rattle.p21_tree.specs.Bodies.{HaveBodies, HaveBodies-prop};
+ghost use Rattle.p21_tree.specs.Bodies.{AllHaveBodies, AllHaveBodies-prop};
 
 use crate::params::Param;
 
-/// An entity of the header section (ISO 10303-21, 9.2).
+/// An entity of the header section.
 #[derive(Debug, Drop)]
 pub struct HeaderEntity<'a> {
     /// The keyword, as spelled; a user-defined one with its `!`.
@@ -13,7 +12,7 @@ pub struct HeaderEntity<'a> {
     /// The parameters in their order.
     pub params: Vec<Param<'a>>,
     /// Each string and binary among the parameters holds the body of such a token.
-    pub ghost bodies: { HaveBodies (plain_all params.items) } by { HaveBodies-prop (plain_all params.items) },
+    pub ghost bodies: { AllHaveBodies params.items } by { AllHaveBodies-prop params.items },
 }
 
 /// What stands before the instances of a file, up to and including `DATA;`.

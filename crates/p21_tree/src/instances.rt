@@ -1,8 +1,7 @@
 //! Records and instances of the data section.
 
 ghost use Rattle.std.specs.Prelude.{◌≡◌, ◌<◌, false, vec_len};
-ghost use Rattle.p21_tree.specs.Plain.{plain_all};
-ghost use Rattle.p21_tree.specs.Bodies.{HaveBodies, HaveBodies-prop};
+ghost use Rattle.p21_tree.specs.Bodies.{AllHaveBodies, AllHaveBodies-prop};
 
 use crate::params::Param;
 
@@ -14,10 +13,10 @@ pub struct Record<'a> {
     /// The parameters in their order.
     pub params: Vec<Param<'a>>,
     /// Each string and binary among the parameters holds the body of such a token.
-    pub ghost bodies: { HaveBodies (plain_all params.items) } by { HaveBodies-prop (plain_all params.items) },
+    pub ghost bodies: { AllHaveBodies params.items } by { AllHaveBodies-prop params.items },
 }
 
-/// An instance as it is written, not yet checked against a schema (ISO 10303-21, 10.2).
+/// An instance as it is written, not yet checked against a schema.
 #[derive(Debug, Drop)]
 pub struct RawInstance<'a> {
     /// The number of its name.

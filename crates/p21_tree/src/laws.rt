@@ -1,11 +1,15 @@
-//! Laws of the definitions: what each function ensures holds of every list of tokens. Nobody needs to call one.
+//! Laws of the definitions: what each function ensures holds of every list of tokens. A caller calls one to learn its law.
 
-ghost use Rattle.p21_tree.specs.Fault.{files, pieces, prefaces, tails};
-ghost use Rattle.p21_tree.specs.Laws.{HasOneAnswer, HasOneFaultAtMost, HasOneTree};
+ghost use Rattle.p21_tree.specs.Fault.{files, instances, pieces, prefaces, tails};
+ghost use Rattle.p21_tree.specs.Laws.{FaultsAreOfTokens, HasAnswer, HasOneFaultAtMost, HasOneTree, NoneBeginsAnother, PieceFaultsAreOfTokens, PrefaceFaultsAreOfTokens};
+ghost use Rattle.p21_tree.specs.InOrder.{PartsGiveFile};
 
-/// A list of tokens that ends with the end of the text, or where no token begins, is a file or has a fault.
+/// A list of tokens that ends with the end of the text, or where no token begins, is a file or has a fault; the same
+/// of pieces and tails.
 pub fn one_answer()
-    ensures { HasOneAnswer }
+    ensures of_files { HasAnswer files }
+    ensures of_pieces { HasAnswer pieces }
+    ensures of_tails { HasAnswer tails }
 {}
 
 /// A list of tokens that is a file has no fault, and one that is none has one fault at most; the same of prefaces,
@@ -20,4 +24,28 @@ pub fn one_fault_at_most()
 /// A list of tokens is one file at most, one preface at most and one instance at most.
 pub fn one_tree()
     ensures { HasOneTree }
+{}
+
+/// No preface is a proper beginning of another; the same of files, instances, pieces and tails. So a list of tokens
+/// begins with one at most.
+pub fn one_beginning()
+    ensures of_files { NoneBeginsAnother files }
+    ensures of_prefaces { NoneBeginsAnother prefaces }
+    ensures of_instances { NoneBeginsAnother instances }
+    ensures of_pieces { NoneBeginsAnother pieces }
+    ensures of_tails { NoneBeginsAnother tails }
+{}
+
+/// Reading the preface of a file, its pieces and its tail in order gives the tree of the file, or its fault with the
+/// instances that stand whole before it.
+pub fn parts_in_order()
+    ensures { PartsGiveFile }
+{}
+
+/// A fault that a reader finds in a text is the fault of the text's tokens.
+pub fn faults_of_tokens()
+    ensures of_files { FaultsAreOfTokens files }
+    ensures of_prefaces { PrefaceFaultsAreOfTokens }
+    ensures of_pieces { PieceFaultsAreOfTokens }
+    ensures of_tails { FaultsAreOfTokens tails }
 {}

@@ -16,9 +16,9 @@ mod params;
 mod pieces;
 mod readers;
 mod records;
-mod signs;
 mod source;
 mod steps;
+mod terminals;
 #[cfg(test)]
 mod tests;
 mod tokens;
@@ -26,7 +26,9 @@ mod tokens;
 pub use faults::{Fault, FaultKind, TreeError};
 pub use headers::{HeaderEntity, Preface};
 pub use instances::{RawInstance, Record};
-pub use laws::{one_answer, one_fault_at_most, one_tree};
+pub use laws::{
+    faults_of_tokens, one_answer, one_beginning, one_fault_at_most, one_tree, parts_in_order,
+};
 pub use params::Param;
 pub use pieces::Piece;
 pub use readers::{read_piece, read_preface, read_tail, read_whole};

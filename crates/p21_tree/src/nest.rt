@@ -1,6 +1,6 @@
 //! What stands open while parameters are read.
 
-ghost use Rattle.std.specs.Prelude.{ℕ, ◌+◌, ◌≤◌};
+ghost use Rattle.std.specs.Prelude.{◌≡◌, [], ℕ, ◌+◌, ◌≤◌};
 ghost use Rattle.smallvec.specs.SmallVec.{small_vec_len};
 
 use crate::params::Param;
@@ -23,16 +23,47 @@ impl MadeWith<Global> for Frame<'_> {
     }
 }
 
-/// What stands open behind the parenthesis of a record.
+/// What stands open behind the parenthesis of a record. One nest is used for record after record, so that its vectors
+/// are grown once.
 #[derive(Drop)]
 pub struct Nest<'a> {
     /// The parameters of the innermost open list, without one behind its last comma.
     pub current: Vec<Param<'a>>,
     /// The open parentheses inside the record's, the outermost first.
-    pub frames: SmallVec<Frame<'a>, 8>,
+    pub frames: SmallVec<Frame<'a>, 4>,
     /// How many more may be opened.
     pub room: usize,
+    /// Memory for the parameters of the next list that is opened.
+    pub spare: Vec<Param<'a>>,
     ghost shallow: { room + small_vec_len frames ≤ 64 },
+}
+
+impl<'a> Nest<'a> {
+    /// Nothing stands open, and nothing may be opened.
+    pub fn new(alloc: Global) -> Self {
+        Nest {
+            current: Vec::new(alloc),
+            frames: SmallVec::new(alloc),
+            room: 0,
+            spare: Vec::new(alloc),
+        }
+    }
+
+    /// Begins a record, inside whose parenthesis so many more may be opened.
+    pub fn restart(&mut self, room: usize)
+        requires { room ≤ 64 }
+        ensures current { self.new.current.items ≡ [] }
+        ensures frames { self.new.frames.items ≡ [] }
+        ensures room { self.new.room ≡ room }
+    {
+        if !self.current.is_empty() {
+            self.current.clear();
+        }
+        if !self.frames.is_empty() {
+            self.frames.clear();
+        }
+        self.room = room;
+    }
 }
 
 /// What is expected next.

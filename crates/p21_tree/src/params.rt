@@ -1,6 +1,6 @@
 //! The parameters of a record.
 
-/// A parameter (ISO 10303-21, 7.2 and 12.1), which borrows its text from the source.
+/// A parameter, which borrows its text from the source.
 #[derive(Debug, Drop)]
 pub enum Param<'a> {
     /// `$`: no value is given.

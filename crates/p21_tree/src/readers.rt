@@ -3,8 +3,7 @@
 ghost use Rattle.std.specs.Prelude.{ℕ, ◌≤◌, length, map, IfOk, IfErr, OnOk};
 ghost use Rattle.p21_tree.specs.Views.{plain_instance, plain_preface};
 ghost use Rattle.p21_tree.specs.Fault.{files, tails};
-ghost use Rattle.p21_tree.specs.Texts.{IsFileText, BeginsPreface, HasTail, IsPieceText, HasFault, HasPieceFault, HasPrefaceFault};
-ghost use Rattle.p21_tree.specs.Progress.{OnGrammar};
+ghost use Rattle.p21_tree.specs.Texts.{IsFileText, BeginsPreface, HasTail, IsPieceText, HasFault, HasPieceFault, HasPrefaceFault, OnGrammar};
 
 use crate::data_section::behind_endsec;
 use crate::faults::{Fault, TreeError};
@@ -12,9 +11,10 @@ use crate::full_texts::{single, whole};
 use crate::header_section::preface;
 use crate::headers::Preface;
 use crate::instances::RawInstance;
+use crate::nest::Nest;
 use crate::pieces::Piece;
-use crate::signs::Sign;
 use crate::source::Source;
+use crate::terminals::Terminal;
 use crate::tokens::expect;
 use std::alloc::Global;
 
@@ -23,13 +23,14 @@ use std::alloc::Global;
 /// An error is the first grammar fault of the file, which stands in its preface, or want of memory.
 pub fn read_preface<'a>(alloc: Global, file: &'a [u8]) -> Result<Preface<'a>, TreeError>
     ensures ok { IfOk result (λ r. BeginsPreface file.now (plain_preface r)) }
+    ensures within { IfOk result (λ r. r.data_at ≤ length file.now) }
     ensures fault { IfErr result (λ e. OnGrammar e (HasPrefaceFault file.now)) }
 {
     let source = Source {
         text: file,
         base: 0,
     };
-    let (read, _after) = preface(alloc, source)?;
+    let (read, _after) = preface(alloc, &mut Nest::new(alloc), source)?;
     Ok(read)
 }
 
@@ -47,7 +48,8 @@ pub fn read_piece<'a>(alloc: Global, piece: Piece<'a>) -> Result<RawInstance<'a>
     single(alloc, source)
 }
 
-/// Reads the end of a file from a place on: `ENDSEC;`, `END-ISO-10303-21;` and separators alone.
+/// Reads the end of a file from a place on: `ENDSEC;`, `END-ISO-10303-21;` and separators alone. `at` is at most the
+/// file's length.
 ///
 /// An error is the first grammar fault from that place on.
 pub fn read_tail(file: &[u8], at: usize) -> Result<(), Fault>
@@ -59,7 +61,7 @@ pub fn read_tail(file: &[u8], at: usize) -> Result<(), Fault>
         text: file,
         base: 0,
     };
-    let endsec = expect(source, at, Sign::EndSec)?;
+    let endsec = expect(source, at, Terminal::EndSec)?;
     behind_endsec(source, endsec.after)
 }
 

@@ -8,12 +8,14 @@ ghost use Rattle.p21_tree.specs.Sentence.{IsRecords, IsInstance};
 ghost use Rattle.p21_tree.specs.Views.{plain_record};
 ghost use Rattle.p21_tree.specs.Parts.{Arguments, Records, SomeRecords, IsKeyed, IsSomeRecords, IsFormOf};
 ghost use Rattle.p21_tree.specs.Parts.{Form as FormOf};
-ghost use Rattle.p21_tree.specs.Progress.{Covers, Fails, OnGrammar};
+ghost use Rattle.p21_tree.specs.Progress.{Covers, Fails};
+ghost use Rattle.p21_tree.specs.Texts.{OnGrammar};
 
 use crate::arguments::arguments;
 use crate::faults::TreeError;
 use crate::instances::Record;
 use crate::keywords::keyword;
+use crate::nest::Nest;
 use crate::source::Source;
 use crate::tokens::{refused, token};
 use p21_text::Token;
@@ -23,6 +25,7 @@ use std::alloc::Global;
 /// parentheses may be open at once.
 fn keyed<'a>(
     alloc: Global,
+    nest: &mut Nest<'a>,
     source: Source<'a>,
     at: usize,
     keyword: &'a [u8],
@@ -35,13 +38,14 @@ fn keyed<'a>(
     ensures within { IfOk result (λ r. r.1 ≤ length source.entry.text.now) }
     ensures fault { IfErr result (λ e. OnGrammar e (Fails Arguments left source.entry at)) }
 {
-    let (params, after) = arguments(alloc, source, at, left)?;
+    let (params, after) = arguments(alloc, nest, source, at, left)?;
     Ok((Record { keyword, params }, after))
 }
 
 /// Reads a record of a complex instance, and gives it with the place behind it.
 fn record<'a>(
     alloc: Global,
+    nest: &mut Nest<'a>,
     source: Source<'a>,
     at: usize,
 ) -> Result<(Record<'a>, usize), TreeError>
@@ -55,13 +59,14 @@ fn record<'a>(
     let Some(keyword) = keyword(lexed.token) else {
         return Err(TreeError::Grammar(refused(source, lexed)));
     };
-    keyed(alloc, source, lexed.after, keyword, 62)
+    keyed(alloc, nest, source, lexed.after, keyword, 62)
 }
 
 /// Reads the records of a complex instance and the parenthesis that closes them, and gives them with the place
 /// behind it.
 fn records<'a>(
     alloc: Global,
+    nest: &mut Nest<'a>,
     source: Source<'a>,
     at: usize,
 ) -> Result<(Vec<Record<'a>>, usize), TreeError>
@@ -73,7 +78,7 @@ fn records<'a>(
     ensures fault { IfErr result (λ e. OnGrammar e (Fails SomeRecords 63 source.entry at)) }
 {
     let mut records = Vec::new(alloc);
-    let (first, behind) = record(alloc, source, at)?;
+    let (first, behind) = record(alloc, nest, source, at)?;
     records.push(first)?;
     let mut place = behind;
     'records: loop {
@@ -84,13 +89,13 @@ fn records<'a>(
         let Some(keyword) = keyword(lexed.token) else {
             return Err(TreeError::Grammar(refused(source, lexed)));
         };
-        let (record, after) = keyed(alloc, source, lexed.after, keyword, 62)?;
+        let (record, after) = keyed(alloc, nest, source, lexed.after, keyword, 62)?;
         records.push(record)?;
         place = after;
     }
 }
 
-/// What stands behind the equals sign of an instance.
+/// What stands behind the equals terminal of an instance.
 #[derive(Drop)]
 pub struct InstanceBody<'a> {
     /// Whether it is several records in parentheses.
@@ -101,8 +106,13 @@ pub struct InstanceBody<'a> {
     pub after: usize,
 }
 
-/// Reads what stands behind the equals sign of an instance, up to its semicolon.
-pub fn form<'a>(alloc: Global, source: Source<'a>, at: usize) -> Result<InstanceBody<'a>, TreeError>
+/// Reads what stands behind the equals terminal of an instance, up to its semicolon.
+pub fn form<'a>(
+    alloc: Global,
+    nest: &mut Nest<'a>,
+    source: Source<'a>,
+    at: usize,
+) -> Result<InstanceBody<'a>, TreeError>
     requires { at ≤ length source.text.now }
     ensures ok { IfOk result (λ r. Covers (λ ts. IsFormOf 64 ts r.complex (map plain_record r.records.items)) source.entry at r.after) }
     ensures some { IfOk result (λ r. 0 < vec_len r.records) }
@@ -113,7 +123,7 @@ pub fn form<'a>(alloc: Global, source: Source<'a>, at: usize) -> Result<Instance
 {
     let lexed = token(source, at);
     if let Token::LParen = lexed.token {
-        let (records, after) = records(alloc, source, lexed.after)?;
+        let (records, after) = records(alloc, nest, source, lexed.after)?;
         let complex = true;
         return Ok(InstanceBody {
             complex,
@@ -124,7 +134,7 @@ pub fn form<'a>(alloc: Global, source: Source<'a>, at: usize) -> Result<Instance
     let Some(keyword) = keyword(lexed.token) else {
         return Err(TreeError::Grammar(refused(source, lexed)));
     };
-    let (record, after) = keyed(alloc, source, lexed.after, keyword, 63)?;
+    let (record, after) = keyed(alloc, nest, source, lexed.after, keyword, 63)?;
     let mut records = Vec::with_capacity(alloc, 1)?;
     records.push(record)?;
     let complex = false;

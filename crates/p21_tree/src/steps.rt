@@ -1,10 +1,10 @@
 //! How a token changes what stands open among parameters.
 
-ghost use Rattle.std.specs.Prelude.{◌≡◌, IfOk};
+ghost use Rattle.std.specs.Prelude.{◌≡◌, [], ◌∷◌, ◌++◌, IfOk};
 ghost use Rattle.p21_text.specs.Spelling.{symbol};
 ghost use Rattle.p21_tree.specs.Plain.{plain};
-ghost use Rattle.p21_tree.specs.Machine.{step, begin as begin_by, close_empty, by_mode, class_of, first, want, behind_key as key_mode, after, key, open_, close_, comma};
-ghost use Rattle.p21_tree.specs.Opened.{stack_of, state_of, step_of, class_view, is_typed};
+ghost use Rattle.p21_tree.specs.Machine.{step, begin as begin_by, close_empty, by_mode, class_of, behind_key as key_mode, after, leaf, key, open_, close_, comma};
+ghost use Rattle.p21_tree.specs.Opened.{mode_of, stack_of, state_of, step_of, class_view, is_typed};
 
 use crate::nest::{Class, Frame, Mode, Nest, Step};
 use crate::params::Param;
@@ -50,6 +50,17 @@ fn begin_typed<'a>(nest: &Nest<'a>, keyword: &'a [u8]) -> Step<'a>
     }
 }
 
+/// A vector with no parameter, in the memory that was kept for one.
+fn emptied<'a>(alloc: Global, spare: &mut Vec<Param<'a>>) -> Vec<Param<'a>>
+    ensures { result.items ≡ [] }
+{
+    let mut empty = mem::replace(spare, Vec::new(alloc));
+    if !empty.is_empty() {
+        empty.clear();
+    }
+    empty
+}
+
 /// A parenthesis stands where a parameter may begin.
 fn begin_list<'a>(alloc: Global, nest: &mut Nest<'a>) -> Result<Step<'a>, AllocError>
     ensures { IfOk result (λ r. step_of nest.new r ≡ begin_by (stack_of nest.old) nest.old.room open_) }
@@ -57,7 +68,8 @@ fn begin_list<'a>(alloc: Global, nest: &mut Nest<'a>) -> Result<Step<'a>, AllocE
     if nest.room == 0 {
         return Ok(Step::TooDeep);
     }
-    let outer = mem::replace(&mut nest.current, Vec::new(alloc));
+    let inner = emptied(alloc, &mut nest.spare);
+    let outer = mem::replace(&mut nest.current, inner);
     nest.room -= 1;
     nest.frames.push(Frame::List(outer))?;
     Ok(Step::Go(Mode::First))
@@ -73,43 +85,11 @@ fn close_none<'a>(alloc: Global, nest: &mut Nest<'a>) -> Step<'a>
     match nest.frames.pop() {
         None => Step::Closed(Vec::new(alloc)),
         Some(Frame::List(outer)) => {
-            let items = mem::replace(&mut nest.current, outer);
+            nest.spare = mem::replace(&mut nest.current, outer);
             nest.room += 1;
-            Step::Go(Mode::After(Param::Items(items)))
+            Step::Go(Mode::After(Param::Items(Vec::new(alloc))))
         }
         Some(Frame::Typed(_)) => Step::Refused,
-    }
-}
-
-/// A first parameter is expected, or the end of an empty list.
-fn begin_first<'a>(
-    alloc: Global,
-    nest: &mut Nest<'a>,
-    class: Class<'a>,
-) -> Result<Step<'a>, AllocError>
-    ensures { IfOk result (λ r. step_of nest.new r ≡ by_mode first (stack_of nest.old) nest.old.room (class_view class.entry)) }
-{
-    match class {
-        Class::Leaf(param) => Ok(Step::Go(Mode::After(param))),
-        Class::Key(keyword) => Ok(begin_typed(nest, keyword)),
-        Class::Open => begin_list(alloc, nest),
-        Class::Close => Ok(close_none(alloc, nest)),
-        Class::Comma => Ok(Step::Refused),
-        Class::Other => Ok(Step::Refused),
-    }
-}
-
-/// A parameter is expected.
-fn begin<'a>(alloc: Global, nest: &mut Nest<'a>, class: Class<'a>) -> Result<Step<'a>, AllocError>
-    ensures { IfOk result (λ r. step_of nest.new r ≡ by_mode want (stack_of nest.old) nest.old.room (class_view class.entry)) }
-{
-    match class {
-        Class::Leaf(param) => Ok(Step::Go(Mode::After(param))),
-        Class::Key(keyword) => Ok(begin_typed(nest, keyword)),
-        Class::Open => begin_list(alloc, nest),
-        Class::Close => Ok(Step::Refused),
-        Class::Comma => Ok(Step::Refused),
-        Class::Other => Ok(Step::Refused),
     }
 }
 
@@ -123,24 +103,6 @@ fn open_typed<'a>(nest: &mut Nest<'a>, keyword: &'a [u8]) -> Result<Step<'a>, Al
     nest.room -= 1;
     nest.frames.push(Frame::Typed(keyword))?;
     Ok(Step::Go(Mode::Want))
-}
-
-/// The parenthesis of a typed parameter is expected.
-fn behind_key<'a>(
-    nest: &mut Nest<'a>,
-    keyword: &'a [u8],
-    class: Class<'a>,
-) -> Result<Step<'a>, AllocError>
-    ensures { IfOk result (λ r. step_of nest.new r ≡ by_mode (key_mode keyword.now) (stack_of nest.old) nest.old.room (class_view class.entry)) }
-{
-    match class {
-        Class::Open => open_typed(nest, keyword),
-        Class::Leaf(_) => Ok(Step::Refused),
-        Class::Key(_) => Ok(Step::Refused),
-        Class::Close => Ok(Step::Refused),
-        Class::Comma => Ok(Step::Refused),
-        Class::Other => Ok(Step::Refused),
-    }
 }
 
 /// Whether the innermost open parenthesis is that of a typed parameter.
@@ -165,18 +127,31 @@ fn separate<'a>(nest: &mut Nest<'a>, param: Param<'a>) -> Result<Step<'a>, Alloc
     Ok(Step::Go(Mode::Want))
 }
 
+/// The parameters of a list that ends, in a vector of exactly their size: those before the last one, and that one. The
+/// memory of the former is kept.
+fn exactly<'a>(
+    alloc: Global,
+    before: &mut Vec<Param<'a>>,
+    last: Param<'a>,
+) -> Result<Vec<Param<'a>>, AllocError>
+    ensures { IfOk result (λ r. r.items ≡ before.old.items ++ last.entry ∷ []) }
+{
+    let len = before.len().checked_add(1).ok_or(AllocError)?;
+    let mut exact = Vec::with_capacity(alloc, len)?;
+    exact.append(before)?;
+    exact.push(last)?;
+    Ok(exact)
+}
+
 /// A parenthesis is closed behind a parameter.
 fn close<'a>(alloc: Global, nest: &mut Nest<'a>, param: Param<'a>) -> Result<Step<'a>, AllocError>
     ensures { IfOk result (λ r. step_of nest.new r ≡ by_mode (after (plain param.entry)) (stack_of nest.old) nest.old.room close_) }
 {
     match nest.frames.pop() {
-        None => {
-            nest.current.push(param)?;
-            Ok(Step::Closed(mem::replace(&mut nest.current, Vec::new(alloc))))
-        }
+        None => Ok(Step::Closed(exactly(alloc, &mut nest.current, param)?)),
         Some(Frame::List(outer)) => {
-            nest.current.push(param)?;
-            let items = mem::replace(&mut nest.current, outer);
+            let items = exactly(alloc, &mut nest.current, param)?;
+            nest.spare = mem::replace(&mut nest.current, outer);
             nest.room += 1;
             Ok(Step::Go(Mode::After(Param::Items(items))))
         }
@@ -187,22 +162,67 @@ fn close<'a>(alloc: Global, nest: &mut Nest<'a>, param: Param<'a>) -> Result<Ste
     }
 }
 
-/// A comma or a closing parenthesis is expected.
-fn behind<'a>(
+/// A parameter of one token stands there.
+fn take_leaf<'a>(nest: &Nest<'a>, mode: Mode<'a>, param: Param<'a>) -> Step<'a>
+    ensures { step_of nest.now result ≡ by_mode (mode_of mode.entry) (stack_of nest.now) nest.now.room (leaf (plain param.entry)) }
+{
+    match mode {
+        Mode::First => Step::Go(Mode::After(param)),
+        Mode::Want => Step::Go(Mode::After(param)),
+        Mode::Key(_) => Step::Refused,
+        Mode::After(_) => Step::Refused,
+    }
+}
+
+/// A keyword stands there.
+fn take_key<'a>(nest: &Nest<'a>, mode: Mode<'a>, keyword: &'a [u8]) -> Step<'a>
+    ensures { step_of nest.now result ≡ by_mode (mode_of mode.entry) (stack_of nest.now) nest.now.room (key keyword.now) }
+{
+    match mode {
+        Mode::First => begin_typed(nest, keyword),
+        Mode::Want => begin_typed(nest, keyword),
+        Mode::Key(_) => Step::Refused,
+        Mode::After(_) => Step::Refused,
+    }
+}
+
+/// An opening parenthesis stands there.
+fn take_open<'a>(alloc: Global, nest: &mut Nest<'a>, mode: Mode<'a>) -> Result<Step<'a>, AllocError>
+    ensures { IfOk result (λ r. step_of nest.new r ≡ by_mode (mode_of mode.entry) (stack_of nest.old) nest.old.room open_) }
+{
+    match mode {
+        Mode::First => begin_list(alloc, nest),
+        Mode::Want => begin_list(alloc, nest),
+        Mode::Key(keyword) => open_typed(nest, keyword),
+        Mode::After(_) => Ok(Step::Refused),
+    }
+}
+
+/// A closing parenthesis stands there.
+fn take_close<'a>(
     alloc: Global,
     nest: &mut Nest<'a>,
-    param: Param<'a>,
-    class: Class<'a>,
+    mode: Mode<'a>,
 ) -> Result<Step<'a>, AllocError>
-    ensures { IfOk result (λ r. step_of nest.new r ≡ by_mode (after (plain param.entry)) (stack_of nest.old) nest.old.room (class_view class.entry)) }
+    ensures { IfOk result (λ r. step_of nest.new r ≡ by_mode (mode_of mode.entry) (stack_of nest.old) nest.old.room close_) }
 {
-    match class {
-        Class::Comma => separate(nest, param),
-        Class::Close => close(alloc, nest, param),
-        Class::Leaf(_) => Ok(Step::Refused),
-        Class::Key(_) => Ok(Step::Refused),
-        Class::Open => Ok(Step::Refused),
-        Class::Other => Ok(Step::Refused),
+    match mode {
+        Mode::First => Ok(close_none(alloc, nest)),
+        Mode::Want => Ok(Step::Refused),
+        Mode::Key(_) => Ok(Step::Refused),
+        Mode::After(param) => close(alloc, nest, param),
+    }
+}
+
+/// A comma stands there.
+fn take_comma<'a>(nest: &mut Nest<'a>, mode: Mode<'a>) -> Result<Step<'a>, AllocError>
+    ensures { IfOk result (λ r. step_of nest.new r ≡ by_mode (mode_of mode.entry) (stack_of nest.old) nest.old.room comma) }
+{
+    match mode {
+        Mode::First => Ok(Step::Refused),
+        Mode::Want => Ok(Step::Refused),
+        Mode::Key(_) => Ok(Step::Refused),
+        Mode::After(param) => separate(nest, param),
     }
 }
 
@@ -215,11 +235,12 @@ pub fn take_token<'a>(
 ) -> Result<Step<'a>, AllocError>
     ensures { IfOk result (λ r. step_of nest.new r ≡ step (state_of nest.old mode.entry) (symbol token.entry)) }
 {
-    let class = class(token);
-    match mode {
-        Mode::First => begin_first(alloc, nest, class),
-        Mode::Want => begin(alloc, nest, class),
-        Mode::Key(keyword) => behind_key(nest, keyword, class),
-        Mode::After(param) => behind(alloc, nest, param, class),
+    match class(token) {
+        Class::Leaf(param) => Ok(take_leaf(nest, mode, param)),
+        Class::Key(keyword) => Ok(take_key(nest, mode, keyword)),
+        Class::Open => take_open(alloc, nest, mode),
+        Class::Close => take_close(alloc, nest, mode),
+        Class::Comma => take_comma(nest, mode),
+        Class::Other => Ok(Step::Refused),
     }
 }

@@ -1,8 +1,13 @@
 //! The grammar by example: each row is a file, and what it gives.
 
+ghost use Rattle.p21_tree.specs.Plain.{plain};
+ghost use Rattle.p21_tree.specs.Bodies.{AllHaveBodies, HasBodies};
+
 use crate::{
-    Fault, FaultKind, Param, Piece, TreeError, read_piece, read_preface, read_tail, read_whole,
+    Fault, FaultKind, Param, Piece, Record, TreeError, read_piece, read_preface, read_tail,
+    read_whole,
 };
+use p21_text::{binary_bits, string_len};
 use std::alloc::{AllocError, Global};
 use std::process::Abort;
 use std::test::Fail;
@@ -207,7 +212,7 @@ fn cut_files(rt: HostRuntime) -> Result<(), Fail> {
                 Answer::Fault(FaultKind::Truncated, 184),
             ),
             Row(
-                "cut_behind_number_sign",
+                "cut_behind_number_terminal",
                 Text::Behind(b"#1=ITEM('A001',$,#"),
                 Answer::Fault(FaultKind::BadToken, 135),
             ),
@@ -451,6 +456,57 @@ fn tree_of_an_instance(rt: HostRuntime) -> Result<(), Fail> {
         }
         _ => assert!(rt; false, "a typed parameter"),
     }
+    Ok(())
+}
+
+/// The characters of a string, the bits of a binary, 0 of any other parameter.
+fn size(param: &Param<'_>) -> u128
+    requires { HasBodies (plain param.now) }
+{
+    match param {
+        Param::Str(body) => u128::from(string_len(body)),
+        Param::Binary(digits) => binary_bits(digits),
+        _ => 0,
+    }
+}
+
+/// The sum of the sizes of some parameters.
+fn sizes(params: &[Param<'_>]) -> u128
+    requires { AllHaveBodies params.now }
+{
+    let mut sum: u128 = 0;
+    for param in params.iter() {
+        sum = sum.saturating_add(size(param));
+    }
+    sum
+}
+
+/// The size of a parameter, or of those of a list.
+fn size_within(param: &Param<'_>) -> u128
+    requires { HasBodies (plain param.now) }
+{
+    match param {
+        Param::Items(items) => sizes(items.as_slice()),
+        _ => size(param),
+    }
+}
+
+/// The sum of the sizes of a record's parameters.
+fn record_size(record: &Record<'_>) -> u128 {
+    let mut sum: u128 = 0;
+    for param in record.params.iter() {
+        sum = sum.saturating_add(size_within(param));
+    }
+    sum
+}
+
+#[test]
+fn sizes_of_strings_and_binaries(rt: HostRuntime) -> Result<(), Fail> {
+    let read = read_piece(
+        rt.alloc(),
+        piece(b"#1=A('ab',\"1F\",('\\X2\\00E4\\X0\\',7));"),
+    )?;
+    assert_eq!(rt; record_size(&read.records[0]), 2 + 3 + 1);
     Ok(())
 }
 

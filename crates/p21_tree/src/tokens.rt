@@ -5,13 +5,13 @@ ghost use Rattle.p21_text.specs.Spelling.{symbol};
 ghost use Rattle.p21_text.specs.Tokens.{First, IsLast, placed};
 ghost use Rattle.p21_tree.specs.Texts.{fault_kind};
 ghost use Rattle.p21_tree.specs.Languages.{kind_now};
-ghost use Rattle.p21_tree.specs.Parts.{Sign as SignOf};
-ghost use Rattle.p21_tree.specs.Signs.{sign_of};
+ghost use Rattle.p21_tree.specs.Parts.{Terminal as TerminalOf};
+ghost use Rattle.p21_tree.specs.Terminals.{terminal_of};
 ghost use Rattle.p21_tree.specs.Progress.{Fails};
 
 use crate::faults::{Fault, FaultKind};
-use crate::signs::{Sign, as_sign};
 use crate::source::Source;
+use crate::terminals::{Terminal, as_terminal};
 use p21_text::{Lexed, Token, next_token};
 
 /// The next token of a source.
@@ -66,24 +66,24 @@ fn kind(token: Token<'_>) -> FaultKind
 }
 
 /// Whether a token is this one.
-pub fn is(token: Token<'_>, wanted: Sign) -> bool
-    ensures { IsTrue result ↔ (symbol token.entry ≡ sign_of wanted) }
+pub fn is(token: Token<'_>, wanted: Terminal) -> bool
+    ensures { IsTrue result ↔ (symbol token.entry ≡ terminal_of wanted) }
 {
-    match as_sign(token) {
+    match as_terminal(token) {
         Some(found) => found == wanted,
         None => false,
     }
 }
 
 /// The next token, which has to be this one.
-pub fn expect<'a>(source: Source<'a>, at: usize, wanted: Sign) -> Result<Lexed<'a>, Fault>
+pub fn expect<'a>(source: Source<'a>, at: usize, wanted: Terminal) -> Result<Lexed<'a>, Fault>
     requires { at ≤ length source.text.now }
     ensures first { IfOk result (λ r. First source.entry.text.now at (placed r)) }
-    ensures sign { IfOk result (λ r. symbol r.token ≡ sign_of wanted) }
+    ensures terminal { IfOk result (λ r. symbol r.token ≡ terminal_of wanted) }
     ensures behind { IfOk result (λ r. at ≤ r.start) }
     ensures ordered { IfOk result (λ r. r.start ≤ r.after) }
     ensures within { IfOk result (λ r. r.after ≤ length source.entry.text.now) }
-    ensures fault { IfErr result (λ f. (limit : ℕ) → Fails (SignOf (sign_of wanted)) limit source.entry at f) }
+    ensures fault { IfErr result (λ f. (limit : ℕ) → Fails (TerminalOf (terminal_of wanted)) limit source.entry at f) }
 {
     let lexed = token(source, at);
     if is(lexed.token, wanted) {

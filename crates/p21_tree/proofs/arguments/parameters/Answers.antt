@@ -11,7 +11,7 @@ pub tokens-init : goal.tokens-init
 tokens-init c = record {
   behind = omega arith;
   within = c.requires.place;
-  reads = covers_start c.args.source c.args.at c.args.left _ (new_state c.new-2.result.items c.new.result.items c.args.left c.new-2.ensures.items c.new.ensures.items);
+  reads = covers_start c.args.source c.args.at c.args.left _ (new_state c.restart.new.self.frames.items c.restart.new.self.current.items c.restart.new.self.room c.args.left c.restart.ensures.frames c.restart.ensures.current c.restart.ensures.room);
 }
 
 pub tokens-smaller : goal.tokens-smaller

@@ -25,4 +25,4 @@ returns-in_err-_end-clause-fault c =
 
 pub returns-clause-ok : goal.returns-clause-ok
 returns-clause-ok c =
-    finishes_piece c.args.source c.in-Name.name c.in_ok-read.after (placed c.token-lexed.result) (placed c.in_ok-_end._end) (plain_instance c.in_ok-read.read) c.token-lexed.ensures.first (ap symbol c.in-Name.is) c.in_ok-read.ensures.ok c.in_ok-_end.ensures.first c.in_ok-_end.ensures.sign
+    finishes_piece c.args.source c.in-Name.name c.in_ok-read.after (placed c.token-lexed.result) (placed c.in_ok-_end._end) (plain_instance c.in_ok-read.read) c.token-lexed.ensures.first (ap symbol c.in-Name.is) c.in_ok-read.ensures.ok c.in_ok-_end.ensures.first c.in_ok-_end.ensures.terminal

@@ -2,9 +2,9 @@ use Rattle.p21_text.specs.Spelling.{symbol}
 use Rattle.p21_text.specs.Spelling as token
 use Rattle.p21_text.specs.Tokens.{placed}
 use Rattle.p21_tree.specs.Plain.{plain_all}
-use Rattle.p21_tree.specs.Parts.{Sign, Arguments, EntityRest}
+use Rattle.p21_tree.specs.Parts.{Terminal, Arguments, EntityRest}
 use Rattle.p21_tree.specs.Progress.{Fails}
-use Rattle.p21_tree.proofs.PartLemmas.{some_sign}
+use Rattle.p21_tree.proofs.PartLemmas.{some_terminal}
 use Rattle.p21_tree.proofs.ProgressLemmas.{fails_first}
 use Rattle.p21_tree.proofs.ExitLemmas.{exit_fault, exit_error}
 use Rattle.p21_tree.proofs.BodyLemmas.{arguments_bodies}
@@ -14,7 +14,7 @@ use Rattle.p21_tree.proofs.header_section.entity.Goals as goal
 pub returns-in_err-params-clause-fault : goal.returns-in_err-params-clause-fault
 returns-in_err-params-clause-fault c =
     exit_error c.from_residual.result (Fails Arguments 63 c.args.source c.args.at) (Fails EntityRest 63 c.args.source c.args.at) c.in_err-params.field-0.0 c.from_residual.ensures.1
-    (λ f h. fails_first Arguments (Sign token.semi) 63 c.args.source c.args.at f (some_sign token.semi 63) h) c.in_err-params.ensures.fault
+    (λ f h. fails_first Arguments (Terminal token.semi) 63 c.args.source c.args.at f (some_terminal token.semi 63) h) c.in_err-params.ensures.fault
 
 pub returns-in_err-semi-clause-fault : goal.returns-in_err-semi-clause-fault
 returns-in_err-semi-clause-fault c =
@@ -23,9 +23,9 @@ returns-in_err-semi-clause-fault c =
 
 pub invariant_of-result : goal.invariant_of-result
 invariant_of-result c = record {
-  bodies = arguments_bodies c.args.source c.args.at c.in_ok-params.after 63 (plain_all c.in_ok-params.params.items) c.in_ok-params.ensures.ok;
+  bodies = arguments_bodies c.args.source c.args.at c.in_ok-params.after 63 c.in_ok-params.params.items c.in_ok-params.ensures.ok;
 }
 
 pub returns-clause-ok : goal.returns-clause-ok
 returns-clause-ok c =
-    covers_entity c.args.source c.args.at c.in_ok-params.after c.args.keyword.now (plain_all c.in_ok-params.params.items) (placed c.in_ok-semi.semi) c.in_ok-params.ensures.ok c.in_ok-semi.ensures.first c.in_ok-semi.ensures.sign
+    covers_entity c.args.source c.args.at c.in_ok-params.after c.args.keyword.now (plain_all c.in_ok-params.params.items) (placed c.in_ok-semi.semi) c.in_ok-params.ensures.ok c.in_ok-semi.ensures.first c.in_ok-semi.ensures.terminal

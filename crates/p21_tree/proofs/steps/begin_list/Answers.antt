@@ -11,7 +11,7 @@ pub returns : goal.returns
 returns c =
     let gs = c.push.new.self.items in
     let fs = c.args.nest.now.frames.items in
-    let e : c.replace-outer.new.dest.items ≡ [] = ap (λ v. v.items) c.replace-outer.ensures.after ∙ c.new.ensures.items in
+    let e : c.replace-outer.new.dest.items ≡ [] = ap (λ v. v.items) c.replace-outer.ensures.after ∙ c.emptied-inner.ensures in
     begin_open (stack_of c.args.nest.now) (opened_all base gs (plain_all c.replace-outer.new.dest.items)) c.args.nest.now.room c.if-nest-eq0.false
     (popped_list gs fs (frame.List c.replace-outer.result) c.replace-outer.result (plain_all c.replace-outer.new.dest.items) c.in_ok-push.ensures.ok refl
     ∙ (ap (λ z. list (plain_all z) (opened_all base fs (plain_all c.replace-outer.result.items))) e

@@ -19,11 +19,11 @@ returns-in-Some-List c =
     let old = c.args.nest.now.current.items in
     let len : length old ≡ 0 = search (rules, c.if-not-is_empty.ensures) in
     let empty : old ≡ [] = no_items old len in
-    none_list (stack_of c.args.nest.now) (opened_all base gs (plain_all c.in-Some-List.outer.items)) (opened_all base gs (plain_all c.replace-items.new.dest.items)) c.args.nest.now.room (plain_all old) (plain (Items c.replace-items.result))
+    none_list (stack_of c.args.nest.now) (opened_all base gs (plain_all c.in-Some-List.outer.items)) (opened_all base gs (plain_all c.replace.new.dest.items)) c.args.nest.now.room (plain_all old) (plain (Items c.new-in-Some-List.result))
     (popped_list fs gs c.in-Some-List.field-0 c.in-Some-List.outer (plain_all old) c.in-Some-List.ensures.items c.in-Some-List.field-0-is)
     (ap plain_all empty)
-    (ap (λ v. opened_all base gs (plain_all v.items)) (c.replace-items.ensures.after ∙ c.in-Some-List.outer-is))
-    (plain_items c.replace-items.result ∙ (ap (λ v. tree.items (plain_all v.items)) c.replace-items.ensures.value ∙ ap (λ z. tree.items (plain_all z)) empty))
+    (ap (λ v. opened_all base gs (plain_all v.items)) (c.replace.ensures.after ∙ c.in-Some-List.outer-is))
+    (plain_items c.new-in-Some-List.result ∙ ap (λ z. tree.items (plain_all z)) c.new-in-Some-List.ensures.items)
 
 pub returns-in-Some-Typed : goal.returns-in-Some-Typed
 returns-in-Some-Typed c =

@@ -2,13 +2,13 @@
 
 ghost use Rattle.std.specs.Prelude.{◌≡◌};
 ghost use Rattle.p21_text.specs.Spelling.{symbol};
-ghost use Rattle.p21_tree.specs.Signs.{sign_in, keyword_sign_in};
+ghost use Rattle.p21_tree.specs.Terminals.{terminal_in, keyword_terminal_in};
 
 use p21_text::Token;
 
 /// A token that the grammar names.
 #[derive(Clone, Copy, PartialEq, Eq)]
-pub enum Sign {
+pub enum Terminal {
     /// `ISO-10303-21`
     Iso,
     /// `END-ISO-10303-21`
@@ -36,33 +36,33 @@ const END_SEC: &[u8] = b"ENDSEC";
 const DATA: &[u8] = b"DATA";
 
 /// Which of these a keyword is.
-fn keyword_sign(keyword: &[u8]) -> Option<Sign>
-    ensures { result ≡ keyword_sign_in keyword.now }
+fn keyword_terminal(keyword: &[u8]) -> Option<Terminal>
+    ensures { result ≡ keyword_terminal_in keyword.now }
 {
     if keyword == HEADER {
-        return Some(Sign::Header);
+        return Some(Terminal::Header);
     }
     if keyword == END_SEC {
-        return Some(Sign::EndSec);
+        return Some(Terminal::EndSec);
     }
     if keyword == DATA {
-        return Some(Sign::Data);
+        return Some(Terminal::Data);
     }
     None
 }
 
 /// Which of these a token is.
-pub fn as_sign(token: Token<'_>) -> Option<Sign>
-    ensures { result ≡ sign_in (symbol token.entry) }
+pub fn as_terminal(token: Token<'_>) -> Option<Terminal>
+    ensures { result ≡ terminal_in (symbol token.entry) }
 {
     match token {
-        Token::Keyword(keyword) => keyword_sign(keyword),
-        Token::Iso => Some(Sign::Iso),
-        Token::EndIso => Some(Sign::EndIso),
-        Token::LParen => Some(Sign::Open),
-        Token::Equals => Some(Sign::Equals),
-        Token::Semi => Some(Sign::Semi),
-        Token::End => Some(Sign::End),
+        Token::Keyword(keyword) => keyword_terminal(keyword),
+        Token::Iso => Some(Terminal::Iso),
+        Token::EndIso => Some(Terminal::EndIso),
+        Token::LParen => Some(Terminal::Open),
+        Token::Equals => Some(Terminal::Equals),
+        Token::Semi => Some(Terminal::Semi),
+        Token::End => Some(Terminal::End),
         Token::UserKeyword(_) => None,
         Token::Int(_) => None,
         Token::Real(_) => None,

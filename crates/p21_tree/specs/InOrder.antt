@@ -1,0 +1,67 @@
+-- The parts of a file by their tokens, its preface, its pieces and its tail, and what reading them in order gives.
+use Rattle.std.specs.Prelude.{◌≡◌, ◌≢◌, ◌⊎◌, ℕ, List, [], ◌∷◌, ◌++◌, All}
+use Rattle.p21_text.specs.Spelling as token
+use Rattle.p21_text.specs.Tokens.{Placed}
+use Rattle.p21_tree.specs.Sentence.{Instance, Opening, IsFile, IsPreface, IsPiece, IsInstance, IsInstances, IsTail, deepest}
+use Rattle.p21_tree.specs.Fault.{Kind, files, pieces, tails}
+use Rattle.p21_tree.specs.Laws.{IsTokenList, FaultOf}
+
+-- the first token is an instance name
+abbrev pub BeginsWithName : List Placed → Type 0
+BeginsWithName [] = ⊥
+BeginsWithName (t ∷ ts) = (n : ℕ) × (t.token ≡ token.name n)
+
+-- no token is a semicolon
+abbrev pub HasNoSemi : List Placed → Type 0
+HasNoSemi ts = All (λ t. t.token ≢ token.semi) ts
+
+-- The tokens of a file from behind its preface on, up to its first Bad, are those of its pieces in turn, without
+-- their Ends, and of its tail.
+pub data Joined : List (List Placed) → List Placed → List Placed → Type 0 where
+  -- the tail begins with no name
+  tail : {tail : List Placed} → IsTokenList tail → ¬ (BeginsWithName tail) → Joined [] tail tail
+  -- a piece begins with a name, and its one semicolon stands before its End
+  piece : {ps : List (List Placed)} {tail rest : List Placed} (body : List Placed) (semi end : Placed) → BeginsWithName body → HasNoSemi body → semi.token ≡ token.semi → end.token ≡ token.end → Joined ps tail rest → Joined ((body ++ semi ∷ end ∷ []) ∷ ps) tail (body ++ semi ∷ rest)
+  -- one without a semicolon goes up to the End of the file, which is the tail
+  cut : (body : List Placed) (end : Placed) → BeginsWithName body → HasNoSemi body → end.token ≡ token.end → Joined ((body ++ end ∷ []) ∷ []) (end ∷ []) (body ++ end ∷ [])
+  -- or up to the first Bad, which may be its first token; what stands behind it is of no account
+  bad : {ps : List (List Placed)} {tail : List Placed} (body : List Placed) (last : Placed) → BeginsWithName body ⊎ (body ≡ []) → HasNoSemi body → last.token ≡ token.bad → Joined ((body ++ last ∷ []) ∷ ps) tail (body ++ last ∷ [])
+
+-- all instances, or a fault and the instances before it
+pub data Outcome : Type 0 where
+  read : List Instance → Outcome
+  stopped : List Instance → Kind → ℕ → Outcome
+
+-- with one instance more before the others
+abbrev pub behind : Instance → Outcome → Outcome
+behind i (read is) = read (i ∷ is)
+behind i (stopped is kind at) = stopped (i ∷ is) kind at
+
+-- Reading pieces in order and then the tail gives their instances, or the first fault and the instances before it.
+pub data ReadsInOrder : List (List Placed) → List Placed → Outcome → Type 0 where
+  done : {tail : List Placed} → IsTail tail → ReadsInOrder [] tail (read [])
+  tail_fault : {tail : List Placed} (f : FaultOf tails tail) → ReadsInOrder [] tail (stopped [] f.kind f.at)
+  piece_fault : {ps : List (List Placed)} {p tail : List Placed} (f : FaultOf pieces p) → ReadsInOrder (p ∷ ps) tail (stopped [] f.kind f.at)
+  next : {ps : List (List Placed)} {p tail : List Placed} {i : Instance} {o : Outcome} → IsPiece deepest p i → ReadsInOrder ps tail o → ReadsInOrder (p ∷ ps) tail (behind i o)
+
+-- The fault of a file, and the instances that stand whole before it.
+pub record StopsBehind (ts : List Placed) (o : Opening) (is : List Instance) (kind : Kind) (at : ℕ) : Type 0 where
+  pub opening : List Placed
+  pub body : List Placed
+  pub front : List Placed
+  pub fault : FaultOf files ts
+  pub parts : fault.before ≡ opening ++ (body ++ front)
+  pub is_opening : IsPreface deepest opening o
+  pub are_instances : IsInstances deepest body is
+  pub no_more : (a b : List Placed) (i : Instance) → front ≡ a ++ b → ¬ (IsInstance deepest a i)
+  pub kind_is : fault.kind ≡ kind
+  pub place_is : fault.at ≡ at
+
+-- the tokens of a file with this preface are the file of these instances, or have this fault behind them
+abbrev pub IsOutcome : List Placed → Opening → Outcome → Type 0
+IsOutcome ts o (read is) = IsFile deepest ts (record { opening = o; instances = is })
+IsOutcome ts o (stopped is kind at) = StopsBehind ts o is kind at
+
+-- reading the parts of a file in order gives the tree or the fault of the file
+abbrev pub PartsGiveFile : Type 0
+PartsGiveFile = (ts rest : List Placed) (o : Opening) (ps : List (List Placed)) (tail : List Placed) (found : Outcome) → IsPreface deepest ts o → Joined ps tail rest → ReadsInOrder ps tail found → IsOutcome (ts ++ rest) o found
