@@ -1,0 +1,151 @@
+-- A file is cut in one way alone.
+use Rattle.std.proofs.Common.{◌≡◌, ◌≢◌, ℕ, zero, suc, ◌+◌, ◌-◌, ◌<◌, ◌≤◌, ◌⊎◌, inl, inr, List, [], ◌∷◌, ◌++◌, length, take, drop, slice_index, refl, sym, ap, subst, ◌∙◌, arith, length-append, length-take-le}
+use Rattle.std.proofs.lemmas.List.{get_or-take, get_or-append_right, drop-drop}
+use Rattle.p21_text.specs.Separators.{IsComment}
+use Rattle.p21_text.specs.Spelling.{Spells, str}
+use Rattle.p21_text.specs.Tokens.{Passes}
+use Rattle.p21_text.specs.Laws.{HasOneString}
+use Rattle.p21_cut.specs.Pieces.{BeginsWith, IsPlain, PartIs, PartsAre, HasNoPart, Piece, PieceIs, PiecesAre}
+use Rattle.p21_cut.specs.Pieces as pieces
+
+either_le : (n m : ℕ) → (n ≤ m) ⊎ (m ≤ n)
+either_le zero m = inl (omega arith)
+either_le (suc n) zero = inr (omega arith)
+either_le (suc n) (suc m) = elim (either_le n m) [ inl h ↦ inl (omega arith) | inr h ↦ inr (omega arith) ]
+
+-- ---- comments
+
+comment_len : (text : List ℕ) (n : ℕ) → n ≤ length text → (c : IsComment (take n text)) → n ≡ length c.body + 4
+comment_len text n h c = omega (arith, sym (length-take-le n text h), ap length c.spelled, length-append c.body (42 ∷ 47 ∷ []))
+
+-- the byte at a place behind the `/*`
+comment_byte : (text : List ℕ) (n k : ℕ) → n ≤ length text → (c : IsComment (take n text)) → k + 2 < n → slice_index (c.body ++ 42 ∷ 47 ∷ []) k ≡ slice_index text (k + 2)
+comment_byte text n k h c u =
+    let place : k + 2 ≡ suc (suc k) = omega arith in
+    let spelled : slice_index (take n text) (suc (suc k)) ≡ slice_index (c.body ++ 42 ∷ 47 ∷ []) k = ap (λ l. slice_index l (suc (suc k))) c.spelled in
+    sym (ap (slice_index text) place ∙ sym (get_or-take n text (suc (suc k)) 0 (omega arith)) ∙ spelled)
+
+-- of two comments at one place neither is longer
+comment_same : (text : List ℕ) (n m : ℕ) → n ≤ length text → m ≤ length text → n ≤ m → IsComment (take n text) → IsComment (take m text) → n ≡ m
+comment_same text n m h k u c d =
+    let a : ℕ = length c.body in
+    let one : n ≡ a + 4 = comment_len text n h c in
+    let two : m ≡ length d.body + 4 = comment_len text m k d in
+    let closes : (j : ℕ) → j < 2 → slice_index (d.body ++ 42 ∷ 47 ∷ []) (a + j) ≡ slice_index (42 ∷ 47 ∷ []) j =
+    λ j v.
+    let there : slice_index (c.body ++ 42 ∷ 47 ∷ []) (a + j) ≡ slice_index (42 ∷ 47 ∷ []) (a + j - a) = get_or-append_right c.body (42 ∷ 47 ∷ []) a (a + j) 0 refl (omega arith) in
+    let index : a + j - a ≡ j = omega arith in
+    comment_byte text m (a + j) k d (omega (arith, u, one, v)) ∙ sym (comment_byte text n (a + j) h c (omega (arith, one, v))) ∙ there ∙ ap (slice_index (42 ∷ 47 ∷ [])) index in
+    let fits : a + 2 ≤ length (d.body ++ 42 ∷ 47 ∷ []) = omega (arith, u, one, two, length-append d.body (42 ∷ 47 ∷ [])) in
+    let end : a ≡ length d.body = d.once a (record { fits = fits; reads = closes }) in
+    omega (arith, one, two, end)
+
+comment_once : (text : List ℕ) (n m : ℕ) → n ≤ length text → m ≤ length text → IsComment (take n text) → IsComment (take m text) → n ≡ m
+comment_once text n m h k c d = elim (either_le n m) [ inl u ↦ comment_same text n m h k u c d | inr u ↦ sym (comment_same text m n k h u d c) ]
+
+-- ---- parts
+
+-- the first bytes of a text
+pub begins_by : (text rest : List ℕ) (n b : ℕ) → take n text ≡ b ∷ rest → BeginsWith b text
+begins_by [] rest zero b e = cc
+begins_by [] rest (suc n) b e = cc
+begins_by (c ∷ text) rest zero b e = cc
+begins_by (c ∷ text) rest (suc n) b e = cc
+
+two_firsts : (text : List ℕ) (b c : ℕ) → b ≢ c → BeginsWith b text → ¬ (BeginsWith c text)
+two_firsts [] b c other h k = absurd h
+two_firsts (x ∷ text) b c other h k = other (sym h ∙ k)
+
+string_begins : (text body : List ℕ) (n : ℕ) → Spells (take n text) (drop n text) (str body) → BeginsWith 39 text
+string_begins text body n s = begins_by text (body ++ 39 ∷ []) n 39 s.0
+
+comment_begins : (text : List ℕ) (n : ℕ) → IsComment (take n text) → BeginsWith 47 text
+comment_begins text n c = begins_by text (42 ∷ (c.body ++ 42 ∷ 47 ∷ [])) n 47 c.spelled
+
+comment_star : (b : ℕ) (behind : List ℕ) (n : ℕ) → IsComment (take n (b ∷ behind)) → BeginsWith 42 behind
+comment_star b behind zero c = let spelled = c.spelled in cc
+comment_star b behind (suc n) c =
+    let spelled : b ∷ take n behind ≡ 47 ∷ (42 ∷ (c.body ++ 42 ∷ 47 ∷ [])) = c.spelled in
+    let rest : take n behind ≡ 42 ∷ (c.body ++ 42 ∷ 47 ∷ []) = cc in
+    begins_by behind (c.body ++ 42 ∷ 47 ∷ []) n 42 rest
+
+plain_no_comment : (b : ℕ) (behind : List ℕ) (n : ℕ) → IsPlain b behind → ¬ (IsComment (take n (b ∷ behind)))
+plain_no_comment b behind n p c = p.opens_nothing (comment_begins (b ∷ behind) n c) (comment_star b behind n c)
+
+pub part_once : (text : List ℕ) (n m : ℕ) → HasOneString text → PartIs text n → PartIs text m → n ≡ m
+part_once text n m one (pieces.string {body = a} h s) (pieces.string {body = b} k u) = (one n m (str a) b h k s u).0
+part_once text n m one (pieces.string {body = a} h s) (pieces.comment k c) = absurd (two_firsts text 39 47 (λ e. omega arith) (string_begins text a n s) (comment_begins text m c))
+part_once text n m one (pieces.string {body = a} h s) (pieces.byte p) = absurd (p.no_apostrophe (string_begins text a n s))
+part_once text n m one (pieces.comment h c) (pieces.string {body = b} k u) = absurd (two_firsts text 39 47 (λ e. omega arith) (string_begins text b m u) (comment_begins text n c))
+part_once text n m one (pieces.comment h c) (pieces.comment k d) = comment_once text n m h k c d
+part_once text n m one (pieces.comment h c) (pieces.byte {b = b} {behind = behind} p) = absurd (plain_no_comment b behind n p c)
+part_once text n m one (pieces.byte p) (pieces.string {body = b} k u) = absurd (p.no_apostrophe (string_begins text b m u))
+part_once text n m one (pieces.byte {b = b} {behind = behind} p) (pieces.comment k d) = absurd (plain_no_comment b behind m p d)
+part_once text n m one (pieces.byte p) (pieces.byte q) = refl
+
+-- no part begins with a semicolon
+pub no_part_at_semicolon : (text : List ℕ) → BeginsWith 59 text → HasNoPart text
+no_part_at_semicolon text h n (pieces.string {body = body} k s) = two_firsts text 59 39 (λ e. omega arith) h (string_begins text body n s)
+no_part_at_semicolon text h n (pieces.comment k c) = two_firsts text 59 47 (λ e. omega arith) h (comment_begins text n c)
+no_part_at_semicolon text h n (pieces.byte p) = p.no_semicolon h
+
+strings_behind : (n : ℕ) (text : List ℕ) → ((at : ℕ) → HasOneString (drop at text)) → (at : ℕ) → HasOneString (drop at (drop n text))
+strings_behind n text one at = rw (drop-drop at n text) (one (n + at))
+
+-- parts that go as far as they can end at one place
+stop_once : (text : List ℕ) (n m : ℕ) → ((at : ℕ) → HasOneString (drop at text)) → PartsAre text n → PartsAre text m → HasNoPart (drop n text) → HasNoPart (drop m text) → n ≡ m
+stop_once text n m one pieces.none pieces.none h k = refl
+stop_once text n m one pieces.none (pieces.more {n = a} p ps e) h k = absurd (h a p)
+stop_once text n m one (pieces.more {n = a} p ps e) pieces.none h k = absurd (k a p)
+stop_once text n m one (pieces.more {n = a} {m = others} p ps e) (pieces.more {n = b} {m = rest} q qs f) h k =
+    let same : a ≡ b = part_once text a b (one 0) p q in
+    let behind : PartsAre (drop a text) rest = subst (λ j. PartsAre (drop j text) rest) (sym same) qs in
+    let stops : HasNoPart (drop others (drop a text)) = rw (drop-drop others a text) (subst (λ j. HasNoPart (drop j text)) e h) in
+    let place : m ≡ a + rest = omega (arith, same, f) in
+    let ends : HasNoPart (drop rest (drop a text)) = rw (drop-drop rest a text) (subst (λ j. HasNoPart (drop j text)) place k) in
+    let left : others ≡ rest = stop_once (drop a text) others rest (strings_behind a text one) ps behind stops ends in
+    omega (arith, e, place, left)
+
+-- ---- pieces
+
+piece_once : (text : List ℕ) (n m : ℕ) → ((at : ℕ) → HasOneString (drop at text)) → PieceIs text n → PieceIs text m → n ≡ m
+piece_once text n m one (pieces.closed {rest = rest} {n = a} p s) (pieces.closed {n = b} q t) =
+    ap (λ j. j + 2) (stop_once rest a b (λ at. one (suc at)) p q (no_part_at_semicolon (drop a rest) s) (no_part_at_semicolon (drop b rest) t))
+piece_once text n m one (pieces.closed {rest = rest} {n = a} p s) (pieces.open_ {n = b} q t none) =
+    let same : a ≡ b = stop_once rest a b (λ at. one (suc at)) p q (no_part_at_semicolon (drop a rest) s) none in
+    absurd (t (subst (λ j. BeginsWith 59 (drop j rest)) same s))
+piece_once text n m one (pieces.open_ {rest = rest} {n = a} p s none) (pieces.closed {n = b} q t) =
+    let same : a ≡ b = stop_once rest a b (λ at. one (suc at)) p q none (no_part_at_semicolon (drop b rest) t) in
+    absurd (s (subst (λ j. BeginsWith 59 (drop j rest)) (sym same) t))
+piece_once text n m one (pieces.open_ p s none) (pieces.open_ q t other) = refl
+
+pub passes_once : (text : List ℕ) (n m : ℕ) → Passes text n → Passes text m → n ≡ m
+passes_once text n m p q =
+    let a : m ≤ n = p.longest m q.fits q.separators in
+    let b : n ≤ m = q.longest n p.fits p.separators in omega (arith, a, b)
+
+piece_begins : (text : List ℕ) (n : ℕ) → PieceIs text n → BeginsWith 35 text
+piece_begins text n (pieces.closed p s) = refl
+piece_begins text n (pieces.open_ p s none) = refl
+
+pub pieces_once : (file : List ℕ) (at number : ℕ) (ps qs : List Piece) (end other : ℕ) → ((k : ℕ) → HasOneString (drop k file)) → PiecesAre file at number ps end → PiecesAre file at number qs other → (ps ≡ qs) × (end ≡ other)
+pieces_once file at number ps qs end other one (pieces.tail {gap = g} p s) (pieces.tail {gap = h} q t) =
+    let same : g ≡ h = passes_once (drop at file) g h p q in (refl, ap (λ j. at + j) same)
+pieces_once file at number ps qs end other one (pieces.tail {gap = g} p s) (pieces.piece {gap = h} {len = len} q u more) =
+    let same : g ≡ h = passes_once (drop at file) g h p q in
+    absurd (s (subst (λ j. BeginsWith 35 (drop (at + j) file)) (sym same) (piece_begins (drop (at + h) file) len u)))
+pieces_once file at number ps qs end other one (pieces.piece {gap = g} {len = len} p u more) (pieces.tail {gap = h} q t) =
+    let same : g ≡ h = passes_once (drop at file) g h p q in
+    absurd (t (subst (λ j. BeginsWith 35 (drop (at + j) file)) same (piece_begins (drop (at + g) file) len u)))
+pieces_once file at number ps qs end other one (pieces.piece {gap = g} {len = a} {others = xs} p u more) (pieces.piece {gap = h} {len = b} {others = ys} q v rest) =
+    let same : g ≡ h = passes_once (drop at file) g h p q in
+    let here : PieceIs (drop (at + g) file) b = subst (λ j. PieceIs (drop (at + j) file) b) (sym same) v in
+    let len : a ≡ b = piece_once (drop (at + g) file) a b (strings_behind (at + g) file one) u here in
+    let place : at + h + b ≡ at + g + a = omega (arith, same, len) in
+    let behind : PiecesAre file (at + g + a) (number + 1) ys other = subst (λ j. PiecesAre file j (number + 1) ys other) place rest in
+    let left : (xs ≡ ys) × (end ≡ other) = pieces_once file (at + g + a) (number + 1) xs ys end other one more behind in
+    let first : Piece = record { number = number; at = at + g; bytes = take a (drop (at + g) file) } in
+    let second : Piece = record { number = number; at = at + h; bytes = take b (drop (at + h) file) } in
+    let piece : first ≡ second = ap (λ j. record { number = number; at = at + j; bytes = take a (drop (at + j) file) }) same ∙ ap (λ j. record { number = number; at = at + h; bytes = take j (drop (at + h) file) }) len in
+    let tail : xs ≡ ys = left.0 in
+    (cc, left.1)

@@ -1,0 +1,34 @@
+-- What a cutter still gives.
+use Rattle.std.specs.Prelude.{◌≡◌, ◌-◌, ◌<◌, ◌≤◌, ℕ, List, [], ◌∷◌, length}
+use Rattle.p21_tree.specs.declared.pieces.Piece.{Piece}
+use Rattle.p21_cut.specs.Pieces as pieces
+use Rattle.p21_cut.specs.declared.cutter.Cutter.{Cutter}
+use Rattle.p21_cut.specs.declared.cutter.Cut.{Cut}
+use Rattle.p21_cut.specs.declared.cutter.Cut.TheVariants as cut
+
+-- the piece of the code, without where its bytes lie in memory
+abbrev pub plain_piece : Piece → pieces.Piece
+plain_piece p = record { number = p.number; at = p.at; bytes = p.bytes.now }
+
+-- the file that is cut
+abbrev pub file_of : Cutter → List ℕ
+file_of c = c.file.now
+
+-- the pieces that the cutter gives from now on, and the tail behind them
+abbrev pub Gives : Cutter → List pieces.Piece → ℕ → Type 0
+Gives c ps end = pieces.PiecesAre c.file.now c.at c.number ps end
+
+-- how many bytes are left to cut
+abbrev pub bytes_left : Cutter → ℕ
+bytes_left c = length c.file.now - c.at
+
+-- A call gives the first of the pieces that are left; or, where none is left, the tail, which lies in the file, and then
+-- the cutter stays as it was.
+abbrev pub GivesNext : Cutter → Cut → Cutter → Type 0
+GivesNext old (cut.Piece p) new = (ps : List pieces.Piece) → (end : ℕ) → Gives new ps end → Gives old (plain_piece p ∷ ps) end
+GivesNext old (cut.Tail end) new = Gives old [] end × (new ≡ old) × (end ≤ length (file_of old))
+
+-- with each piece fewer bytes are left
+abbrev pub LeavesLess : Cutter → Cut → Cutter → Type 0
+LeavesLess old (cut.Piece p) new = bytes_left new < bytes_left old
+LeavesLess old (cut.Tail end) new = Unit {0}

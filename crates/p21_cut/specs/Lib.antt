@@ -1,0 +1,4 @@
+pub mod Pieces
+pub mod Cutter
+pub mod Laws
+pub mod Tokens

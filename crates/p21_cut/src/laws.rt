@@ -1,0 +1,32 @@
+//! Laws of the definitions: what each function ensures holds of every file. A caller calls one to learn its law.
+
+ghost use Rattle.std.specs.Prelude.{◌≤◌, ℕ, List, length};
+ghost use Rattle.p21_cut.specs.Laws.{HasOneCutting};
+ghost use Rattle.p21_cut.specs.Tokens.{PiecesHoldTokens};
+
+use crate::cutter::{Cut, Cutter};
+use p21_text::{one_string, tokens_are_unique};
+
+/// From each place of a file on there is exactly one list of pieces, and one tail.
+pub fn one_cutting(file: &[u8], at: usize)
+    requires { at ≤ length file.now }
+    ensures { HasOneCutting file.now at }
+{
+    one_string();
+    // The pieces that exist are the ones that are cut.
+    let mut cutter = Cutter::new(file, at);
+    loop {
+        if let Cut::Tail(_) = cutter.next() {
+            return;
+        }
+    }
+}
+
+/// The tokens of a file from a place on are those of its pieces in turn and of its tail, up to the first place where no
+/// token begins.
+pub fn pieces_hold_tokens()
+    ensures { (file : List ℕ) → (at : ℕ) → PiecesHoldTokens file at }
+{
+    one_string();
+    tokens_are_unique();
+}

@@ -1,0 +1,11 @@
+//! Cutting the data section of a file into pieces, which can be read one by one.
+#![tactic(auto)]
+
+mod cutter;
+mod laws;
+mod parts;
+#[cfg(test)]
+mod tests;
+
+pub use cutter::{Cut, Cutter};
+pub use laws::{one_cutting, pieces_hold_tokens};
