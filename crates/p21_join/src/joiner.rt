@@ -1,0 +1,70 @@
+//! A model in the making.
+
+ghost use Rattle.std.specs.Prelude.{◌≡◌, []};
+ghost use Rattle.p21_join.specs.Names.{AreNamesOf};
+
+use crate::model::Model;
+use indexmap::IndexSet;
+use p21_tree::RawInstance;
+use std::alloc::Global;
+
+/// Instances that are joined one by one.
+#[derive(Drop)]
+pub struct Joiner<'a> {
+    instances: Vec<RawInstance<'a>>,
+    /// The name of each instance, at its place.
+    names: IndexSet<u64>,
+    ghost named: { AreNamesOf names.keys instances.items },
+}
+
+/// Why an instance was not joined; it is handed back.
+#[derive(Debug, Drop)]
+pub enum JoinError<'a> {
+    /// An instance that was joined before has its name.
+    Duplicate(RawInstance<'a>),
+    /// There was no memory left.
+    Memory(RawInstance<'a>),
+}
+
+impl<'a> Joiner<'a> {
+    ghost use Rattle.p21_join.specs.Joined.{joined, Joins};
+    ghost use Rattle.p21_join.specs.Model.{instances_of};
+
+    /// Nothing is joined yet. This takes no memory.
+    pub fn new(alloc: Global) -> Joiner<'a>
+        ensures { joined result ≡ [] }
+    {
+        Joiner {
+            instances: Vec::new(alloc),
+            names: IndexSet::new(alloc),
+        }
+    }
+
+    /// Joins an instance behind the others. It is handed back as `Duplicate` exactly where one of them has its name, and
+    /// as `Memory` where there was no memory left; then nothing is changed.
+    pub fn add(&mut self, instance: RawInstance<'a>) -> Result<(), JoinError<'a>>
+        ensures { Joins (joined self.old) instance.entry result (joined self.new) }
+    {
+        let name = instance.name;
+        if self.names.contains(&name) {
+            return Err(JoinError::Duplicate(instance));
+        }
+        if self.names.reserve(1).is_err() {
+            return Err(JoinError::Memory(instance));
+        }
+        match self.instances.push(instance) {
+            Ok(()) => {
+                let _ = self.names.insert(name);
+                Ok(())
+            }
+            Err(refused) => Err(JoinError::Memory(refused.value)),
+        }
+    }
+
+    /// The model of all that was joined.
+    pub fn into_model(self) -> Model<'a>
+        ensures { instances_of result ≡ joined self.entry }
+    {
+        Model::of(self.instances, self.names)
+    }
+}

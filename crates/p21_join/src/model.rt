@@ -1,0 +1,64 @@
+//! A model: the instances of a file, and the places of their names.
+
+ghost use Rattle.std.specs.Prelude.{◌≡◌, ◌<◌, ◌↔◌, IsTrue, length, get_or};
+ghost use Rattle.p21_join.specs.Names.{AreNamesOf};
+
+use indexmap::IndexSet;
+use p21_tree::RawInstance;
+
+/// Instances in file order, of which no two have one name.
+#[derive(Drop)]
+pub struct Model<'a> {
+    instances: Vec<RawInstance<'a>>,
+    /// The name of each instance, at its place.
+    names: IndexSet<u64>,
+    ghost named: { AreNamesOf names.keys instances.items },
+}
+
+impl<'a> Model<'a> {
+    ghost use Rattle.p21_join.specs.Model.{instances_of, Finds};
+
+    pub(crate) fn of(instances: Vec<RawInstance<'a>>, names: IndexSet<u64>) -> Model<'a>
+        requires { AreNamesOf names.keys instances.items }
+        ensures { instances_of result ≡ instances.entry.items }
+    {
+        Model { instances, names }
+    }
+
+    /// How many instances there are.
+    pub fn len(&self) -> usize
+        ensures { result ≡ length (instances_of self.now) }
+    {
+        self.instances.len()
+    }
+
+    /// Whether there is none.
+    pub fn is_empty(&self) -> bool
+        ensures { IsTrue result ↔ (length (instances_of self.now) ≡ 0) }
+    {
+        self.instances.is_empty()
+    }
+
+    /// All instances, in file order.
+    pub fn instances(&self) -> &[RawInstance<'a>]
+        ensures { result.now ≡ instances_of self.now }
+    {
+        self.instances.as_slice()
+    }
+
+    /// The instance at a place, which is below their number.
+    pub fn instance(&self, i: usize) -> &RawInstance<'a>
+        requires { i < length (instances_of self.now) }
+        ensures { result.now ≡ get_or (instances_of self.now) i result.now }
+    {
+        &self.instances[i]
+    }
+
+    /// The instance of a name.
+    pub fn find(&self, name: u64) -> Option<&RawInstance<'a>>
+        ensures { Finds (instances_of self.now) name result }
+    {
+        let place = self.names.get_index_of(&name)?;
+        Some(&self.instances[place])
+    }
+}
