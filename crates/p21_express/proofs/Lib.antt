@@ -17,3 +17,15 @@ pub mod ScanLemmas
 pub mod ReadingLemmas
 pub mod BasedOnLemmas
 pub mod Examples
+pub mod GraphLemmas
+pub mod SearchLemmas
+pub mod ChecksLemmas
+pub mod IndexLemmas
+pub mod MetLemmas
+pub mod PositionLemmas
+pub mod UnknownLemmas
+pub mod CycleLemmas
+pub mod AgainLemmas
+pub mod AncestryLemmas
+pub mod RedeclarationLemmas
+pub mod WellFormedLemmas

@@ -12,3 +12,9 @@ pub mod Naming
 pub mod Found
 pub mod Lexer
 pub mod Answer
+pub mod Graph
+pub mod Search
+pub mod Checks
+pub mod Index
+pub mod Positions
+pub mod Again

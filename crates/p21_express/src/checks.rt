@@ -1,5 +1,10 @@
 //! Whether declarations fit together. Each check goes over the whole text, and tells the first place.
 
+ghost use Rattle.std.specs.Prelude.{◌≡◌, IsSome, MatchResult};
+ghost use Rattle.p21_express.specs.Answer.{OnRefused};
+ghost use Rattle.p21_express.specs.Plain.{plain_schema};
+ghost use Rattle.p21_express.specs.WellFormed.{IsWellFormed};
+
 mod cycles;
 mod graph;
 mod names;
@@ -8,7 +13,7 @@ mod repeated;
 mod unknown;
 
 use crate::declarations::Declarations;
-use crate::places::{EntityPlaces, TypePlaces};
+use crate::places::{AttrPlaces, EntityPlaces, TypePlaces};
 use crate::refusal::{Kind, Refusal};
 use std::alloc::Global;
 
@@ -18,6 +23,28 @@ struct Checked<'d> {
     declarations: &'d Declarations,
     entity_places: &'d [EntityPlaces],
     type_places: &'d [TypePlaces],
+    /// What stands for the places of an entity that has none.
+    no_entity: &'d EntityPlaces,
+    /// What stands for the places of a type that has none.
+    no_type: &'d TypePlaces,
+}
+
+impl<'d> Checked<'d> {
+    /// Where the names of the entity at this position stand.
+    fn entity_places(self, position: usize) -> &'d EntityPlaces {
+        match self.entity_places.get(position) {
+            Some(places) => places,
+            None => self.no_entity,
+        }
+    }
+
+    /// Where the names of the type at this position stand.
+    fn type_places(self, position: usize) -> &'d TypePlaces {
+        match self.type_places.get(position) {
+            Some(places) => places,
+            None => self.no_type,
+        }
+    }
 }
 
 /// The first place in the text where something is wrong, among those that were met.
@@ -27,12 +54,16 @@ struct First {
 }
 
 impl First {
-    fn new() -> First {
+    fn new() -> First
+        ensures { result.found ≡ None }
+    {
         First { found: None }
     }
 
     /// Something is wrong where so many words are left.
-    fn meet(&mut self, kind: Kind, left: usize) {
+    fn meet(&mut self, kind: Kind, left: usize)
+        ensures { IsSome self.new.found }
+    {
         let is_first = match self.found {
             Some((_, other)) => left > other,
             None => true,
@@ -42,7 +73,9 @@ impl First {
         }
     }
 
-    fn refusal(self) -> Result<(), Refusal> {
+    fn refusal(self) -> Result<(), Refusal>
+        ensures { MatchResult result (λ _. self.found ≡ None) (λ r. OnRefused r (IsSome self.found)) }
+    {
         match self.found {
             Some((kind, left)) => Err(Refusal::Refused(kind, left)),
             None => Ok(()),
@@ -58,17 +91,31 @@ fn place_at(places: &[usize], index: usize) -> usize {
     }
 }
 
-/// All checks, one after the other.
-pub(crate) fn check(
+/// The places of an attribute.
+fn attribute_places_at(places: &[AttrPlaces], index: usize) -> AttrPlaces {
+    match places.get(index) {
+        Some(places) => *places,
+        None => AttrPlaces { name: 0, texpr: 0 },
+    }
+}
+
+/// Whether the declarations fit together, by one check after the other.
+pub(crate) fn check<'d>(
     alloc: Global,
-    declarations: &Declarations,
-    entity_places: &[EntityPlaces],
-    type_places: &[TypePlaces],
-) -> Result<(), Refusal> {
+    declarations: &'d Declarations,
+    entity_places: &'d [EntityPlaces],
+    type_places: &'d [TypePlaces],
+) -> Result<(), Refusal>
+    ensures { let s = plain_schema declarations.now in MatchResult result (λ _. IsWellFormed s) (λ r. OnRefused r (¬ (IsWellFormed s))) }
+{
+    let no_entity = EntityPlaces::nowhere(alloc);
+    let no_type = TypePlaces::nowhere(alloc);
     let checked = Checked {
         declarations,
         entity_places,
         type_places,
+        no_entity: &no_entity,
+        no_type: &no_type,
     };
     repeated::check(alloc, checked)?;
     let index = names::index(alloc, declarations)?;

@@ -20,7 +20,7 @@ pub enum SchemaError {
     Cycle(u64),
     /// The word SELF of an attribute that is declared again and may not be.
     BadRedeclaration(u64),
-    /// Memory is wanted.
+    /// There was no memory left.
     Memory,
 }
 

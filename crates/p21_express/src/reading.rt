@@ -3,7 +3,7 @@
 ghost use Rattle.std.specs.Prelude.{◌≡◌, ℕ, List, IfOk, IfErr, map};
 ghost use Rattle.std.specs.Char.{to_ascii_uppercase};
 ghost use Rattle.p21_express.specs.Plain.{plain_schema};
-ghost use Rattle.p21_express.specs.Answer.{IsForm, HasNoForm, OnRefusal, IsSame};
+ghost use Rattle.p21_express.specs.Answer.{IsForm, HasNoForm, HasNoReading, OnRefusal, IsSame};
 ghost use Rattle.p21_express.specs.Reader.{words_of, Gives, schema_at, if_whole};
 ghost use Rattle.p21_express.specs.Schema.{Schema};
 ghost use Rattle.p21_express.specs.Reading.{IsReading};
@@ -93,8 +93,13 @@ fn read_form(alloc: Global, text: &[u8]) -> Result<Form, SchemaError>
 }
 
 /// The declarations of a schema's text.
+///
+/// A text that has no reading is refused with the first fault of the first check that finds one: its form, repeated names,
+/// unknown names, cycles, redeclarations. Places are byte offsets from the text's first byte. `Memory` says that there was
+/// no memory left.
 pub fn read_declarations(alloc: Global, text: &[u8]) -> Result<Declarations, SchemaError>
-    ensures form { IfOk result (λ found. IsForm text.now (plain_schema found)) }
+    ensures ok { IfOk result (λ found. IsReading text.now (plain_schema found)) }
+    ensures err { IfErr result (λ e. OnRefusal e (HasNoReading text.now)) }
 {
     let found = read_form(alloc, text)?;
     match check(

@@ -1,5 +1,11 @@
 //! Graphs by lists of neighbors.
 
+ghost use Rattle.std.specs.Prelude.{◌≡◌, ℕ, ◌<◌, ◌-◌, ◌^◌, ◌↔◌, List, IfOk, OnOk, IsSome, length, replicate, slice_get, slice_set};
+ghost use Rattle.p21_express.specs.WellFormed.{IsIn, HasNoCycle};
+ghost use Rattle.p21_express.specs.Graph.{lists, neighbors, HasEdge};
+ghost use Rattle.p21_express.specs.Search.{State, state_of, enter, meet, follow, finish, step, Reaches, IsSearchFrom, IsAtRest, IsAtEnd, IsBlank, IsWhole, IsCleared};
+ghost use Rattle.std.specs.Bool.{MatchBool};
+
 use std::alloc::{AllocError, Global};
 use std::mem;
 
@@ -7,16 +13,23 @@ use std::mem;
 pub(super) type Graph = Vec<Vec<usize>>;
 
 /// The same value so many times.
-pub(super) fn repeated<T: Copy>(
-    alloc: Global,
-    value: T,
-    count: usize,
-) -> Result<Vec<T>, AllocError> {
+pub(super) fn repeated<T: Copy>(alloc: Global, value: T, count: usize) -> Result<Vec<T>, AllocError>
+    ensures { IfOk result (λ list. list.items ≡ replicate count value) }
+{
     let mut list = Vec::new(alloc);
     for _ in 0..count {
         list.push(value)?;
     }
     Ok(list)
+}
+
+/// Writes a value to a place, where the list has it.
+fn set<T: Copy>(list: &mut Vec<T>, place: usize, value: T)
+    ensures { list.new.items ≡ slice_set list.old.items place value }
+{
+    if let Some(one) = list.get_mut(place) {
+        *one = value;
+    }
 }
 
 /// The graph with each edge turned round.
@@ -35,126 +48,191 @@ fn turned(alloc: Global, graph: &Graph) -> Result<Graph, AllocError> {
     Ok(turned)
 }
 
+/// How far a search came with a vertex.
+#[derive(Clone, Copy, Debug)]
+enum Mark {
+    New,
+    OnWay,
+    Finished,
+}
+
+/// These vertices are as new.
+fn clear(marks: &mut Vec<Mark>, vertices: &[usize])
+    ensures all { length marks.new.items ≡ length marks.old.items }
+    ensures cleared { (v : ℕ) → IsCleared marks.old.items marks.new.items vertices.now v }
+{
+    for vertex in vertices {
+        set(marks, *vertex, Mark::New);
+    }
+}
+
 /// A search in depth over a graph.
 #[derive(Drop)]
 pub(super) struct Search {
-    met: Vec<bool>,
+    marks: Vec<Mark>,
     /// The vertices on the way, and how many edges of each were taken.
     way: Vec<(usize, usize)>,
     /// Vertices of which all edges were taken, in that order.
     finished: Vec<usize>,
+    /// Whether an edge led back to a vertex on the way.
+    is_cyclic: bool,
 }
 
 impl Search {
-    pub(super) fn new(alloc: Global, count: usize) -> Result<Search, AllocError> {
+    /// A search over a graph of so many vertices.
+    pub(super) fn new(alloc: Global, count: usize) -> Result<Search, AllocError>
+        ensures { IfOk result (λ s. (g : List (List ℕ)) → length g ≡ count → IsBlank g (state_of s)) }
+    {
         Ok(Search {
-            met: repeated(alloc, false, count)?,
+            marks: repeated(alloc, Mark::New, count)?,
             way: Vec::new(alloc),
             finished: Vec::new(alloc),
+            is_cyclic: false,
         })
     }
 
-    /// A vertex is met: it goes on the way where it was not met before.
-    fn meet(&mut self, vertex: usize) -> Result<(), AllocError> {
-        if let Some(met) = self.met.get_mut(vertex) {
-            if !*met {
-                *met = true;
-                self.way.push((vertex, 0))?;
-            }
+    /// A new vertex goes on the way.
+    fn enter(&mut self, vertex: usize) -> Result<(), AllocError>
+        ensures { OnOk result (state_of self.new ≡ enter vertex (state_of self.old)) }
+    {
+        set(&mut self.marks, vertex, Mark::OnWay);
+        self.way.push((vertex, 0))?;
+        Ok(())
+    }
+
+    /// A vertex is met, to which an edge leads from the way.
+    fn meet(&mut self, vertex: usize) -> Result<(), AllocError>
+        ensures { OnOk result (state_of self.new ≡ meet (slice_get self.old.marks.items vertex) vertex (state_of self.old)) }
+    {
+        match self.marks.get(vertex).copied() {
+            Some(Mark::New) => self.enter(vertex)?,
+            Some(Mark::OnWay) => self.is_cyclic = true,
+            _ => {}
         }
         Ok(())
     }
 
-    /// One edge more, or a vertex finished; false where the way is empty.
-    fn step(&mut self, graph: &Graph) -> Result<bool, AllocError> {
-        let Some((vertex, taken)) = self.way.pop() else {
-            return Ok(false);
-        };
+    /// An edge is taken from the vertex that was the last on the way.
+    fn follow(&mut self, vertex: usize, taken: usize, to: usize) -> Result<(), AllocError>
+        requires { taken < 2 ^ 64 - 1 }
+        ensures { OnOk result (state_of self.new ≡ follow vertex taken to (state_of self.old)) }
+    {
+        self.way.push((vertex, taken + 1))?;
+        self.meet(to)
+    }
+
+    /// All edges were taken of the vertex that was the last on the way.
+    fn finish(&mut self, vertex: usize) -> Result<(), AllocError>
+        ensures { OnOk result (state_of self.new ≡ finish vertex (state_of self.old)) }
+    {
+        set(&mut self.marks, vertex, Mark::Finished);
+        self.finished.push(vertex)?;
+        Ok(())
+    }
+
+    /// One edge more of the vertex that was the last on the way, or its end.
+    fn step(&mut self, graph: &Graph, vertex: usize, taken: usize) -> Result<(), AllocError>
+        ensures { OnOk result (state_of self.new ≡ step (lists graph.now.items) vertex taken (state_of self.old)) }
+    {
         match next(graph, vertex, taken) {
-            Some(to) => {
-                self.way.push((vertex, taken.saturating_add(1)))?;
-                self.meet(to)?;
-            }
-            None => self.finished.push(vertex)?,
+            Some(to) => self.follow(vertex, taken, to),
+            None => self.finish(vertex),
         }
-        Ok(true)
     }
 
-    /// All vertices to which a way leads from this one.
-    fn from(&mut self, graph: &Graph, vertex: usize) -> Result<(), AllocError> {
-        self.meet(vertex)?;
-        for _ in 0..u64::MAX {
-            if !self.step(graph)? {
-                break;
-            }
+    /// Goes on until the way is empty.
+    fn go_on(&mut self, graph: &Graph) -> Result<(), AllocError>
+        ensures { (start : ℕ) (first : State) → IsSearchFrom (lists graph.now.items) start first (state_of self.old) → OnOk result (IsAtEnd (lists graph.now.items) start first (state_of self.new)) }
+    {
+        while let Some((vertex, taken)) = self.way.pop() {
+            self.step(graph, vertex, taken)?;
         }
         Ok(())
     }
 
-    /// All vertices to which a way leads from this one, itself last. The search is then as new, at no cost but that of
-    /// these vertices.
+    /// Finishes a vertex, and all to which it leads.
+    fn from(&mut self, graph: &Graph, vertex: usize) -> Result<(), AllocError>
+        ensures { IsAtRest (lists graph.now.items) (state_of self.old) → OnOk result (IsAtEnd (lists graph.now.items) vertex (state_of self.old) (state_of self.new)) }
+    {
+        self.meet(vertex)?;
+        self.go_on(graph)
+    }
+
+    /// The vertex, and all to which it leads. The search is then as new, at no cost but that of these vertices.
     pub(super) fn reached(
         &mut self,
         alloc: Global,
         graph: &Graph,
         vertex: usize,
-    ) -> Result<Vec<usize>, AllocError> {
+    ) -> Result<Vec<usize>, AllocError>
+        requires acyclic { HasNoCycle (HasEdge (lists graph.now.items)) }
+        requires blank { IsBlank (lists graph.now.items) (state_of self.old) }
+        requires vertex { vertex < length graph.now.items }
+        ensures blank { OnOk result (IsBlank (lists graph.now.items) (state_of self.new)) }
+        ensures found { IfOk result (λ found. (w : ℕ) → IsIn found.items w ↔ Reaches (lists graph.now.items) vertex w) }
+    {
         self.from(graph, vertex)?;
         let found = mem::replace(&mut self.finished, Vec::new(alloc));
-        for one in &found {
-            if let Some(met) = self.met.get_mut(*one) {
-                *met = false;
-            }
-        }
+        clear(&mut self.marks, &found);
         Ok(found)
     }
-}
 
-fn next(graph: &Graph, vertex: usize, taken: usize) -> Option<usize> {
-    let edges = graph.get(vertex)?;
-    edges.get(taken).copied()
-}
-
-/// The vertices in the order in which a search in depth finishes them.
-fn finished(alloc: Global, graph: &Graph) -> Result<Vec<usize>, AllocError> {
-    let mut search = Search::new(alloc, graph.len())?;
-    for vertex in 0..graph.len() {
-        search.from(graph, vertex)?;
+    /// A search from each vertex.
+    fn whole(alloc: Global, graph: &Graph) -> Result<Search, AllocError>
+        ensures { IfOk result (λ s. IsWhole (lists graph.now.items) (state_of s)) }
+    {
+        let mut search = Search::new(alloc, graph.len())?;
+        for vertex in 0..graph.len() {
+            search.from(graph, vertex)?;
+        }
+        Ok(search)
     }
-    let Search { finished, .. } = search;
-    Ok(finished)
+}
+
+/// The edge of a vertex that is next to be taken.
+fn next(graph: &Graph, vertex: usize, taken: usize) -> Option<usize>
+    ensures edge { result ≡ slice_get (neighbors (lists graph.now.items) vertex) taken }
+    ensures fits { IsSome result → taken < 2 ^ 64 - 1 }
+{
+    let edges = graph.get(vertex)?;
+    if taken < edges.len() {
+        Some(edges[taken])
+    } else {
+        None
+    }
+}
+
+/// Whether some vertex leads to itself.
+pub(super) fn is_cyclic(alloc: Global, graph: &Graph) -> Result<bool, AllocError>
+    ensures { IfOk result (λ answer. MatchBool answer (¬ (HasNoCycle (HasEdge (lists graph.now.items)))) (HasNoCycle (HasEdge (lists graph.now.items)))) }
+{
+    Ok(Search::whole(alloc, graph)?.is_cyclic)
 }
 
 /// For each vertex whether it lies on a cycle.
 pub(super) fn on_cycles(alloc: Global, graph: &Graph) -> Result<Vec<bool>, AllocError> {
-    let order = finished(alloc, graph)?;
+    let whole = Search::whole(alloc, graph)?;
     let turned = turned(alloc, graph)?;
     let mut on = repeated(alloc, false, graph.len())?;
     let mut search = Search::new(alloc, graph.len())?;
-    for vertex in order.iter().rev() {
+    for vertex in whole.finished.iter().rev() {
         let before = search.finished.len();
         search.from(&turned, *vertex)?;
         if search.finished.len() > before.saturating_add(1) {
-            mark(&mut on, &search.finished, before);
+            set_from(&mut on, &search.finished, before);
         }
     }
     for (vertex, edges) in graph.iter().enumerate() {
         if edges.contains(&vertex) {
-            set(&mut on, vertex);
+            set(&mut on, vertex, true);
         }
     }
     Ok(on)
 }
 
-/// Marks the vertices from a place on.
-fn mark(on: &mut Vec<bool>, vertices: &Vec<usize>, from: usize) {
+/// Writes true for the vertices of a list from a place on.
+fn set_from(on: &mut Vec<bool>, vertices: &[usize], from: usize) {
     for vertex in vertices.iter().skip(from) {
-        set(on, *vertex);
-    }
-}
-
-fn set(on: &mut Vec<bool>, vertex: usize) {
-    if let Some(one) = on.get_mut(vertex) {
-        *one = true;
+        set(on, *vertex, true);
     }
 }

@@ -1,24 +1,26 @@
 //! Attributes that are declared again.
 
-use super::cycles::supertypes;
+ghost use Rattle.std.specs.Prelude.{◌≡◌, ◌<◌, ◌↔◌, ℕ, List, [], Some, slice_get, IfOk, OnOk, MatchOption, MatchResult, true, map, option_map};
+ghost use Rattle.std.specs.Option.{option_to_list};
+ghost use Rattle.std.specs.Bool.{MatchBool};
+ghost use Rattle.std.specs.List.{AllByRecursion};
+ghost use Rattle.p21_express.specs.Answer.{OnRefused};
+ghost use Rattle.p21_express.specs.Again.{plain_again, plain_origin, IsNewAt, IsDerivedAt, IsGood, IsAgainAt, IsKnown};
+ghost use Rattle.p21_express.specs.Graph.{lists};
+ghost use Rattle.p21_express.specs.Index.{IsExactIndex, IsEntityAt};
+ghost use Rattle.p21_express.specs.Plain.{plain_schema, plain_entity, plain_attribute, plain_derived};
+ghost use Rattle.p21_express.specs.Positions.{AreSupertypes};
+ghost use Rattle.p21_express.specs.Search.{IsBlank, state_of, Reaches};
+ghost use Rattle.p21_express.specs.WellFormed.{IsIn, HasNoUnknown, HasNoCycles, IsRedeclaring, DeclaresAgain, new_explicit, new_derived, new_names, with_new, with_again, redeclarations};
+
+use super::cycles::{add, entity_at, supertypes};
 use super::graph::{Graph, Search};
-use super::names::{Declared, Index};
-use super::{Checked, First};
-use crate::declarations::EntityDecl;
+use super::names::Index;
+use super::{Checked, attribute_places_at, place_at};
+use crate::declarations::{AttrDecl, Declarations, DeriveDecl, EntityDecl};
 use crate::places::EntityPlaces;
 use crate::refusal::{Kind, Refusal};
 use std::alloc::{AllocError, Global};
-use std::collections::BTreeMap;
-
-/// For each name that an entity newly declares, whether it does so in DERIVE.
-type NewNames<'d> = BTreeMap<&'d [u8], bool>;
-
-/// What is known of all entities.
-#[derive(Drop)]
-struct Known<'d> {
-    supertypes: Graph,
-    new_names: Vec<NewNames<'d>>,
-}
 
 /// SELF\of.name, its place, and whether it is explicit.
 #[derive(Clone, Copy)]
@@ -29,77 +31,193 @@ struct Again<'d> {
     place: usize,
 }
 
-/// The attributes that one entity declared again so far, by the entity that newly declares each and by its name.
-type Origins<'d> = BTreeMap<(usize, &'d [u8]), ()>;
-
-fn new_names(alloc: Global, entity: &EntityDecl) -> Result<NewNames<'_>, AllocError> {
-    let mut names = BTreeMap::new(alloc);
-    for attribute in &entity.attributes {
-        if attribute.of.is_none() {
-            names.insert(attribute.name.as_slice(), false)?;
-        }
-    }
-    for derived in &entity.derived {
-        if derived.of.is_none() {
-            names.insert(derived.name.as_slice(), true)?;
-        }
-    }
-    Ok(names)
+/// An attribute by the names of the entity that newly declares it and of its own.
+#[derive(Clone, Copy)]
+struct Origin<'d> {
+    entity: &'d [u8],
+    name: &'d [u8],
 }
 
-fn facts<'d>(alloc: Global, checked: Checked<'d>, index: &Index) -> Result<Known<'d>, AllocError> {
-    let mut names = Vec::new(alloc);
-    for entity in &checked.declarations.entities {
-        names.push(new_names(alloc, entity)?)?;
-    }
-    Ok(Known {
-        supertypes: supertypes(alloc, checked, index)?,
-        new_names: names,
-    })
+/// Whether this name is newly declared.
+fn is_new(of: &Option<Vec<u8>>, own: &[u8], name: &[u8]) -> bool
+    ensures { MatchBool result (IsIn (with_new (option_map (λ n. n.items) of.now) own.now []) name.now) (¬ (IsIn (with_new (option_map (λ n. n.items) of.now) own.now []) name.now)) }
+{
+    of.is_none() && own == name
 }
 
-/// The entity among these that newly declares the name, and whether in DERIVE, where exactly one does.
-fn origin(known: &Known, entities: &[usize], name: &[u8]) -> Option<(usize, bool)> {
-    let mut origin = None;
-    for entity in entities {
-        let Some(names) = known.new_names.get(*entity) else {
-            continue;
-        };
-        let Some(derived) = names.get(name) else {
-            continue;
-        };
-        if origin.is_some() {
-            return None;
+/// Whether explicit attributes newly declare this name.
+fn is_new_explicit(attributes: &[AttrDecl], name: &[u8]) -> bool
+    ensures { MatchBool result (IsIn (new_explicit (map plain_attribute attributes.now)) name.now) (¬ (IsIn (new_explicit (map plain_attribute attributes.now)) name.now)) }
+{
+    for attribute in attributes {
+        if is_new(&attribute.of, &attribute.name, name) {
+            return true;
         }
-        origin = Some((*entity, *derived));
     }
-    origin
+    false
 }
 
-/// Whether an entity may declare this attribute again, and did not before.
-fn is_good<'d>(
+/// Whether attributes of DERIVE newly declare this name.
+fn is_new_derived(derived: &[DeriveDecl], name: &[u8]) -> bool
+    ensures { MatchBool result (IsIn (new_derived (map plain_derived derived.now)) name.now) (¬ (IsIn (new_derived (map plain_derived derived.now)) name.now)) }
+{
+    for attribute in derived {
+        if is_new(&attribute.of, &attribute.name, name) {
+            return true;
+        }
+    }
+    false
+}
+
+/// Whether an entity newly declares this name.
+fn is_new_in(entity: &EntityDecl, name: &[u8]) -> bool
+    ensures { MatchBool result (IsIn (new_names (plain_entity entity.now)) name.now) (¬ (IsIn (new_names (plain_entity entity.now)) name.now)) }
+{
+    is_new_explicit(&entity.attributes, name) || is_new_derived(&entity.derived, name)
+}
+
+/// The entity at a position.
+fn entity_in(declarations: &Declarations, position: usize) -> Option<&EntityDecl>
+    ensures { option_map (λ e. plain_entity e.now) result ≡ slice_get (plain_schema declarations.now).entities position }
+{
+    declarations.entities.get(position)
+}
+
+/// The name of the entity at a position.
+fn name_at(declarations: &Declarations, position: usize) -> &[u8]
+    ensures { (n : List ℕ) → IsEntityAt (plain_schema declarations.now) position n → result.now ≡ n }
+{
+    match entity_in(declarations, position) {
+        Some(entity) => &entity.name,
+        None => b"",
+    }
+}
+
+/// Whether the entity at a position newly declares this name.
+fn is_new_at(declarations: &Declarations, position: usize, name: &[u8]) -> bool
+    ensures { MatchBool result (IsNewAt (plain_schema declarations.now) name.now position) (¬ (IsNewAt (plain_schema declarations.now) name.now position)) }
+{
+    match entity_in(declarations, position) {
+        Some(entity) => is_new_in(entity, name),
+        None => false,
+    }
+}
+
+/// Whether the entity at a position newly declares this name in DERIVE.
+fn is_derived_at(declarations: &Declarations, position: usize, name: &[u8]) -> bool
+    ensures { MatchBool result (IsDerivedAt (plain_schema declarations.now) name.now position) (¬ (IsDerivedAt (plain_schema declarations.now) name.now position)) }
+{
+    match entity_in(declarations, position) {
+        Some(entity) => is_new_derived(&entity.derived, name),
+        None => false,
+    }
+}
+
+/// The first of some entities that newly declares a name.
+fn first_new(declarations: &Declarations, among: &[usize], name: &[u8]) -> Option<usize>
+    ensures { MatchOption result ((i : ℕ) → IsIn among.now i → ¬ (IsNewAt (plain_schema declarations.now) name.now i)) (λ i. IsIn among.now i × IsNewAt (plain_schema declarations.now) name.now i) }
+{
+    for position in among {
+        if is_new_at(declarations, *position, name) {
+            return Some(*position);
+        }
+    }
+    None
+}
+
+/// Whether no other of some entities newly declares a name.
+fn is_only(declarations: &Declarations, among: &[usize], name: &[u8], this: usize) -> bool
+    ensures { MatchBool result ((i : ℕ) → IsIn among.now i → IsNewAt (plain_schema declarations.now) name.now i → i ≡ this) (¬ ((i : ℕ) → IsIn among.now i → IsNewAt (plain_schema declarations.now) name.now i → i ≡ this)) }
+{
+    for position in among {
+        if *position != this && is_new_at(declarations, *position, name) {
+            return false;
+        }
+    }
+    true
+}
+
+/// Whether an attribute of the entity at a position may be declared again: explicitly none of DERIVE.
+fn is_allowed(declarations: &Declarations, position: usize, again: Again) -> bool
+    ensures { let r = plain_again again.entry in MatchBool result (r.explicit ≡ true → ¬ (IsDerivedAt (plain_schema declarations.now) r.name position)) (¬ (r.explicit ≡ true → ¬ (IsDerivedAt (plain_schema declarations.now) r.name position))) }
+{
+    if again.explicit {
+        return !is_derived_at(declarations, position, again.name);
+    }
+    true
+}
+
+/// The only one of some entities that newly declares the attribute, where it may be declared again.
+fn origin_among(declarations: &Declarations, among: &[usize], again: Again) -> Option<usize>
+    ensures { MatchOption result ((i : ℕ) → ¬ (IsGood (plain_schema declarations.now) (plain_again again.entry) among.now i)) (λ i. IsGood (plain_schema declarations.now) (plain_again again.entry) among.now i) }
+{
+    let Some(position) = first_new(declarations, among, again.name) else {
+        return None;
+    };
+    if !is_only(declarations, among, again.name, position) {
+        return None;
+    }
+    if !is_allowed(declarations, position, again) {
+        return None;
+    }
+    Some(position)
+}
+
+/// What the checks of all entities look at.
+#[derive(Drop)]
+struct Known<'d> {
+    declarations: &'d Declarations,
+    supertypes: Graph,
+}
+
+/// The position of the entity that newly declares what another declares again, where that is allowed. `lineage` has the
+/// other entity, which is at this position, and its ancestors.
+fn origin_of(
     alloc: Global,
     known: &Known,
     index: &Index,
     search: &mut Search,
-    ancestors: &[usize],
-    origins: &mut Origins<'d>,
-    again: Again<'d>,
-) -> Result<bool, AllocError> {
-    let Some(Declared::Entity(of)) = index.get(again.of) else {
-        return Ok(false);
+    lineage: &[usize],
+    position: usize,
+    again: Again,
+) -> Result<Option<usize>, AllocError>
+    requires index { IsExactIndex (plain_schema known.now.declarations.now) index.now }
+    requires known { IsKnown known.now }
+    requires blank { IsBlank (lists known.now.supertypes.items) (state_of search.old) }
+    ensures blank { OnOk result (IsBlank (lists known.now.supertypes.items) (state_of search.new)) }
+    ensures origin { let s = plain_schema known.now.declarations.now in (e : List ℕ) → IsEntityAt s position e → ((w : ℕ) → IsIn lineage.now w ↔ Reaches (lists known.now.supertypes.items) position w) → IfOk result (λ o. MatchOption o ((i : ℕ) → ¬ (IsAgainAt s e (plain_again again.entry) i)) (λ i. IsAgainAt s e (plain_again again.entry) i)) }
+{
+    let Some(of) = entity_at(index, again.of) else {
+        return Ok(None);
     };
-    if !ancestors.contains(of) {
-        return Ok(false);
+    if of == position {
+        return Ok(None);
     }
-    let among = search.reached(alloc, &known.supertypes, *of)?;
-    let Some((entity, derived)) = origin(known, &among, again.name) else {
-        return Ok(false);
+    if !lineage.contains(&of) {
+        return Ok(None);
+    }
+    let among = search.reached(alloc, &known.supertypes, of)?;
+    Ok(origin_among(known.declarations, &among, again))
+}
+
+/// What an attribute declares again, if it does.
+fn again_of<'d>(
+    of: &'d Option<Vec<u8>>,
+    name: &'d [u8],
+    explicit: bool,
+    place: usize,
+) -> Option<Again<'d>>
+    ensures { map plain_again (option_to_list result) ≡ with_again (option_map (λ n. n.items) of.now) name.now explicit [] }
+{
+    let Some(of) = of else {
+        return None;
     };
-    if again.explicit && derived {
-        return Ok(false);
-    }
-    Ok(origins.insert((entity, again.name), ())?.is_none())
+    Some(Again {
+        of,
+        name,
+        explicit,
+        place,
+    })
 }
 
 /// What an entity declares again, in the order of the text.
@@ -107,79 +225,98 @@ fn all_again<'d>(
     alloc: Global,
     entity: &'d EntityDecl,
     places: &EntityPlaces,
-) -> Result<Vec<Again<'d>>, AllocError> {
+) -> Result<Vec<Again<'d>>, AllocError>
+    ensures { IfOk result (λ all. map plain_again all.items ≡ redeclarations (plain_entity entity.now)) }
+{
     let mut all = Vec::new(alloc);
-    for (attribute, place) in entity.attributes.iter().zip(&places.attributes) {
-        if let Some(of) = &attribute.of {
-            all.push(Again {
-                of,
-                name: &attribute.name,
-                explicit: true,
-                place: place.name,
-            })?;
-        }
+    for (i, attribute) in entity.attributes.iter().enumerate() {
+        let place = attribute_places_at(&places.attributes, i).name;
+        add(
+            &mut all,
+            again_of(&attribute.of, &attribute.name, true, place),
+        )?;
     }
-    for (derived, place) in entity.derived.iter().zip(&places.derived) {
-        if let Some(of) = &derived.of {
-            all.push(Again {
-                of,
-                name: &derived.name,
-                explicit: false,
-                place: *place,
-            })?;
-        }
+    for (i, derived) in entity.derived.iter().enumerate() {
+        let place = place_at(&places.derived, i);
+        add(&mut all, again_of(&derived.of, &derived.name, false, place))?;
     }
     Ok(all)
 }
 
-/// What one entity declares again.
+fn is_same(one: Origin, other: Origin) -> bool
+    ensures { MatchBool result (plain_origin one.entry ≡ plain_origin other.entry) (¬ (plain_origin one.entry ≡ plain_origin other.entry)) }
+{
+    one.entity == other.entity && one.name == other.name
+}
+
+/// Whether the attribute is one of these.
+fn is_among(origins: &[Origin], origin: Origin) -> bool
+    ensures { MatchBool result (IsIn (map plain_origin origins.now) (plain_origin origin.entry)) (¬ (IsIn (map plain_origin origins.now) (plain_origin origin.entry))) }
+{
+    for other in origins {
+        if is_same(*other, origin) {
+            return true;
+        }
+    }
+    false
+}
+
+/// Refuses where an entity may not declare again what it does.
 fn entity(
     alloc: Global,
     known: &Known,
     index: &Index,
     search: &mut Search,
     position: usize,
-    all: &[Again],
-    first: &mut First,
-) -> Result<(), AllocError> {
-    // The entity lies on no cycle: it is the last that is reached, and the others are its ancestors.
-    let mut ancestors = search.reached(alloc, &known.supertypes, position)?;
-    ancestors.pop();
-    let mut origins = BTreeMap::new(alloc);
-    for again in all {
-        if !is_good(
-            alloc,
-            known,
-            index,
-            search,
-            &ancestors,
-            &mut origins,
-            *again,
-        )? {
-            first.meet(Kind::BadRedeclaration, again.place);
+    decl: &EntityDecl,
+    places: &EntityPlaces,
+) -> Result<(), Refusal>
+    requires index { IsExactIndex (plain_schema known.now.declarations.now) index.now }
+    requires known { IsKnown known.now }
+    requires blank { IsBlank (lists known.now.supertypes.items) (state_of search.old) }
+    requires decl { slice_get (plain_schema known.now.declarations.now).entities position ≡ Some (plain_entity decl.now) }
+    ensures blank { OnOk result (IsBlank (lists known.now.supertypes.items) (state_of search.new)) }
+    ensures redeclared { let s = plain_schema known.now.declarations.now in MatchResult result (λ _. IsRedeclaring s (plain_entity decl.now)) (λ r. OnRefused r (¬ (IsRedeclaring s (plain_entity decl.now)))) }
+{
+    let all = all_again(alloc, decl, places)?;
+    if all.is_empty() {
+        return Ok(());
+    }
+    let lineage = search.reached(alloc, &known.supertypes, position)?;
+    let mut origins = Vec::new(alloc);
+    for again in &all {
+        let refusal = Refusal::Refused(Kind::BadRedeclaration, again.place);
+        let Some(place) = origin_of(alloc, known, index, search, &lineage, position, *again)? else {
+            return Err(refusal);
+        };
+        let origin = Origin {
+            entity: name_at(known.declarations, place),
+            name: again.name,
+        };
+        if is_among(&origins, origin) {
+            return Err(refusal);
         }
+        origins.push(origin)?;
     }
     Ok(())
 }
 
-pub(super) fn check(alloc: Global, checked: Checked, index: &Index) -> Result<(), Refusal> {
-    let known = facts(alloc, checked, index)?;
+/// Refuses where an attribute may not be declared again. The entities stand in the order of the text, and so does what
+/// each declares again: the first that is met is the first in the text.
+pub(super) fn check(alloc: Global, checked: Checked, index: &Index) -> Result<(), Refusal>
+    requires index { IsExactIndex (plain_schema checked.declarations.now) index.now }
+    requires unknown { HasNoUnknown (plain_schema checked.declarations.now) }
+    requires cycles { HasNoCycles (plain_schema checked.declarations.now) }
+    ensures { let s = plain_schema checked.entry.declarations.now in MatchResult result (λ _. AllByRecursion (IsRedeclaring s) s.entities) (λ r. OnRefused r (¬ (AllByRecursion (IsRedeclaring s) s.entities))) }
+{
+    let known = Known {
+        declarations: checked.declarations,
+        supertypes: supertypes(alloc, checked, index)?,
+    };
     let mut search = Search::new(alloc, known.supertypes.len())?;
-    let mut first = First::new();
-    let entities = checked.declarations.entities.iter();
-    for (position, (decl, places)) in entities.zip(checked.entity_places).enumerate() {
-        let all = all_again(alloc, decl, places)?;
-        if !all.is_empty() {
-            entity(
-                alloc,
-                &known,
-                index,
-                &mut search,
-                position,
-                &all,
-                &mut first,
-            )?;
-        }
+    for (position, decl) in checked.declarations.entities.iter().enumerate() {
+        let places = checked.entity_places(position);
+        entity(alloc, &known, index, &mut search, position, decl, places)?;
     }
-    first.refusal()
+    Ok(())
 }

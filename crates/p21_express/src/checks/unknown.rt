@@ -1,12 +1,25 @@
 //! Names that are not declared as what they are used for.
 
-use super::names::{Declared, Index};
-use super::{Checked, First, place_at};
-use crate::declarations::{TypeExpr, Under};
+ghost use Rattle.std.specs.Prelude.{◌≡◌, ◌⊎◌, MatchResult, map, option_map};
+ghost use Rattle.std.specs.List.{AllByRecursion};
+ghost use Rattle.p21_express.specs.Answer.{OnRefused};
+ghost use Rattle.p21_express.specs.Checks.{Finds, HasKnownNames, HasKnownUnder, lone_name};
+ghost use Rattle.p21_express.specs.Index.{IsExactIndex};
+ghost use Rattle.p21_express.specs.Naming.{texts};
+ghost use Rattle.p21_express.specs.Plain.{plain_schema, plain_attribute, plain_under, plain_expr};
+ghost use Rattle.p21_express.specs.Schema.{Schema};
+ghost use Rattle.p21_express.specs.WellFormed.{HasNoUnknown, IsAllowedAlone, IsEntity, IsKnown, IsKnownUnder, IsSelect, IsType, name_in};
+
+use super::names::{Declared, Index, declared_by};
+use super::{Checked, First, attribute_places_at, place_at};
+use crate::declarations::{AttrDecl, TypeExpr, Under};
+use crate::places::AttrPlaces;
 use crate::refusal::{Kind, Refusal};
 
 /// The name in a type, below its aggregates.
-fn name_in(texpr: &TypeExpr) -> Option<&Vec<u8>> {
+fn name_in(texpr: &TypeExpr) -> Option<&Vec<u8>>
+    ensures { option_map (λ n. n.now.items) result ≡ name_in (plain_expr texpr.now) }
+{
     match texpr {
         TypeExpr::Named(name) => Some(name),
         TypeExpr::Array { item, .. } => name_in(item),
@@ -17,64 +30,139 @@ fn name_in(texpr: &TypeExpr) -> Option<&Vec<u8>> {
     }
 }
 
-fn known(index: &Index, name: &[u8], left: usize, first: &mut First) {
-    if index.get(name).is_none() {
-        first.meet(Kind::UnknownName, left);
-    }
-}
-
-/// What stands alone under a TYPE, and is a name.
-fn alone(index: &Index, name: &[u8], left: usize, first: &mut First) {
-    match index.get(name) {
-        Some(Declared::Entity(_)) => first.meet(Kind::UnknownName, left),
-        Some(Declared::Select(_)) => first.meet(Kind::NotSupported, left),
-        Some(Declared::Type(_)) => {}
+/// A name that an entity or a type declares.
+fn known(index: &Index, name: &[u8], left: usize, first: &mut First)
+    ensures { (s : Schema) → IsExactIndex s index.now → Finds first.old.found first.new.found (IsEntity s name.now ⊎ IsType s name.now) }
+{
+    match declared_by(index, name) {
+        Some(_) => {}
         None => first.meet(Kind::UnknownName, left),
     }
 }
 
-fn entities(checked: Checked, index: &Index, first: &mut First) {
-    for (entity, places) in checked
-        .declarations
-        .entities
-        .iter()
-        .zip(checked.entity_places)
-    {
-        for (name, place) in entity.supertypes.iter().zip(&places.supertypes) {
-            if !matches!(index.get(name.as_slice()), Some(Declared::Entity(_))) {
-                first.meet(Kind::UnknownName, *place);
-            }
-        }
-        for (attribute, place) in entity.attributes.iter().zip(&places.attributes) {
-            if let Some(name) = name_in(&attribute.texpr) {
-                known(index, name, place.texpr, first);
-            }
-        }
+/// A name that an entity declares.
+fn supertype(index: &Index, name: &[u8], left: usize, first: &mut First)
+    ensures { (s : Schema) → IsExactIndex s index.now → Finds first.old.found first.new.found (IsEntity s name.now) }
+{
+    match declared_by(index, name) {
+        Some(Declared::Entity(_)) => {}
+        Some(Declared::Select(_)) => first.meet(Kind::UnknownName, left),
+        Some(Declared::Type(_)) => first.meet(Kind::UnknownName, left),
+        None => first.meet(Kind::UnknownName, left),
     }
 }
 
-fn under(under: &Under, places: &[usize], index: &Index, first: &mut First) {
+/// The name in a type.
+fn known_in(index: &Index, texpr: &TypeExpr, left: usize, first: &mut First)
+    ensures { (s : Schema) → IsExactIndex s index.now → Finds first.old.found first.new.found (IsKnown s (plain_expr texpr.now)) }
+{
+    if let Some(name) = name_in(texpr) {
+        known(index, name, left, first);
+    }
+}
+
+/// The name that is all of a type.
+pub(super) fn lone_name(texpr: &TypeExpr) -> Option<&Vec<u8>>
+    ensures { option_map (λ n. n.now.items) result ≡ lone_name (plain_expr texpr.now) }
+{
+    match texpr {
+        TypeExpr::Named(name) => Some(name),
+        TypeExpr::Array { .. } => None,
+        TypeExpr::List { .. } => None,
+        TypeExpr::Set { .. } => None,
+        TypeExpr::Bag { .. } => None,
+        _ => None,
+    }
+}
+
+/// A name that may stand alone under a TYPE.
+fn alone(index: &Index, name: &[u8], left: usize, first: &mut First)
+    ensures { (s : Schema) → IsExactIndex s index.now → Finds first.old.found first.new.found (¬ (IsEntity s name.now) × ¬ (IsSelect s name.now)) }
+{
+    match declared_by(index, name) {
+        Some(Declared::Entity(_)) => first.meet(Kind::UnknownName, left),
+        Some(Declared::Select(_)) => first.meet(Kind::NotSupported, left),
+        Some(Declared::Type(_)) => {}
+        None => {}
+    }
+}
+
+/// A type that is all that stands under a TYPE.
+fn plain(index: &Index, texpr: &TypeExpr, left: usize, first: &mut First)
+    ensures { (s : Schema) → IsExactIndex s index.now → Finds first.old.found first.new.found (IsKnown s (plain_expr texpr.now) × IsAllowedAlone s (plain_expr texpr.now)) }
+{
+    known_in(index, texpr, left, first);
+    if let Some(name) = lone_name(texpr) {
+        alone(index, name, left, first);
+    }
+}
+
+/// The supertypes of an entity.
+fn supertypes(index: &Index, names: &[Vec<u8>], places: &[usize], first: &mut First)
+    ensures { (s : Schema) → IsExactIndex s index.now → Finds first.old.found first.new.found (AllByRecursion (IsEntity s) (texts names.now)) }
+{
+    for (i, name) in names.iter().enumerate() {
+        supertype(index, name, place_at(places, i), first);
+    }
+}
+
+/// The types of attributes.
+fn attributes(index: &Index, attributes: &[AttrDecl], places: &[AttrPlaces], first: &mut First)
+    ensures { (s : Schema) → IsExactIndex s index.now → Finds first.old.found first.new.found (AllByRecursion (λ a. IsKnown s a.texpr) (map plain_attribute attributes.now)) }
+{
+    for (i, attribute) in attributes.iter().enumerate() {
+        let place = attribute_places_at(places, i).texpr;
+        known_in(index, &attribute.texpr, place, first);
+    }
+}
+
+/// The items of a SELECT.
+fn selected(index: &Index, names: &[Vec<u8>], places: &[usize], first: &mut First)
+    ensures { (s : Schema) → IsExactIndex s index.now → Finds first.old.found first.new.found (AllByRecursion (λ n. IsEntity s n ⊎ IsType s n) (texts names.now)) }
+{
+    for (i, name) in names.iter().enumerate() {
+        known(index, name, place_at(places, i), first);
+    }
+}
+
+/// What stands under a TYPE.
+fn under(index: &Index, under: &Under, places: &[usize], first: &mut First)
+    ensures { (s : Schema) → IsExactIndex s index.now → Finds first.old.found first.new.found (IsKnownUnder s (plain_under under.now)) }
+{
     match under {
         Under::Items(_) => {}
-        Under::Select(names) => {
-            for (name, place) in names.iter().zip(places) {
-                known(index, name, *place, first);
-            }
-        }
-        Under::Plain(TypeExpr::Named(name)) => alone(index, name, place_at(places, 0), first),
-        Under::Plain(texpr) => {
-            if let Some(name) = name_in(texpr) {
-                known(index, name, place_at(places, 0), first);
-            }
-        }
+        Under::Select(names) => selected(index, names, places, first),
+        Under::Plain(texpr) => plain(index, texpr, place_at(places, 0), first),
     }
 }
 
-pub(super) fn check(checked: Checked, index: &Index) -> Result<(), Refusal> {
+/// The names in the entities.
+fn entities(checked: Checked, index: &Index, first: &mut First)
+    ensures { let s = plain_schema checked.entry.declarations.now in IsExactIndex s index.now → Finds first.old.found first.new.found (AllByRecursion (HasKnownNames s) s.entities) }
+{
+    for (i, entity) in checked.declarations.entities.iter().enumerate() {
+        let places = checked.entity_places(i);
+        supertypes(index, &entity.supertypes, &places.supertypes, first);
+        attributes(index, &entity.attributes, &places.attributes, first);
+    }
+}
+
+/// The names in the types.
+fn types(checked: Checked, index: &Index, first: &mut First)
+    ensures { let s = plain_schema checked.entry.declarations.now in IsExactIndex s index.now → Finds first.old.found first.new.found (AllByRecursion (HasKnownUnder s) s.types) }
+{
+    for (i, decl) in checked.declarations.types.iter().enumerate() {
+        under(index, &decl.under, &checked.type_places(i).under, first);
+    }
+}
+
+/// Refuses where a name is not declared as what it is used for.
+pub(super) fn check(checked: Checked, index: &Index) -> Result<(), Refusal>
+    requires { IsExactIndex (plain_schema checked.declarations.now) index.now }
+    ensures { let s = plain_schema checked.entry.declarations.now in MatchResult result (λ _. HasNoUnknown s) (λ r. OnRefused r (¬ (HasNoUnknown s))) }
+{
     let mut first = First::new();
     entities(checked, index, &mut first);
-    for (decl, places) in checked.declarations.types.iter().zip(checked.type_places) {
-        under(&decl.under, &places.under, index, &mut first);
-    }
+    types(checked, index, &mut first);
     first.refusal()
 }

@@ -1,0 +1,53 @@
+-- What entities declare again, by the positions of the entities.
+use Rattle.std.specs.Prelude.{◌≡◌, ℕ, List, true, Some, slice_get}
+use Rattle.p21_express.specs.declared.checks.redeclared.Again as source
+use Rattle.p21_express.specs.declared.checks.redeclared.Origin as found
+use Rattle.p21_express.specs.declared.checks.redeclared.Known as base
+use Rattle.p21_express.specs.Graph.{lists, HasEdge}
+use Rattle.p21_express.specs.Plain.{plain_schema}
+use Rattle.p21_express.specs.Index.{IsEntityAt}
+use Rattle.p21_express.specs.Positions.{AreSupertypes}
+use Rattle.p21_express.specs.Schema.{Schema, Entity}
+use Rattle.p21_express.specs.WellFormed.{IsIn, HasNoUnknown, HasNoCycle, Redeclaration, Origin, AreDistinct, DeclareAgain, DeclaresAgain, new_names, new_derived}
+
+abbrev pub plain_again : source.Again → Redeclaration
+plain_again a = record { of = a.of.now; name = a.name.now; explicit = a.explicit }
+
+abbrev pub plain_origin : found.Origin → Origin
+plain_origin o = record { entity = o.entity.now; name = o.name.now }
+
+-- the entity at this position newly declares the name
+pub record IsNewAt (s : Schema) (n : List ℕ) (i : ℕ) : Type 0 where
+  pub entity : Entity
+  pub there : slice_get s.entities i ≡ Some entity
+  pub newly : IsIn (new_names entity) n
+
+-- the entity at this position newly declares the name in DERIVE
+pub record IsDerivedAt (s : Schema) (n : List ℕ) (i : ℕ) : Type 0 where
+  pub entity : Entity
+  pub there : slice_get s.entities i ≡ Some entity
+  pub newly : IsIn (new_derived entity.derived) n
+
+-- i is the only one of these positions at which the attribute is newly declared, and there it may be declared again
+pub record IsGood (s : Schema) (r : Redeclaration) (positions : List ℕ) (i : ℕ) : Type 0 where
+  pub among : IsIn positions i
+  pub newly : IsNewAt s r.name i
+  pub only : (j : ℕ) → IsIn positions j → IsNewAt s r.name j → j ≡ i
+  pub allowed : r.explicit ≡ true → ¬ (IsDerivedAt s r.name i)
+
+-- an entity declares an attribute again that the entity at this position newly declares
+pub record IsAgainAt (s : Schema) (entity : List ℕ) (r : Redeclaration) (i : ℕ) : Type 0 where
+  pub name : List ℕ
+  pub at : IsEntityAt s i name
+  pub again : DeclaresAgain s entity r name
+
+-- some redeclarations of an entity declare these attributes again, and no two the same
+pub record Origins (s : Schema) (entity : List ℕ) (rs : List Redeclaration) (os : List Origin) : Type 0 where
+  pub declare : DeclareAgain s entity rs os
+  pub distinct : AreDistinct os
+
+-- what the checks of all entities look at is the schema's, which has no cycles
+pub record IsKnown (k : base.Known) : Type 0 where
+  pub unknown : HasNoUnknown (plain_schema k.declarations.now)
+  pub supertypes : AreSupertypes (plain_schema k.declarations.now) (lists k.supertypes.items)
+  pub acyclic : HasNoCycle (HasEdge (lists k.supertypes.items))
