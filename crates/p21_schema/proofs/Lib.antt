@@ -1,0 +1,9 @@
+pub mod Members
+pub mod NameLemmas
+pub mod GraphLemmas
+pub mod ReachLemmas
+pub mod AncestryLemmas
+pub mod RowLemmas
+pub mod UnderLemmas
+pub mod IdLemmas
+pub mod Examples

@@ -1,0 +1,58 @@
+use Rattle.std.proofs.Common.{◌≡◌, sym, List, map, length, ap, ◌∙◌}
+use Rattle.p21_express.specs.Schema.{Entity, Defined}
+use Rattle.p21_express.specs.Plain.{plain_schema, plain_entity, plain_type}
+use Rattle.p21_schema.specs.Graph.{plain_graph, IsReachTable, rows_of}
+use Rattle.p21_schema.specs.Ancestry.{AreSupertypesNamed}
+use Rattle.p21_schema.proofs.GraphLemmas.{row_count}
+use Rattle.p21_schema.proofs.AncestryLemmas.{named_by, distinct_entities, supertypes_known, edges_below, no_cycle, ancestor_table, supertype_table}
+use Rattle.p21_schema.proofs.UnderLemmas.{distinct_types, other_known, unders_known}
+use Rattle.p21_schema.proofs.schema.Schema.build.Goals as goal
+
+pub entity_names-requires : goal.entity_names-requires
+entity_names-requires c = rw c.deref.ensures.value (distinct_entities (plain_schema c.args.declarations) c.requires.repeated)
+
+pub supertypes-requires : goal.supertypes-requires
+supertypes-requires c = rw (c.in_ok-entity_names.ensures, c.deref.ensures.value, c.deref-2.ensures.value) (supertypes_known (plain_schema c.args.declarations) c.requires.unknown)
+
+pub order-requires-clause-cycles : goal.order-requires-clause-cycles
+order-requires-clause-cycles c =
+    let s = plain_schema c.args.declarations in
+    let h : AreSupertypesNamed (map (λ (e : Entity). e.name) s.entities) (plain_graph c.in_ok-graph.graph) s.entities = named_by plain_entity c.in_ok-entity_names.entity_names (plain_graph c.in_ok-graph.graph) c.deref.result.now c.deref-2.result.now c.args.declarations.entities.items c.in_ok-entity_names.ensures c.deref.ensures.value c.deref-2.ensures.value c.in_ok-graph.ensures in
+    no_cycle s (plain_graph c.in_ok-graph.graph) h c.requires.cycles.entities
+
+pub reached-requires-clause-direct : goal.reached-requires-clause-direct
+reached-requires-clause-direct c =
+    let s = plain_schema c.args.declarations in
+    let h : AreSupertypesNamed (map (λ (e : Entity). e.name) s.entities) (plain_graph c.in_ok-graph.graph) s.entities = named_by plain_entity c.in_ok-entity_names.entity_names (plain_graph c.in_ok-graph.graph) c.deref.result.now c.deref-2.result.now c.args.declarations.entities.items c.in_ok-entity_names.ensures c.deref.ensures.value c.deref-2.ensures.value c.in_ok-graph.ensures in
+    rw (c.len.ensures, ← (row_count c.in_ok-graph.graph)) (edges_below s (plain_graph c.in_ok-graph.graph) h)
+
+pub invariant_of-result : goal.invariant_of-result
+invariant_of-result c =
+    let s = plain_schema c.args.declarations in
+    let g = plain_graph c.in_ok-graph.graph in
+    let h : AreSupertypesNamed (map (λ (e : Entity). e.name) s.entities) g s.entities = named_by plain_entity c.in_ok-entity_names.entity_names (plain_graph c.in_ok-graph.graph) c.deref.result.now c.deref-2.result.now c.args.declarations.entities.items c.in_ok-entity_names.ensures c.deref.ensures.value c.deref-2.ensures.value c.in_ok-graph.ensures in
+    let reach : IsReachTable g g (length g) (rows_of c.in_ok-ancestors.ancestors) = rw (row_count c.in_ok-graph.graph, ← c.len.ensures) c.in_ok-ancestors.ensures in
+    let names_are : c.in_ok-entity_names.entity_names ≡ map (λ (e : Entity). e.name) s.entities = c.in_ok-entity_names.ensures ∙ ap (λ (es : List _). map (λ (e : Entity). e.name) (map plain_entity es)) c.deref.ensures.value in
+    let types_are : c.in_ok-type_names.type_names ≡ map (λ (t : Defined). t.name) s.types = c.in_ok-type_names.ensures ∙ ap (λ (ts : List _). map (λ (t : Defined). t.name) (map plain_type ts)) c.deref-6.ensures.value in
+    record {
+      ends = c.in_ok-ends.ensures s (ap (λ (ts : List _). map plain_type ts) (sym c.deref-7.ensures.value));
+      resolved = rw (← names_are, ← types_are, ← c.deref-8.ensures.value) c.in_ok-unders.ensures;
+      own = c.in_ok-own.ensures;
+      rows = c.in_ok-rows.ensures s c.requires h (rw c.deref-4.ensures.value c.in_ok-own.ensures);
+      well_formed = c.requires;
+      names = names_are;
+      supertypes = rw c.in_ok-supertypes.ensures (supertype_table s g h);
+      ancestors = ancestor_table s g h (distinct_entities s c.requires.repeated) (rows_of c.in_ok-ancestors.ancestors) reach;
+    }
+
+pub type_names-requires : goal.type_names-requires
+type_names-requires c = rw c.deref-6.ensures.value (distinct_types (plain_schema c.args.declarations) c.requires.repeated)
+
+pub type_ends-requires-clause-known : goal.type_ends-requires-clause-known
+type_ends-requires-clause-known c = rw (c.in_ok-type_names.ensures, c.deref-6.ensures.value, c.deref-7.ensures.value) (other_known (plain_schema c.args.declarations) c.requires.unknown)
+
+pub type_ends-requires-clause-cycles : goal.type_ends-requires-clause-cycles
+type_ends-requires-clause-cycles c = (plain_schema c.args.declarations, (ap (λ (ts : List _). map plain_type ts) (sym c.deref-7.ensures.value), c.requires.cycles.types))
+
+pub resolved-requires : goal.resolved-requires
+resolved-requires c = rw (c.in_ok-entity_names.ensures, c.in_ok-type_names.ensures, c.deref.ensures.value, c.deref-6.ensures.value, c.deref-8.ensures.value) (unders_known (plain_schema c.args.declarations) c.requires.unknown)

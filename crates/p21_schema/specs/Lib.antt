@@ -1,0 +1,9 @@
+pub mod Code
+pub mod Place
+pub mod Graph
+pub mod Ancestry
+pub mod Tables
+pub mod Row
+pub mod RowTable
+pub mod Resolved
+pub mod Under

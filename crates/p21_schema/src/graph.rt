@@ -1,0 +1,137 @@
+//! Graphs by lists of neighbors: an order in which the neighbors of each vertex stand before it, and what each vertex
+//! reaches.
+
+ghost use Rattle.std.specs.Prelude.{◌≡◌, ◌<◌, ◌≤◌, ◌↔◌, ◌⊎◌, true, false, ℕ, [], length, get_or, replicate, OnOk, IfOk, IsTrue, slice_index};
+ghost use Rattle.p21_express.specs.WellFormed.{IsIn, HasNoCycle};
+ghost use Rattle.p21_schema.specs.Graph.{plain_graph, HasEdge, AreEdgesBelow, IsOrder, IsPlacedIn, IsMarked, AreMarked, rows_of, IsReachTable};
+
+use std::alloc::{AllocError, Global};
+
+/// For each vertex those to which an edge leads.
+pub(crate) type Graph = Vec<Vec<usize>>;
+
+/// A row in which nothing is marked.
+fn unmarked(alloc: Global, count: usize) -> Result<Vec<bool>, AllocError>
+    ensures { IfOk result (λ row. row.items ≡ replicate count false) }
+{
+    let mut row = Vec::with_capacity(alloc, count)?;
+    for _ in 0..count {
+        row.push(false)?;
+    }
+    Ok(row)
+}
+
+fn are_marked(vertices: &[usize], row: &[bool]) -> bool
+    requires { (v : ℕ) → IsIn vertices.now v → v < length row.now }
+    ensures { IsTrue result ↔ AreMarked row.now vertices.now }
+{
+    for vertex in vertices {
+        if !row[*vertex] {
+            return false;
+        }
+    }
+    true
+}
+
+/// Places each vertex whose neighbors are placed.
+fn round(graph: &Graph, placed: &mut [bool], order: &mut Vec<usize>) -> Result<(), AllocError>
+    requires edges { AreEdgesBelow (plain_graph graph.now) (length (plain_graph graph.now)) }
+    requires count { length placed.old ≡ length (plain_graph graph.now) }
+    requires order { IsOrder (plain_graph graph.now) order.old.items }
+    requires placed { IsPlacedIn placed.old order.old.items }
+    ensures order { OnOk result (IsOrder (plain_graph graph.now) order.new.items) }
+    ensures placed { OnOk result (IsPlacedIn placed.new order.new.items) }
+    ensures grows { OnOk result ((v : ℕ) → IsMarked placed.old v → IsMarked placed.new v) }
+    ensures ready { OnOk result ((v : ℕ) → v < length placed.old → AreMarked placed.old (get_or (plain_graph graph.now) v []) → IsMarked placed.new v) }
+{
+    for vertex in 0..graph.len() {
+        if !placed[vertex] && are_marked(&graph[vertex], placed) {
+            placed[vertex] = true;
+            order.push(vertex)?;
+        }
+    }
+    Ok(())
+}
+
+/// All vertices, each behind its neighbors.
+pub(crate) fn order(alloc: Global, graph: &Graph) -> Result<Vec<usize>, AllocError>
+    requires edges { AreEdgesBelow (plain_graph graph.now) (length (plain_graph graph.now)) }
+    requires cycles { HasNoCycle (HasEdge (plain_graph graph.now)) }
+    ensures order { IfOk result (λ order. IsOrder (plain_graph graph.now) order.items) }
+    ensures all { IfOk result (λ order. (v : ℕ) → v < length (plain_graph graph.now) → IsIn order.items v) }
+{
+    let mut placed = unmarked(alloc, graph.len())?;
+    let mut order = Vec::with_capacity(alloc, graph.len())?;
+    while placed.contains(&false) {
+        round(graph, &mut placed, &mut order)?;
+    }
+    Ok(order)
+}
+
+/// Marks these vertices too.
+fn mark(row: &mut [bool], vertices: &[usize])
+    requires { (v : ℕ) → IsIn vertices.now v → v < length row.old }
+    ensures { (v : ℕ) → IsMarked row.new v ↔ (IsMarked row.old v ⊎ IsIn vertices.now v) }
+{
+    for vertex in vertices {
+        row[*vertex] = true;
+    }
+}
+
+/// Marks what another row marks too.
+fn mark_all(row: &mut [bool], other: &[bool])
+    requires { length row.old ≡ length other.now }
+    ensures { (v : ℕ) → IsMarked row.new v ↔ (IsMarked row.old v ⊎ IsMarked other.now v) }
+{
+    for vertex in 0..row.len() {
+        if other[vertex] {
+            row[vertex] = true;
+        }
+    }
+}
+
+/// The row of a vertex: these are marked, and what the rows of its neighbors mark.
+fn reach_row(
+    alloc: Global,
+    direct: &[usize],
+    neighbors: &[usize],
+    table: &Vec<Vec<bool>>,
+    count: usize,
+) -> Result<Vec<bool>, AllocError>
+    requires direct { (v : ℕ) → IsIn direct.now v → v < count }
+    requires neighbors { (v : ℕ) → IsIn neighbors.now v → (v < length (rows_of table.now)) × (length (get_or (rows_of table.now) v []) ≡ count) }
+    ensures count { IfOk result (λ row. length row.items ≡ count) }
+    ensures marks { IfOk result (λ row. (v : ℕ) → IsMarked row.items v ↔ (IsIn direct.now v ⊎ ((w : ℕ) × (IsIn neighbors.now w × IsMarked (get_or (rows_of table.now) w []) v)))) }
+{
+    let mut row = unmarked(alloc, count)?;
+    mark(&mut row, direct);
+    for neighbor in neighbors {
+        mark_all(&mut row, &table[*neighbor]);
+    }
+    Ok(row)
+}
+
+/// For each vertex what it reaches: what is direct for it, and what its neighbors reach.
+pub(crate) fn reached(
+    alloc: Global,
+    direct: &Graph,
+    graph: &Graph,
+    order: &[usize],
+    count: usize,
+) -> Result<Vec<Vec<bool>>, AllocError>
+    requires direct { AreEdgesBelow (plain_graph direct.now) count }
+    requires vertices { length (plain_graph direct.now) ≡ length (plain_graph graph.now) }
+    requires order { IsOrder (plain_graph graph.now) order.now }
+    requires all { (v : ℕ) → v < length (plain_graph graph.now) → IsIn order.now v }
+    ensures { IfOk result (λ table. IsReachTable (plain_graph direct.now) (plain_graph graph.now) count (rows_of table)) }
+{
+    let mut table = Vec::with_capacity(alloc, graph.len())?;
+    for _ in 0..graph.len() {
+        table.push(Vec::new(alloc))?;
+    }
+    for vertex in order {
+        let row = reach_row(alloc, &direct[*vertex], &graph[*vertex], &table, count)?;
+        table[*vertex] = row;
+    }
+    Ok(table)
+}

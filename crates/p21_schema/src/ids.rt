@@ -1,0 +1,22 @@
+//! What names an entity, an attribute or a type of a schema.
+
+/// An entity of a schema.
+#[derive(Clone, Copy, Debug, PartialEq, Eq)]
+pub struct EntityId {
+    /// Its place among the entities, in the order of the text.
+    pub(crate) index: usize,
+}
+
+/// An explicit attribute of a schema, as it is newly declared.
+#[derive(Clone, Copy, Debug, PartialEq, Eq)]
+pub struct AttrId {
+    /// Its place among the newly declared explicit attributes, in the order of the text.
+    pub(crate) index: usize,
+}
+
+/// A type of a schema.
+#[derive(Clone, Copy, Debug, PartialEq, Eq)]
+pub struct TypeId {
+    /// Its place among the types, in the order of the text.
+    pub(crate) index: usize,
+}

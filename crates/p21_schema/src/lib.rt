@@ -1,0 +1,19 @@
+//! The schema as a table: what a checker asks of declarations, answered without taking memory.
+#![tactic(auto)]
+
+mod ancestry;
+mod graph;
+mod ids;
+mod names;
+mod resolved;
+mod rows;
+mod schema;
+mod under;
+
+pub use ids::{AttrId, EntityId, TypeId};
+pub use p21_express::{Bounds, Width};
+pub use resolved::{Resolved, ResolvedExpr, Target};
+pub use schema::Schema;
+
+#[cfg(test)]
+mod tests;

@@ -1,0 +1,189 @@
+//! A schema as a table.
+
+ghost use Rattle.std.specs.Prelude.{◌≡◌, ◌<◌, ◌↔◌, List, Some, length, slice_get, IfOk, IsTrue, MatchOption};
+
+use crate::ancestry::{supertype_ids, supertypes};
+use crate::graph::{order, reached};
+use crate::ids::{AttrId, EntityId, TypeId};
+use crate::names::{Names, entity_names, type_names};
+use crate::resolved::Resolved;
+use crate::rows::{Own, own_attributes, rows};
+use crate::under::{resolved, type_ends};
+use p21_express::Declarations;
+use std::alloc::{AllocError, Global};
+use std::marker::Model;
+
+/// A schema whose declarations fit together, as a table.
+#[derive(Drop)]
+pub struct Schema {
+    declarations: Declarations,
+    entity_names: Names,
+    supertypes: Vec<Vec<EntityId>>,
+    /// For each entity which entities are its ancestors.
+    ancestors: Vec<Vec<bool>>,
+    own: Vec<Own>,
+    rows: Vec<Vec<AttrId>>,
+    /// The place of the type at which the way from each type ends, by the names that alone stand under types.
+    ends: Vec<usize>,
+    unders: Vec<Resolved>,
+}
+
+impl Model for Schema {
+    ghost use Rattle.p21_express.specs.Schema.{Schema as Declared};
+    ghost use Rattle.p21_express.specs.Plain.{plain_schema};
+    ghost use Rattle.p21_schema.specs.Code.{schema_code};
+    ghost use Rattle.p21_schema.specs.Graph.{rows_of};
+    ghost use Rattle.p21_schema.specs.Tables.{AreTables};
+
+    ghost Value = { Declared };
+
+    ghost coded = { schema_code };
+
+    ghost view = { λ a. plain_schema a.declarations };
+
+    ghost invariant = { λ a. AreTables (plain_schema a.declarations) a.entity_names (rows_of a.supertypes) (rows_of a.ancestors) a.own.items (rows_of a.rows) a.ends.items a.unders.items };
+}
+
+impl Schema {
+    ghost use Rattle.p21_express.specs.Plain.{plain_schema};
+    ghost use Rattle.p21_express.specs.WellFormed.{IsEntity, IsWellFormed, Origin};
+    ghost use Rattle.p21_schema.specs.declared.ids.EntityId.{EntityId};
+    ghost use Rattle.p21_schema.specs.declared.ids.AttrId.{AttrId};
+    ghost use Rattle.p21_schema.specs.declared.ids.TypeId.{TypeId};
+    ghost use Rattle.p21_schema.specs.Place.{entity_at, entity_name, IsEntityOf, type_name, IsTypeOf};
+    ghost use Rattle.p21_schema.specs.Under.{StandsUnder, IsResolvedIn};
+    ghost use Rattle.p21_express.specs.Schema.{Underlying};
+    ghost use Rattle.p21_schema.specs.Ancestry.{NameEntities, IsA};
+    ghost use Rattle.p21_schema.specs.Row.{IsRow, IsAttributeOf, attribute_at, own_attributes};
+
+    /// The table of declarations that fit together. It is refused for want of memory alone.
+    pub fn build(alloc: Global, declarations: Declarations) -> Result<Schema, AllocError>
+        requires { IsWellFormed (plain_schema declarations) }
+        ensures { IfOk result (λ schema. schema ≡ plain_schema declarations) }
+    {
+        let entity_names = entity_names(alloc, &declarations.entities)?;
+        let graph = supertypes(alloc, &entity_names, &declarations.entities)?;
+        let order = order(alloc, &graph)?;
+        let ancestors = reached(alloc, &graph, &graph, &order, graph.len())?;
+        let own = own_attributes(alloc, &declarations)?;
+        let rows = rows(alloc, &graph, &own, &order)?;
+        let supertypes = supertype_ids(alloc, &graph)?;
+        let type_names = type_names(alloc, &declarations.types)?;
+        let ends = type_ends(alloc, &type_names, &declarations.types)?;
+        let unders = resolved(alloc, &entity_names, &type_names, &declarations.types)?;
+        Ok(Schema {
+            declarations,
+            entity_names,
+            supertypes,
+            ancestors,
+            own,
+            rows,
+            ends,
+            unders,
+        })
+    }
+
+    /// The declarations fit together.
+    pub fn fits(&self)
+        ensures { IsWellFormed self.now }
+    {
+        let _ = &self.declarations;
+    }
+
+    /// Ids are equal where they name the same.
+    pub fn one_id(&self)
+        ensures entities { (a b : EntityId) → IsEntityOf self.now a → IsEntityOf self.now b → entity_name self.now a ≡ entity_name self.now b → a ≡ b }
+        ensures attributes { (a b : AttrId) → IsAttributeOf self.now a → IsAttributeOf self.now b → attribute_at self.now a ≡ attribute_at self.now b → a ≡ b }
+        ensures types { (a b : TypeId) → IsTypeOf self.now a → IsTypeOf self.now b → type_name self.now a ≡ type_name self.now b → a ≡ b }
+    {
+        let _ = &self.declarations;
+    }
+
+    /// The name behind SCHEMA.
+    pub fn name(&self) -> &[u8]
+        ensures { result.now ≡ self.now.name }
+    {
+        &self.declarations.name
+    }
+
+    /// The entity of this name, or `None` where there is none.
+    pub fn entity(&self, name: &[u8]) -> Option<EntityId>
+        ensures { MatchOption result (¬ (IsEntity self.now name.now)) (λ e. IsEntityOf self.now e × (entity_name self.now e ≡ name.now)) }
+    {
+        self.entity_names
+            .place(name)
+            .map(|index| EntityId { index })
+    }
+
+    /// Whether ABSTRACT SUPERTYPE stands behind the entity's name.
+    pub fn is_abstract(&self, entity: EntityId) -> bool
+        requires { IsEntityOf self.now entity }
+        ensures { result ≡ (entity_at self.now entity).is_abstract }
+    {
+        self.declarations.entities[entity.index].is_abstract
+    }
+
+    /// The supertypes of an entity, in the order of SUBTYPE OF.
+    pub fn supertypes(&self, entity: EntityId) -> &[EntityId]
+        requires { IsEntityOf self.now entity }
+        ensures { NameEntities self.now result.now (entity_at self.now entity).supertypes }
+    {
+        &self.supertypes[entity.index]
+    }
+
+    /// Whether the first entity is the second, or has it as an ancestor.
+    pub fn is_a(&self, entity: EntityId, other: EntityId) -> bool
+        requires entity { IsEntityOf self.now entity }
+        requires other { IsEntityOf self.now other }
+        ensures { IsTrue result ↔ IsA self.now entity other }
+    {
+        entity == other || self.ancestors[entity.index][other.index]
+    }
+
+    /// The number of attributes in the entity's row.
+    pub fn row_count(&self, entity: EntityId) -> usize
+        requires { IsEntityOf self.now entity }
+        ensures { (row : List Origin) × (IsRow self.now (entity_name self.now entity) row × (length row ≡ result)) }
+    {
+        self.rows[entity.index].len()
+    }
+
+    /// An attribute of the entity's row: those of its supertypes' rows in order, then its own, each at its first place.
+    pub fn row(&self, entity: EntityId, position: usize) -> AttrId
+        requires entity { IsEntityOf self.now entity }
+        requires position { (row : List Origin) × (IsRow self.now (entity_name self.now entity) row × (position < length row)) }
+        ensures known { IsAttributeOf self.now result }
+        ensures row { (row : List Origin) → IsRow self.now (entity_name self.now entity) row → slice_get row position ≡ Some (attribute_at self.now result) }
+    {
+        self.rows[entity.index][position]
+    }
+
+    /// The number of explicit attributes that the entity newly declares.
+    pub fn own_count(&self, entity: EntityId) -> usize
+        requires { IsEntityOf self.now entity }
+        ensures { result ≡ length (own_attributes (entity_at self.now entity)) }
+    {
+        let own = self.own[entity.index];
+        own.to - own.from
+    }
+
+    /// An explicit attribute that the entity newly declares, in the order of the text.
+    pub fn own(&self, entity: EntityId, position: usize) -> AttrId
+        requires entity { IsEntityOf self.now entity }
+        requires position { position < length (own_attributes (entity_at self.now entity)) }
+        ensures known { IsAttributeOf self.now result }
+        ensures own { slice_get (own_attributes (entity_at self.now entity)) position ≡ Some (attribute_at self.now result) }
+    {
+        let Own { from, to } = self.own[entity.index];
+        let behind = to - from - position;
+        AttrId { index: to - behind }
+    }
+
+    /// What stands under a type. A type's name that stands there alone is followed to what stands under that type.
+    pub fn under(&self, id: TypeId) -> &Resolved
+        requires { IsTypeOf self.now id }
+        ensures { (under : Underlying) × (StandsUnder self.now (type_name self.now id) under × IsResolvedIn self.now result.now under) }
+    {
+        &self.unders[self.ends[id.index]]
+    }
+}
