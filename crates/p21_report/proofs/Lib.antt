@@ -1,3 +1,4 @@
 pub mod CountLemmas
 pub mod TallyLemmas
 pub mod ReportLemmas
+pub mod InputLemmas

@@ -89,17 +89,16 @@ fn report_text(alloc: Global, bytes: &[u8]) -> Result<(u8, Vec<u8>), ProgramErro
 
 /// Tells an error: the help on `output`, any other on `errors`.
 fn tell<O: Write, E: Write>(error: &ProgramError, output: &mut O, errors: &mut E) -> u8 {
-    if error.is_help() {
-        return if write!(output, "{error}").is_ok() {
-            0
-        } else {
-            4
-        };
+    if !error.is_help() {
+        return tell_on(error, errors);
     }
-    tell_on(error, errors)
+    match write!(output, "{error}") {
+        Ok(()) => 0,
+        Err(_) => tell_on(&ProgramError::Device, errors),
+    }
 }
 
-/// Tells an error that is no help.
+/// Tells an error that is no help on `errors`.
 fn tell_on<E: Write>(error: &ProgramError, errors: &mut E) -> u8 {
     if matches!(error, ProgramError::Words(_)) {
         let _ = write!(errors, "{error}");

@@ -1,6 +1,6 @@
 //! Reading a whole input within bounds.
 
-ghost use Rattle.std.specs.Prelude.{◌≡◌, ◌+◌, ◌≤◌, ◌++◌, length, vec_len, OnOk};
+ghost use Rattle.std.specs.Prelude.{◌≡◌, ◌+◌, ◌≤◌, ◌++◌, length, vec_len, IfOk, IfSome, OnOk};
 
 use crate::program_error::ProgramError;
 use std::alloc::Global;
@@ -29,7 +29,10 @@ pub(crate) fn read_bounded<I: Read>(
     alloc: Global,
     input: &mut I,
     bounds: Bounds,
-) -> Result<Vec<u8>, ProgramError> {
+) -> Result<Vec<u8>, ProgramError>
+    ensures whole { IfOk result (λ bytes. IfSome (I.remaining input.old) (λ all. bytes.items ≡ all)) }
+    ensures bounded { IfOk result (λ bytes. vec_len bytes ≤ bounds.bytes) }
+{
     let mut chunk = vec![in alloc; 0u8; CHUNK]?;
     let mut bytes = Vec::new(alloc);
     for _ in 0..bounds.calls {

@@ -1,7 +1,7 @@
 //! Why the program gave no report, and the status that says so.
 
 ghost use Rattle.std.specs.Prelude.{◌≡◌, ◌↔◌, IsTrue};
-ghost use Rattle.p21_report.specs.declared.program_error.ProgramError.TheVariants.{Device, Memory};
+ghost use Rattle.p21_report.specs.declared.program_error.ProgramError.TheVariants.{Device, Memory, Words};
 
 use std::alloc::AllocError;
 use thiserror::Error;
@@ -37,6 +37,7 @@ impl ProgramError {
 
     /// The status that the program ends with: 2 where the words were refused, 4 and 5 as the messages say.
     pub(crate) fn status(&self) -> u8
+        ensures words { (error : _) → self.now ≡ ProgramError.Words error → result ≡ 2 }
         ensures device { self.now ≡ ProgramError.Device → result ≡ 4 }
         ensures memory { (error : _) → self.now ≡ ProgramError.Memory error → result ≡ 5 }
     {

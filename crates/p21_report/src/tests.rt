@@ -132,6 +132,32 @@ fn helps(rt: HostRuntime) -> Result<(), Fail> {
 }
 
 #[test]
+fn help_into_a_writer_that_fails(rt: HostRuntime) -> Result<(), Fail> {
+    let alloc = rt.alloc();
+    let words = words(alloc, &["p21check", "--help"])?;
+    let mut input = FILE;
+    let mut output = Short {
+        bytes: Vec::new(alloc),
+        room: 3,
+    };
+    let mut errors = Vec::new(alloc);
+    let status = program(
+        &rt,
+        alloc,
+        words.as_slice(),
+        &mut input,
+        &mut output,
+        &mut errors,
+    );
+    assert_eq!(rt; status, 4);
+    assert_eq!(rt;
+        errors.as_slice(),
+        b"p21check: input or output failed\n".as_slice()
+    );
+    Ok(())
+}
+
+#[test]
 fn file_that_does_not_exist(rt: HostRuntime) -> Result<(), Fail> {
     let (status, output, errors) = run(&rt, rt.alloc(), &["p21check", "no/such/file.stp"], FILE)?;
     assert_eq!(rt; status, 4);

@@ -8,22 +8,32 @@ use std::alloc::Global;
 /// The file that the words name; the first word is the program's own name.
 pub(crate) fn file_named<'a>(alloc: Global, words: &'a [String]) -> Result<&'a str, ProgramError> {
     let matches = command(alloc)?.try_get_matches_from(words)?;
-    Ok(matches.get_str("FILE").unwrap_or("-"))
+    match matches.get_str("FILE") {
+        Some(file) => Ok(file),
+        None => Err(refused(
+            alloc,
+            ErrorKind::MissingRequiredArgument,
+            "no FILE is given",
+        )?),
+    }
 }
 
 /// What is told of words that are no text.
 pub(crate) fn not_text(alloc: Global) -> ProgramError {
-    match refused(alloc) {
+    let error = refused(
+        alloc,
+        ErrorKind::InvalidValue,
+        "invalid UTF-8 was detected in one or more arguments",
+    );
+    match error {
         Ok(error) => error,
         Err(error) => error,
     }
 }
 
-fn refused(alloc: Global) -> Result<ProgramError, ProgramError> {
-    let error = command(alloc)?.error(
-        ErrorKind::InvalidValue,
-        "invalid UTF-8 was detected in one or more arguments",
-    )?;
+/// The error of words that are refused for a cause.
+fn refused(alloc: Global, kind: ErrorKind, cause: &str) -> Result<ProgramError, ProgramError> {
+    let error = command(alloc)?.error(kind, cause)?;
     Ok(ProgramError::from(error))
 }
 
