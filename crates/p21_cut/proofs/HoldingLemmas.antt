@@ -6,7 +6,7 @@ use Rattle.std.proofs.lemmas.List.Elements.{All-map}
 use Rattle.p21_text.specs.Separators.{IsSeparators}
 use Rattle.p21_text.specs.Separators as separators
 use Rattle.p21_text.specs.Spelling as token
-use Rattle.p21_text.specs.Tokens.{Passes, Front, First, Placed, Tokens, IsLast}
+use Rattle.p21_text.specs.Tokens.{Passes, Front, First, Placed, Tokens, TokensUpTo, IsLast}
 use Rattle.p21_text.specs.Tokens as tokens
 use Rattle.p21_text.specs.Laws.{HasOneListAtMost}
 use Rattle.p21_tree.specs.Laws.{IsTokenList}
@@ -16,10 +16,10 @@ use Rattle.p21_tree.specs.InOrder.{BeginsWithName, HasNoSemi, Joined}
 use Rattle.p21_tree.specs.InOrder as order
 use Rattle.p21_cut.specs.Pieces.{BeginsWith, IsPlain, PartsAre, HasNoPart, Piece, PieceIs, PiecesAre}
 use Rattle.p21_cut.specs.Pieces as pieces
-use Rattle.p21_cut.specs.Tokens.{TokensOfEach, PiecesHoldTokens}
+use Rattle.p21_cut.specs.Tokens.{TokensOfEach, PiecesHoldTokens, TokensAndNext, InFile, PieceTokensAreOfFile, TailTokensAreOfFile}
 use Rattle.p21_cut.specs.Tokens as each
 use Rattle.p21_cut.proofs.StretchLemmas.{OneString, parts_alike}
-use Rattle.p21_cut.proofs.PieceTokenLemmas.{parts_fit, no_gap, ClosedWalk, stopped, closed, closed_walk, OpenWalk, open_walk, tokens_at_end, end_or_bad, begins_name, no_semi_first, no_end_first, tail_no_name}
+use Rattle.p21_cut.proofs.PieceTokenLemmas.{parts_fit, no_gap, ClosedWalk, inside, closed, closed_walk, OpenWalk, open_walk, tokens_at_end, end_or_bad, begins_name, begins_first, no_semi_first, no_end_first, first_no_name, tail_no_name}
 
 -- ---- separators before a place
 
@@ -90,19 +90,52 @@ closed_name bytes rest s ts (t ∷ body) semi last e toks parts k =
 Held : List ℕ → ℕ → List (List Placed) → List Placed → Type 0
 Held file start tss tail = (rest : List Placed) × (Tokens file start rest × Joined tss tail rest)
 
-closed_held : (file bytes front r : List ℕ) (start end : ℕ) (ts tail : List Placed) (tss : List (List Placed)) (rest : List ℕ) → front ≡ 35 ∷ rest → bytes ≡ front ++ 59 ∷ [] → Tokens bytes 0 ts → ClosedWalk file start end 0 ts → Held file end tss tail → Held file start (shifted start ts ∷ tss) tail
+-- all tokens of a text, and the last of them
+record AllTokens (text : List ℕ) (at : ℕ) (ts : List Placed) : Type 0 where
+  before : List Placed
+  last : Placed
+  parts : ts ≡ before ++ last ∷ []
+  is_last : IsLast last.token
+  up_to : TokensAndNext text at before last
+
+all_tokens : (text : List ℕ) (at : ℕ) (ts : List Placed) → Tokens text at ts → AllTokens text at ts
+all_tokens text at ts (tokens.last {t = t} f l) = record { before = []; last = t; parts = refl; is_last = l; up_to = record { place = at; tokens = tokens.none; next = f } }
+all_tokens text at ts (tokens.more {t = t} {ts = others} f nl rest) =
+    let all : AllTokens text t.after others = all_tokens text t.after others rest in
+    record {
+      before = t ∷ all.before;
+      last = all.last;
+      parts = ap (λ l. t ∷ l) all.parts;
+      is_last = all.is_last;
+      up_to = record { place = all.up_to.place; tokens = tokens.more f nl all.up_to.tokens; next = all.up_to.next };
+    }
+
+-- the tokens up to a place, and those behind it
+tokens_on : (text : List ℕ) (at place : ℕ) (before rest : List Placed) → TokensUpTo text at before place → Tokens text place rest → Tokens text at (before ++ rest)
+tokens_on text at place before rest tokens.none h = h
+tokens_on text at place before rest (tokens.more {t = t} {ts = ts} f nl others) h = tokens.more f nl (tokens_on text t.after place ts rest others h)
+
+-- the tokens of a piece up to the last of them
+moved_all : (file : List ℕ) (s : ℕ) (ts before : List Placed) (last : Placed) → ts ≡ before ++ last ∷ [] → IsLast last.token → TokensAndNext file (s + 0) (shifted s before) (shift s last) → Tokens file s (shifted s ts)
+moved_all file s ts before last e l h =
+    let whole : shifted s ts ≡ shifted s before ++ shift s last ∷ [] = ap (shifted s) e ∙ map-append (shift s) before (last ∷ []) in
+    subst (λ j. Tokens file j (shifted s ts)) (add-zero s) (subst (Tokens file (s + 0)) (sym whole) (tokens_on file (s + 0) h.place (shifted s before) (shift s last ∷ []) h.tokens (tokens.last h.next l)))
+
+closed_held : (file bytes : List ℕ) (start end : ℕ) (ts before tail : List Placed) (last : Placed) (tss : List (List Placed)) (rest : List ℕ) → bytes ≡ 35 ∷ rest → Tokens bytes 0 ts → ts ≡ before ++ last ∷ [] → IsLast last.token → ClosedWalk file start end 0 before last → Held file end tss tail
+    → Held file start (shifted start ts ∷ tss) tail
 unfolding Held
-closed_held file bytes front r start end ts tail tss rest f e toks (stopped body last parts b none in_file) next =
-    let begins : bytes ≡ 35 ∷ (rest ++ 59 ∷ []) = e ∙ ap (λ l. l ++ 59 ∷ []) f in
-    (shifted start ts, (subst (λ j. Tokens file j (shifted start ts)) (add-zero start) in_file, stopped_piece start ts body tail tss last parts b none (begins_name bytes (rest ++ 59 ∷ []) start ts body last begins toks parts)))
-closed_held file bytes front r start end ts tail tss rest f e toks (closed body semi last parts k l none on) next =
-    let begins : bytes ≡ 35 ∷ (rest ++ 59 ∷ []) = e ∙ ap (λ l. l ++ 59 ∷ []) f in
+closed_held file bytes start end ts before tail last tss rest e toks parts is_last (inside none no_end in_file) next =
+    let b : last.token ≡ token.bad = elim (end_or_bad last.token is_last) [ inl k ↦ absurd (no_end k) | inr k ↦ k ] in
+    (shifted start ts, (moved_all file start ts before last parts is_last in_file, stopped_piece start ts before tail tss last parts b none (begins_name bytes rest start ts before last e toks parts)))
+closed_held file bytes start end ts before tail last tss rest e toks parts is_last (closed body semi up none k l in_file) next =
+    let own : ts ≡ body ++ semi ∷ last ∷ [] = parts ∙ (ap (λ x. x ++ last ∷ []) up ∙ append_assoc body (semi ∷ []) (last ∷ [])) in
     let others : List Placed = shifted start body ++ shift start semi ∷ next.0 in
-    let name : BeginsWithName (shifted start body) = closed_name bytes (rest ++ 59 ∷ []) start ts body semi last begins toks parts k in
-    let whole : shifted start ts ≡ shifted start body ++ shift start semi ∷ shift start last ∷ [] = ap (shifted start) parts ∙ map-append (shift start) body (semi ∷ last ∷ []) in (
+    let name : BeginsWithName (shifted start body) = closed_name bytes rest start ts body semi last e toks own k in
+    let whole : shifted start ts ≡ shifted start body ++ shift start semi ∷ shift start last ∷ [] = ap (shifted start) own ∙ map-append (shift start) body (semi ∷ last ∷ []) in
+    let front : shifted start before ++ next.0 ≡ others = ap (λ x. x ++ next.0) (ap (shifted start) up ∙ map-append (shift start) body (semi ∷ [])) ∙ append_assoc (shifted start body) (shift start semi ∷ []) next.0 in (
       others,
       (
-        subst (λ j. Tokens file j others) (add-zero start) (on next.0 next.1.0),
+        subst (λ j. Tokens file j others) (add-zero start) (subst (Tokens file (start + 0)) front (tokens_on file (start + 0) end (shifted start before) next.0 in_file next.1.0)),
         subst (λ p. Joined (p ∷ tss) tail others) (sym whole) (order.piece (shifted start body) (shift start semi) (shift start last) name (moved_no_semi start body none) k l next.1.1),
       ),
     )
@@ -110,7 +143,7 @@ closed_held file bytes front r start end ts tail tss rest f e toks (closed body 
 -- behind the end of a file stand no pieces
 none_left : (file : List ℕ) (at number end : ℕ) (ps : List Piece) → drop at file ≡ [] → PiecesAre file at number ps end → (ps ≡ []) × (end ≡ at)
 none_left file at number end ps e (pieces.tail {gap = gap} p s) = let none : gap ≡ 0 = no_gap (drop at file) gap e p in (refl, omega (arith, none))
-none_left file at number end ps e (pieces.piece {gap = gap} {len = len} p one more) = absurd (nothing (drop (at + gap) file) len (sym (drop-drop gap at file) ∙ ap (drop gap) e ∙ drop_all gap [] (omega arith)) one) where
+none_left file at number end ps e (pieces.piece (pieces.made {gap = gap} {len = len} p one) more) = absurd (nothing (drop (at + gap) file) len (sym (drop-drop gap at file) ∙ ap (drop gap) e ∙ drop_all gap [] (omega arith)) one) where
   nothing : (text : List ℕ) (len : ℕ) → text ≡ [] → ¬ (PieceIs text len)
   nothing text len e (pieces.closed parts s) = cc
   nothing text len e (pieces.open_ parts s none) = cc
@@ -126,23 +159,23 @@ open_name : (bytes rest : List ℕ) (s : ℕ) (ts body : List Placed) (last : Pl
 open_name bytes rest s ts [] last e toks parts k = absurd (no_end_first bytes rest ts [] last e toks parts k)
 open_name bytes rest s ts (t ∷ body) last e toks parts k = elim (begins_name bytes rest s ts (t ∷ body) last e toks parts) [ inl n ↦ n | inr none ↦ cc ]
 
-open_joined : (file bytes : List ℕ) (start : ℕ) (ts tail : List Placed) (tss : List (List Placed)) (rest : List ℕ) → bytes ≡ 35 ∷ rest → Tokens bytes 0 ts → (walk : OpenWalk file bytes start 0 ts) → tss ≡ []
-    → ((end : Placed) × (tail ≡ end ∷ []) × (end.token ≡ token.end) × (end.start ≡ start + length bytes) × (end.after ≡ start + length bytes)) → walk.last.token ≡ token.end → Joined (shifted start ts ∷ tss) tail (shifted start ts)
-open_joined file bytes start ts tail tss rest e toks walk none there k =
+open_joined : (file bytes : List ℕ) (start : ℕ) (ts before tail : List Placed) (last : Placed) (tss : List (List Placed)) (rest : List ℕ) → bytes ≡ 35 ∷ rest → Tokens bytes 0 ts → ts ≡ before ++ last ∷ [] → (walk : OpenWalk file bytes start 0 before last) → tss ≡ []
+    → ((end : Placed) × (tail ≡ end ∷ []) × (end.token ≡ token.end) × (end.start ≡ start + length bytes) × (end.after ≡ start + length bytes)) → last.token ≡ token.end → Joined (shifted start ts ∷ tss) tail (shifted start ts)
+open_joined file bytes start ts before tail last tss rest e toks parts walk none there k =
     let place = walk.end k in
-    let same : shift start walk.last ≡ there.0 = same_placed (shift start walk.last) there.0 (ap (λ j. start + j) place.0 ∙ sym there.3) (ap (λ j. start + j) place.1 ∙ sym there.4) (k ∙ sym there.2) in
-    let body : List Placed = shifted start walk.body in
-    let whole : shifted start ts ≡ body ++ shift start walk.last ∷ [] = ap (shifted start) walk.parts ∙ map-append (shift start) walk.body (walk.last ∷ []) in
-    let ends : shift start walk.last ∷ [] ≡ tail = ap (λ t. t ∷ []) same ∙ sym there.1 in
-    let cut : Joined ((body ++ shift start walk.last ∷ []) ∷ []) (shift start walk.last ∷ []) (body ++ shift start walk.last ∷ []) =
-    order.cut body (shift start walk.last) (open_name bytes rest start ts walk.body walk.last e toks walk.parts k) (moved_no_semi start walk.body walk.no_semi) k in
-    rw (whole, none) (subst (λ t. Joined ((body ++ shift start walk.last ∷ []) ∷ []) t (body ++ shift start walk.last ∷ [])) ends cut)
+    let same : shift start last ≡ there.0 = same_placed (shift start last) there.0 (ap (λ j. start + j) place.0 ∙ sym there.3) (ap (λ j. start + j) place.1 ∙ sym there.4) (k ∙ sym there.2) in
+    let body : List Placed = shifted start before in
+    let whole : shifted start ts ≡ body ++ shift start last ∷ [] = ap (shifted start) parts ∙ map-append (shift start) before (last ∷ []) in
+    let ends : shift start last ∷ [] ≡ tail = ap (λ t. t ∷ []) same ∙ sym there.1 in
+    let cut : Joined ((body ++ shift start last ∷ []) ∷ []) (shift start last ∷ []) (body ++ shift start last ∷ []) =
+    order.cut body (shift start last) (open_name bytes rest start ts before last e toks parts k) (moved_no_semi start before walk.no_semi) k in
+    rw (whole, none) (subst (λ t. Joined ((body ++ shift start last ∷ []) ∷ []) t (body ++ shift start last ∷ [])) ends cut)
 
-open_held : (file bytes : List ℕ) (start number end : ℕ) (ps : List Piece) (ts tail : List Placed) (tss : List (List Placed)) (rest : List ℕ) → bytes ≡ 35 ∷ rest → drop start file ≡ bytes → Tokens bytes 0 ts → OpenWalk file bytes start 0 ts
+open_held : (file bytes : List ℕ) (start number end : ℕ) (ps : List Piece) (ts before tail : List Placed) (last : Placed) (tss : List (List Placed)) (rest : List ℕ) → bytes ≡ 35 ∷ rest → drop start file ≡ bytes → Tokens bytes 0 ts → ts ≡ before ++ last ∷ [] → IsLast last.token → OpenWalk file bytes start 0 before last
     → PiecesAre file (start + length bytes) number ps end → TokensOfEach ps tss → Tokens file end tail → Held file start (shifted start ts ∷ tss) tail
 unfolding Held
-open_held file bytes start number end ps ts tail tss rest e here toks walk more tokens_of in_tail =
-    (shifted start ts, (subst (λ j. Tokens file j (shifted start ts)) (add-zero start) walk.in_file, joined)) where
+open_held file bytes start number end ps ts before tail last tss rest e here toks parts is_last walk more tokens_of in_tail =
+    (shifted start ts, (moved_all file start ts before last parts is_last walk.in_file, joined)) where
       behind : drop (start + length bytes) file ≡ []
       behind = sym (drop-drop (length bytes) start file) ∙ ap (drop (length bytes)) here ∙ drop_all (length bytes) bytes (omega arith)
 
@@ -150,16 +183,20 @@ open_held file bytes start number end ps ts tail tss rest e here toks walk more 
       nothing = none_left file (start + length bytes) number end ps behind more
 
       joined : Joined (shifted start ts ∷ tss) tail (shifted start ts)
-      joined = elim (end_or_bad walk.last.token walk.is_last) [
-        | inl k ↦ open_joined file bytes start ts tail tss rest e toks walk (none_each ps tss nothing.0 tokens_of) (tokens_at_end file (start + length bytes) tail behind (subst (λ j. Tokens file j tail) nothing.1 in_tail)) k
-        | inr b ↦ stopped_piece start ts walk.body tail tss walk.last walk.parts b walk.no_semi (begins_name bytes rest start ts walk.body walk.last e toks walk.parts)
+      joined = elim (end_or_bad last.token is_last) [
+        | inl k ↦ open_joined file bytes start ts before tail last tss rest e toks parts walk (none_each ps tss nothing.0 tokens_of) (tokens_at_end file (start + length bytes) tail behind (subst (λ j. Tokens file j tail) nothing.1 in_tail)) k
+        | inr b ↦ stopped_piece start ts before tail tss last parts b walk.no_semi (begins_name bytes rest start ts before last e toks parts)
       ]
 
--- ---- all pieces
+-- ---- first tokens of a piece
 
-one_held : (file text : List ℕ) (start len number end : ℕ) (ps : List Piece) (ts tail : List Placed) (tss : List (List Placed)) → OneString → drop start file ≡ text → PieceIs text len → Tokens (take len text) 0 ts
-    → PiecesAre file (start + len) number ps end → TokensOfEach ps tss → Tokens file end tail → Held file (start + len) tss tail → Held file start (shifted start ts ∷ tss) tail
-one_held file text start len number end ps ts tail tss one e (pieces.closed {rest = rest} {n = n} parts mark) toks more tokens_of in_tail next =
+-- what they are in the file, whether a `;` closes the piece or not
+data PieceWalk (file : List ℕ) (start len : ℕ) (bytes : List ℕ) (before : List Placed) (t : Placed) : Type 0 where
+  closed_piece : (rest : List ℕ) → bytes ≡ 35 ∷ rest → ClosedWalk file start (start + len) 0 before t → PieceWalk file start len bytes before t
+  open_piece : (rest : List ℕ) → bytes ≡ 35 ∷ rest → drop start file ≡ bytes → len ≡ length bytes → OpenWalk file bytes start 0 before t → PieceWalk file start len bytes before t
+
+piece_walk : (file text : List ℕ) (start len : ℕ) (before : List Placed) (t : Placed) → OneString → drop start file ≡ text → PieceIs text len → TokensAndNext (take len text) 0 before t → PieceWalk file start len (take len text) before t
+piece_walk file text start len before t one e (pieces.closed {rest = rest} {n = n} parts mark) up =
     let split = at_mark rest n mark in
     let front : List ℕ = 35 ∷ take n rest in
     let behind : List ℕ = drop (suc n) rest in
@@ -172,28 +209,81 @@ one_held file text start len number end ps ts tail tss one e (pieces.closed {res
     let all : PartsAre (front ++ 59 ∷ []) (n + 1) = pieces.more (pieces.byte (hash_plain (take n rest ++ 59 ∷ []))) inner (omega arith) in
     let none : n + 1 ≡ length front - 0 = omega (arith, long) in
     let own : PartsAre (drop 0 (take (n + 2) (35 ∷ rest))) (length front - 0) = subst (λ l. PartsAre l (length front - 0)) (sym bytes) (subst (PartsAre (front ++ 59 ∷ [])) none all) in
-    let walk = closed_walk file (take (n + 2) (35 ∷ rest)) front behind start 0 ts one bytes here (omega arith) own toks in
-    let place : start + (n + 2) ≡ start + length front + 1 = omega (arith, long) in
-    closed_held file (take (n + 2) (35 ∷ rest)) front behind start (start + length front + 1) ts tail tss (take n rest) refl bytes toks walk (subst (λ j. Held file j tss tail) place next)
-one_held file text start len number end ps ts tail tss one e (pieces.open_ {rest = rest} {n = n} parts mark none) toks more tokens_of in_tail next =
+    let walk = closed_walk file (take (n + 2) (35 ∷ rest)) front behind start 0 up.place before t one bytes here (omega arith) own up.tokens up.next in
+    let place : start + length front + 1 ≡ start + (n + 2) = omega (arith, long) in
+    closed_piece (take n rest ++ 59 ∷ []) bytes (subst (λ j. ClosedWalk file start j 0 before t) place walk)
+piece_walk file text start len before t one e (pieces.open_ {rest = rest} {n = n} parts mark none) up =
     let bytes : List ℕ = 35 ∷ rest in
     let whole : take (length rest + 1) bytes ≡ bytes = take_all (length rest + 1) bytes (omega arith) in
-    let own : Tokens bytes 0 ts = subst (λ l. Tokens l 0 ts) whole toks in
     let all : PartsAre bytes (n + 1) = pieces.more (pieces.byte (hash_plain rest)) parts (omega arith) in
     let fits : n ≤ length rest = parts_fit rest n parts in
     let count : n + 1 ≡ suc n = omega arith in
     let nothing : n + 1 ≡ n + 1 - 0 = omega arith in
     let stops : HasNoPart (drop (n + 1) bytes) = rw count none in
     let no_mark : ¬ (BeginsWith 59 (drop (n + 1) bytes)) = rw count mark in
-    let walk = open_walk file bytes start 0 (n + 1) ts one e (omega arith) (omega (arith, fits)) (subst (PartsAre bytes) nothing all) stops no_mark own in
-    let long : start + (length rest + 1) ≡ start + length bytes = omega arith in
-    open_held file bytes start number end ps ts tail tss rest refl e own walk (subst (λ j. PiecesAre file j number ps end) long more) tokens_of in_tail
+    let own : TokensUpTo bytes 0 before up.place = subst (λ l. TokensUpTo l 0 before up.place) whole up.tokens in
+    let walk = open_walk file bytes start 0 (n + 1) up.place before t one e (omega arith) (omega (arith, fits)) (subst (PartsAre bytes) nothing all) stops no_mark own (subst (λ l. First l up.place t) whole up.next) in
+    let long : length rest + 1 ≡ length bytes = omega arith in
+    open_piece rest whole (e ∙ sym whole) (long ∙ ap length (sym whole)) (subst (λ l. OpenWalk file l start 0 before t) (sym whole) walk)
+
+-- from before the separators on
+first_behind : (file : List ℕ) (at gap from : ℕ) (t : Placed) → Passes (drop at file) gap → from ≡ at + gap → First file from t → First file at t
+first_behind file at gap from t p e f = first_before file at gap t p (subst (λ j. First file j t) e f)
+
+up_to_from : (file : List ℕ) (at gap from place : ℕ) (before : List Placed) (t : Placed) → Passes (drop at file) gap → from ≡ at + gap → TokensUpTo file from before place → First file place t → TokensAndNext file at before t
+up_to_from file at gap from place before t p e tokens.none f = record { place = at; tokens = tokens.none; next = first_behind file at gap from t p e f }
+up_to_from file at gap from place before t p e (tokens.more {t = u} g nl others) f = record { place = place; tokens = tokens.more (first_behind file at gap from u p e g) nl others; next = f }
+
+up_to_before : (file : List ℕ) (at gap : ℕ) (before : List Placed) (t : Placed) → Passes (drop at file) gap → TokensAndNext file (at + gap) before t → TokensAndNext file at before t
+up_to_before file at gap before t p h = up_to_from file at gap (at + gap) h.place before t p refl h.tokens h.next
+
+some_before : (file : List ℕ) (at gap from end : ℕ) (before body : List Placed) (semi : Placed) → Passes (drop at file) gap → from ≡ at + gap → before ≡ body ++ semi ∷ [] → TokensUpTo file from before end → TokensUpTo file at before end
+some_before file at gap from end before body semi p q e tokens.none = absurd (not_empty body e) where
+  not_empty : (body : List Placed) → ¬ ([] ≡ body ++ semi ∷ [])
+  not_empty [] e = cc
+  not_empty (u ∷ body) e = cc
+some_before file at gap from end before body semi p q e (tokens.more {t = u} f nl others) = tokens.more (first_behind file at gap from u p q f) nl others
+
+pub piece_in_file : OneString → PieceTokensAreOfFile
+piece_in_file one file at number next _ before t (pieces.made {gap = gap} {len = len} p piece) up = found (piece_walk file (drop start file) start len before t one refl piece up) where
+  start : ℕ
+  start = at + gap
+
+  bytes : List ℕ
+  bytes = take len (drop start file)
+
+  own : Piece
+  own = record { number = number; at = start; bytes = bytes }
+
+  inner : (rest : List ℕ) → bytes ≡ 35 ∷ rest → HasNoSemi before → TokensAndNext file (start + 0) (shifted start before) (shift start t) → InFile file at (start + len) own before t
+  inner rest e none in_file =
+      each.inside none (begins_first bytes rest start up.place before t e up.tokens up.next) (up_to_before file at gap (shifted start before) (shift start t) p (subst (λ j. TokensAndNext file j (shifted start before) (shift start t)) (add-zero start) in_file))
+
+  found : PieceWalk file start len bytes before t → InFile file at (start + len) own before t
+  found (closed_piece rest e (inside none no_end in_file)) = inner rest e none in_file
+  found (closed_piece rest e (closed body semi parts none k l in_file)) =
+      let moved : shifted start before ≡ shifted start body ++ shift start semi ∷ [] = ap (shifted start) parts ∙ map-append (shift start) body (semi ∷ []) in
+      each.whole body semi parts none k l (some_before file at gap start (start + len) (shifted start before) (shifted start body) (shift start semi) p refl moved (subst (λ j. TokensUpTo file j (shifted start before) (start + len)) (add-zero start) in_file))
+  found (open_piece rest e here long walk) = inner rest e walk.no_semi walk.in_file
+
+-- ---- all pieces
+
+one_held : (file text : List ℕ) (start len number end : ℕ) (ps : List Piece) (ts tail : List Placed) (tss : List (List Placed)) → OneString → drop start file ≡ text → PieceIs text len → Tokens (take len text) 0 ts
+    → PiecesAre file (start + len) number ps end → TokensOfEach ps tss → Tokens file end tail → Held file (start + len) tss tail → Held file start (shifted start ts ∷ tss) tail
+one_held file text start len number end ps ts tail tss one e piece toks more tokens_of in_tail next = found (piece_walk file text start len all.before all.last one e piece all.up_to) where
+  all : AllTokens (take len text) 0 ts
+  all = all_tokens (take len text) 0 ts toks
+
+  found : PieceWalk file start len (take len text) all.before all.last → Held file start (shifted start ts ∷ tss) tail
+  found (closed_piece rest f walk) = closed_held file (take len text) start (start + len) ts all.before tail all.last tss rest f toks all.parts all.is_last walk next
+  found (open_piece rest f here long walk) =
+      open_held file (take len text) start number end ps ts all.before tail all.last tss rest f here toks all.parts all.is_last walk (subst (λ j. PiecesAre file (start + j) number ps end) long more) tokens_of in_tail
 
 held : (file : List ℕ) (at number end : ℕ) (ps : List Piece) (tss : List (List Placed)) (tail : List Placed) → OneString → PiecesAre file at number ps end → TokensOfEach ps tss → Tokens file end tail → Held file at tss tail
 unfolding Held
 held file at number end ps tss tail one (pieces.tail {gap = gap} p s) each.none in_tail =
     (tail, (tokens_before file at gap tail p in_tail, order.tail (token_list file (at + gap) tail in_tail) (tail_no_name file (at + gap) tail s (λ g q. still_there file at gap g p q) in_tail)))
-held file at number end ps tss tail one (pieces.piece {gap = gap} {len = len} {others = others} p piece more) (each.more {ts = ts} {tss = rest} own tokens_of) in_tail =
+held file at number end ps tss tail one (pieces.piece {others = others} (pieces.made {gap = gap} {len = len} p piece) more) (each.more {ts = ts} {tss = rest} own tokens_of) in_tail =
     let start : ℕ = at + gap in
     let next : Held file (start + len) rest tail = held file (start + len) (number + 1) end others rest tail one more tokens_of in_tail in
     let found : Held file start (shifted start ts ∷ rest) tail = one_held file (drop start file) start len (number + 1) end others ts tail rest one refl piece own more tokens_of in_tail next in
@@ -204,3 +294,13 @@ unfolding Held
 pieces_hold one unique file at = λ number end ps tss tail rest cut tokens_of in_tail in_file.
     let found = held file at number end ps tss tail one cut tokens_of in_tail in
     subst (Joined tss tail) (unique file at found.0 rest found.1.0 in_file) found.1.1
+
+-- ---- first tokens of the tail
+
+no_name_first : (file : List ℕ) (at place : ℕ) (before : List Placed) (t : Placed) → ¬ (BeginsWith 35 (drop at file)) → ((g : ℕ) → Passes (drop at file) g → g ≡ 0) → TokensUpTo file at before place → First file place t → ¬ (BeginsWithName (before ++ t ∷ []))
+no_name_first file at place before t s still tokens.none f = first_no_name file at t s still f
+no_name_first file at place before t s still (tokens.more {t = u} g nl others) f = first_no_name file at u s still g
+
+pub tail_in_file : TailTokensAreOfFile
+tail_in_file file at number _ before t (pieces.tail {gap = gap} p s) up =
+    (up_to_before file at gap before t p up, no_name_first file (at + gap) up.place before t s (λ g q. still_there file at gap g p q) up.tokens up.next)

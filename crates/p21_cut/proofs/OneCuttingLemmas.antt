@@ -1,11 +1,11 @@
 -- A file is cut in one way alone.
-use Rattle.std.proofs.Common.{◌≡◌, ◌≢◌, ℕ, zero, suc, ◌+◌, ◌-◌, ◌<◌, ◌≤◌, ◌⊎◌, inl, inr, List, [], ◌∷◌, ◌++◌, length, take, drop, slice_index, refl, sym, ap, subst, ◌∙◌, arith, length-append, length-take-le}
+use Rattle.std.proofs.Common.{◌≡◌, ◌≢◌, ℕ, zero, suc, ◌+◌, ◌-◌, ◌<◌, ◌≤◌, ◌⊎◌, inl, inr, List, [], ◌∷◌, ◌++◌, length, take, drop, slice_index, refl, sym, ap, subst, ◌∙◌, arith, length-append, length-take-le, map, zero-add}
 use Rattle.std.proofs.lemmas.List.{get_or-take, get_or-append_right, drop-drop}
 use Rattle.p21_text.specs.Separators.{IsComment}
 use Rattle.p21_text.specs.Spelling.{Spells, str}
 use Rattle.p21_text.specs.Tokens.{Passes}
 use Rattle.p21_text.specs.Laws.{HasOneString}
-use Rattle.p21_cut.specs.Pieces.{BeginsWith, IsPlain, PartIs, PartsAre, HasNoPart, Piece, PieceIs, PiecesAre}
+use Rattle.p21_cut.specs.Pieces.{BeginsWith, IsPlain, PartIs, PartsAre, HasNoPart, Piece, PieceIs, IsNext, PiecesAre}
 use Rattle.p21_cut.specs.Pieces as pieces
 
 either_le : (n m : ℕ) → (n ≤ m) ⊎ (m ≤ n)
@@ -131,13 +131,13 @@ piece_begins text n (pieces.open_ p s none) = refl
 pub pieces_once : (file : List ℕ) (at number : ℕ) (ps qs : List Piece) (end other : ℕ) → ((k : ℕ) → HasOneString (drop k file)) → PiecesAre file at number ps end → PiecesAre file at number qs other → (ps ≡ qs) × (end ≡ other)
 pieces_once file at number ps qs end other one (pieces.tail {gap = g} p s) (pieces.tail {gap = h} q t) =
     let same : g ≡ h = passes_once (drop at file) g h p q in (refl, ap (λ j. at + j) same)
-pieces_once file at number ps qs end other one (pieces.tail {gap = g} p s) (pieces.piece {gap = h} {len = len} q u more) =
+pieces_once file at number ps qs end other one (pieces.tail {gap = g} p s) (pieces.piece (pieces.made {gap = h} {len = len} q u) more) =
     let same : g ≡ h = passes_once (drop at file) g h p q in
     absurd (s (subst (λ j. BeginsWith 35 (drop (at + j) file)) (sym same) (piece_begins (drop (at + h) file) len u)))
-pieces_once file at number ps qs end other one (pieces.piece {gap = g} {len = len} p u more) (pieces.tail {gap = h} q t) =
+pieces_once file at number ps qs end other one (pieces.piece (pieces.made {gap = g} {len = len} p u) more) (pieces.tail {gap = h} q t) =
     let same : g ≡ h = passes_once (drop at file) g h p q in
     absurd (t (subst (λ j. BeginsWith 35 (drop (at + j) file)) same (piece_begins (drop (at + g) file) len u)))
-pieces_once file at number ps qs end other one (pieces.piece {gap = g} {len = a} {others = xs} p u more) (pieces.piece {gap = h} {len = b} {others = ys} q v rest) =
+pieces_once file at number ps qs end other one (pieces.piece {others = xs} (pieces.made {gap = g} {len = a} p u) more) (pieces.piece {others = ys} (pieces.made {gap = h} {len = b} q v) rest) =
     let same : g ≡ h = passes_once (drop at file) g h p q in
     let here : PieceIs (drop (at + g) file) b = subst (λ j. PieceIs (drop (at + j) file) b) (sym same) v in
     let len : a ≡ b = piece_once (drop (at + g) file) a b (strings_behind (at + g) file one) u here in
@@ -149,3 +149,26 @@ pieces_once file at number ps qs end other one (pieces.piece {gap = g} {len = a}
     let piece : first ≡ second = ap (λ j. record { number = number; at = at + j; bytes = take a (drop (at + j) file) }) same ∙ ap (λ j. record { number = number; at = at + h; bytes = take j (drop (at + h) file) }) len in
     let tail : xs ≡ ys = left.0 in
     (cc, left.1)
+
+-- ---- numbers
+
+-- the piece with a number that is so much larger
+raised : ℕ → Piece → Piece
+raised n p = record { number = p.number + n; at = p.at; bytes = p.bytes }
+
+raised_next : (file : List ℕ) (at number next n : ℕ) (p : Piece) → IsNext file at number p next → IsNext file at (number + n) (raised n p) next
+unfolding raised
+raised_next file at number next n p (pieces.made q u) = pieces.made q u
+
+pieces_raised : (file : List ℕ) (at number end n : ℕ) (ps : List Piece) → PiecesAre file at number ps end → PiecesAre file at (number + n) (map (raised n) ps) end
+pieces_raised file at number end n ps (pieces.tail q s) = pieces.tail q s
+pieces_raised file at number end n ps (pieces.piece {next = next} {p = p} {others = others} one more) =
+    let count : number + 1 + n ≡ number + n + 1 = omega arith in
+    pieces.piece (raised_next file at number next n p one) (subst (λ k. PiecesAre file next k (map (raised n) others) end) count (pieces_raised file next (number + 1) end n others more))
+
+-- one cutting from the number 0 on gives one from each number on
+pub from_each_number : (file : List ℕ) (at end number : ℕ) (ps : List Piece) → ((k : ℕ) → HasOneString (drop k file)) → PiecesAre file at 0 ps end → end ≤ length file
+    → (qs : List Piece) × (other : ℕ) × PiecesAre file at number qs other × (other ≤ length file) × ((rs : List Piece) (last : ℕ) → PiecesAre file at number rs last → (rs ≡ qs) × (last ≡ other))
+from_each_number file at end number ps one cut within =
+    let there : PiecesAre file at number (map (raised number) ps) end = subst (λ k. PiecesAre file at k (map (raised number) ps) end) (zero-add number) (pieces_raised file at 0 end number ps cut) in
+    (map (raised number) ps, end, there, within, λ rs last other. pieces_once file at number rs (map (raised number) ps) last end one other there)

@@ -4,12 +4,13 @@ use Rattle.std.proofs.lemmas.List.{drop-drop, length-drop, drop-append-le, drop_
 use Rattle.std.proofs.lemmas.List.Elements.{All-cons}
 use Rattle.p21_text.specs.Spelling.{Symbol, Spells}
 use Rattle.p21_text.specs.Spelling as token
-use Rattle.p21_text.specs.Tokens.{Passes, Longest, NoneBegins, Front, First, Placed, Tokens, IsLast}
+use Rattle.p21_text.specs.Tokens.{Passes, Longest, NoneBegins, Front, First, Placed, Tokens, TokensUpTo, IsLast}
 use Rattle.p21_text.specs.Tokens as tokens
 use Rattle.p21_tree.specs.Texts.{shift, shifted}
 use Rattle.p21_tree.specs.InOrder.{BeginsWithName, HasNoSemi}
 use Rattle.p21_cut.specs.Pieces.{BeginsWith, PartIs, PartsAre, HasNoPart}
 use Rattle.p21_cut.specs.Pieces as pieces
+use Rattle.p21_cut.specs.Tokens.{TokensAndNext}
 use Rattle.p21_cut.proofs.PartLemmas.{passed_parts, byte_gap}
 use Rattle.p21_cut.proofs.OneCuttingLemmas.{begins_by}
 use Rattle.p21_cut.proofs.SpellingLemmas.{begins, MayBegin, FirstIs}
@@ -136,17 +137,21 @@ end_place text at t h f e =
 no_semi_yet : HasNoSemi []
 no_semi_yet k d h = absurd (omega arith)
 
--- what the tokens of a piece make of those of the file
-pub data ClosedWalk (file : List ℕ) (s end at : ℕ) (us : List Placed) : Type 0 where
-  stopped : (body : List Placed) (last : Placed) → us ≡ body ++ last ∷ [] → last.token ≡ token.bad → HasNoSemi body → Tokens file (s + at) (shifted s us) → ClosedWalk file s end at us
-  closed : (body : List Placed) (semi last : Placed) → us ≡ body ++ semi ∷ last ∷ [] → semi.token ≡ token.semi → last.token ≡ token.end → HasNoSemi body
-      → ((rest : List Placed) → Tokens file end rest → Tokens file (s + at) (shifted s body ++ shift s semi ∷ rest)) → ClosedWalk file s end at us
+-- what first tokens of a piece, from a place of it on, are in the file
+pub data ClosedWalk (file : List ℕ) (s end at : ℕ) (before : List Placed) (t : Placed) : Type 0 where
+  inside : HasNoSemi before → t.token ≢ token.end → TokensAndNext file (s + at) (shifted s before) (shift s t) → ClosedWalk file s end at before t
+  closed : (body : List Placed) (semi : Placed) → before ≡ body ++ semi ∷ [] → HasNoSemi body → semi.token ≡ token.semi → t.token ≡ token.end → TokensUpTo file (s + at) (shifted s before) end → ClosedWalk file s end at before t
 
-walk_on : (file : List ℕ) (s end at : ℕ) (t : Placed) (us : List Placed) → First file (s + at) (shift s t) → ¬ (IsLast t.token) → t.token ≢ token.semi → ClosedWalk file s end t.after us → ClosedWalk file s end at (t ∷ us)
-walk_on file s end at t us f nl other (stopped body last e b none rest) =
-    stopped (t ∷ body) last (ap (λ l. t ∷ l) e) b (All-cons (λ x. x.token ≢ token.semi) t body other none) (tokens.more f nl rest)
-walk_on file s end at t us f nl other (closed body semi last e k l none on) =
-    closed (t ∷ body) semi last (ap (λ l. t ∷ l) e) k l (All-cons (λ x. x.token ≢ token.semi) t body other none) (λ rest h. tokens.more f nl (on rest h))
+walk_on : (file : List ℕ) (s end at : ℕ) (u : Placed) (before : List Placed) (t : Placed) → First file (s + at) (shift s u) → ¬ (IsLast u.token) → u.token ≢ token.semi → ClosedWalk file s end u.after before t → ClosedWalk file s end at (u ∷ before) t
+walk_on file s end at u before t f nl other (inside none no_end rest) =
+    inside (All-cons (λ x. x.token ≢ token.semi) u before other none) no_end (record { place = rest.place; tokens = tokens.more f nl rest.tokens; next = rest.next })
+walk_on file s end at u before t f nl other (closed body semi e none k l rest) =
+    closed (u ∷ body) semi (ap (λ x. u ∷ x) e) (All-cons (λ x. x.token ≢ token.semi) u body other none) k l (tokens.more f nl rest)
+
+-- behind the end of a text stands nothing but its End
+nothing_more : (text : List ℕ) (at place : ℕ) (before : List Placed) (t : Placed) → drop at text ≡ [] → TokensUpTo text at before place → First text place t → (before ≡ []) × (t.token ≡ token.end)
+nothing_more text at place before t e tokens.none f = (refl, (first_at_end text at t e f).0)
+nothing_more text at place before t e (tokens.more {t = u} g nl rest) f = absurd (nl (subst IsLast (sym (first_at_end text at u e g).0) tokens.at_end))
 
 -- a text that begins alike still does behind some of its bytes
 left_of : (text front r : List ℕ) (at : ℕ) → text ≡ front ++ 59 ∷ r → at ≤ length front → drop at text ≡ drop at front ++ 59 ∷ r
@@ -163,50 +168,46 @@ no_end_before a left r at t one e all f k =
     let here : drop f.gap (drop at a) ≡ drop f.gap left ++ 59 ∷ r = left_of (drop at a) left r f.gap e small in
     never_empty (drop f.gap left) r (sym here ∙ found.0)
 
-pub closed_walk : (file bytes front r : List ℕ) (s at : ℕ) (us : List Placed) → OneString → bytes ≡ front ++ 59 ∷ [] → drop s file ≡ front ++ 59 ∷ r → at ≤ length front → PartsAre (drop at bytes) (length front - at)
-    → Tokens bytes at us → ClosedWalk file s (s + length front + 1) at us
-closed_walk file bytes front r s at us one e g h all (tokens.last {t = t} f l) =
+pub closed_walk : (file bytes front r : List ℕ) (s at place : ℕ) (before : List Placed) (t : Placed) → OneString → bytes ≡ front ++ 59 ∷ [] → drop s file ≡ front ++ 59 ∷ r → at ≤ length front → PartsAre (drop at bytes) (length front - at)
+    → TokensUpTo bytes at before place → First bytes place t → ClosedWalk file s (s + length front + 1) at before t
+closed_walk file bytes front r s at place before t one e g h all tokens.none f =
     let left : List ℕ = drop at front in
     let here : drop at bytes ≡ left ++ 59 ∷ [] = left_of bytes front [] at e h in
     let there : drop (s + at) file ≡ left ++ 59 ∷ r = sym (drop-drop at s file) ∙ left_of (drop s file) front r at g h in
     let parts : PartsAre (left ++ 59 ∷ []) (length left) = subst (λ x. PartsAre x (length left)) here (subst (PartsAre (drop at bytes)) (sym (length-drop at front)) all) in
-    let bad : t.token ≡ token.bad = elim (end_or_bad t.token l) [ inl k ↦ absurd (no_end_before bytes left [] at t one here parts f k) | inr k ↦ k ] in
-    stopped [] t refl bad no_semi_yet (tokens.last (first_moved bytes file left [] r at s t one here there parts f) l)
-closed_walk file bytes front r s at us one e g h all (tokens.more {t = t} {ts = ts} f nl rest) =
+    inside no_semi_yet (no_end_before bytes left [] at t one here parts f) (record { place = s + at; tokens = tokens.none; next = first_moved bytes file left [] r at s t one here there parts f })
+closed_walk file bytes front r s at place before t one e g h all (tokens.more {t = u} {ts = ts} f nl rest) last =
     let left : List ℕ = drop at front in
     let here : drop at bytes ≡ left ++ 59 ∷ [] = left_of bytes front [] at e h in
     let there : drop (s + at) file ≡ left ++ 59 ∷ r = sym (drop-drop at s file) ∙ left_of (drop s file) front r at g h in
     let parts : PartsAre (left ++ 59 ∷ []) (length left) = subst (λ x. PartsAre x (length left)) here (subst (PartsAre (drop at bytes)) (sym (length-drop at front)) all) in
     let stops : HasNoPart (drop (length left) (left ++ 59 ∷ [])) = stops_at_mark left [] in
-    let moved : First file (s + at) (shift s t) = first_moved bytes file left [] r at s t one here there parts f in
-    elim (semi_or t.token) [
+    let moved : First file (s + at) (shift s u) = first_moved bytes file left [] r at s u one here there parts f in
+    elim (semi_or u.token) [
       | inl k ↦
-          let found = first_semi bytes (left ++ 59 ∷ []) at (length left) t one here parts stops f k in
-          let after : t.after ≡ length front + 1 = omega (arith, f.start_is, f.after_is, found.0, found.1.0, length-drop at front, h) in
-          let whole : length bytes ≤ t.after = omega (arith, after, ap length e, length-append front (59 ∷ [])) in
-          let last = tokens_at_end bytes t.after ts (drop_all t.after bytes whole) rest in
-          let end : s + length front + 1 ≡ s + t.after = omega (arith, after) in
-          closed [] t last.0 (ap (λ x. t ∷ x) last.1) k last.2 no_semi_yet (λ others toks. tokens.more moved nl (subst (λ j. Tokens file j others) end toks))
+          let found = first_semi bytes (left ++ 59 ∷ []) at (length left) u one here parts stops f k in
+          let after : u.after ≡ length front + 1 = omega (arith, f.start_is, f.after_is, found.0, found.1.0, length-drop at front, h) in
+          let whole : length bytes ≤ u.after = omega (arith, after, ap length e, length-append front (59 ∷ [])) in
+          let none = nothing_more bytes u.after place ts t (drop_all u.after bytes whole) rest last in
+          let end : s + u.after ≡ s + length front + 1 = omega (arith, after) in
+          closed [] u (ap (λ x. u ∷ x) none.0) no_semi_yet k none.1
+          (subst (λ x. TokensUpTo file (s + at) (shifted s (u ∷ x)) (s + length front + 1)) (sym none.0) (subst (λ j. TokensUpTo file (s + at) (shift s u ∷ []) j) end (tokens.more moved nl tokens.none)))
       | inr other ↦
-          let found = first_more bytes (left ++ 59 ∷ []) at (length left) t one here parts stops f nl other in
-          let after : t.after ≡ at + (f.gap + f.len) = omega (arith, f.start_is, f.after_is) in
-          let within : t.after ≤ length front = omega (arith, after, found.0, length-drop at front, h) in
-          let count : length left - (f.gap + f.len) ≡ length front - t.after = omega (arith, after, length-drop at front) in
-          let behind : drop (f.gap + f.len) (drop at bytes) ≡ drop t.after bytes = drop-drop (f.gap + f.len) at bytes ∙ ap (λ j. drop j bytes) (sym after) in
-          let next : PartsAre (drop t.after bytes) (length front - t.after) = subst (PartsAre (drop t.after bytes)) count (subst (λ x. PartsAre x (length left - (f.gap + f.len))) (ap (drop (f.gap + f.len)) (sym here) ∙ behind) found.1) in
-          walk_on file s (s + length front + 1) at t ts moved nl other (closed_walk file bytes front r s t.after ts one e g within next rest)
+          let found = first_more bytes (left ++ 59 ∷ []) at (length left) u one here parts stops f nl other in
+          let after : u.after ≡ at + (f.gap + f.len) = omega (arith, f.start_is, f.after_is) in
+          let within : u.after ≤ length front = omega (arith, after, found.0, length-drop at front, h) in
+          let count : length left - (f.gap + f.len) ≡ length front - u.after = omega (arith, after, length-drop at front) in
+          let behind : drop (f.gap + f.len) (drop at bytes) ≡ drop u.after bytes = drop-drop (f.gap + f.len) at bytes ∙ ap (λ j. drop j bytes) (sym after) in
+          let next : PartsAre (drop u.after bytes) (length front - u.after) = subst (PartsAre (drop u.after bytes)) count (subst (λ x. PartsAre x (length left - (f.gap + f.len))) (ap (drop (f.gap + f.len)) (sym here) ∙ behind) found.1) in
+          walk_on file s (s + length front + 1) at u ts t moved nl other (closed_walk file bytes front r s u.after place ts t one e g within next rest last)
     ]
 
 -- ---- the tokens of a piece that runs to the end of the file
 
-pub record OpenWalk (file bytes : List ℕ) (s at : ℕ) (us : List Placed) : Type 0 where
-  pub body : List Placed
-  pub last : Placed
-  pub parts : us ≡ body ++ last ∷ []
-  pub is_last : IsLast last.token
-  pub no_semi : HasNoSemi body
-  pub in_file : Tokens file (s + at) (shifted s us)
-  pub end : last.token ≡ token.end → (last.start ≡ length bytes) × (last.after ≡ length bytes)
+pub record OpenWalk (file bytes : List ℕ) (s at : ℕ) (before : List Placed) (t : Placed) : Type 0 where
+  pub no_semi : HasNoSemi before
+  pub in_file : TokensAndNext file (s + at) (shifted s before) (shift s t)
+  pub end : t.token ≡ token.end → (t.start ≡ length bytes) × (t.after ≡ length bytes)
 
 pub parts_fit : (text : List ℕ) (n : ℕ) → PartsAre text n → n ≤ length text
 parts_fit text n pieces.none = omega arith
@@ -218,39 +219,32 @@ parts_fit text n (pieces.more {n = a} {m = m} p ps e) =
       part_fits text n (pieces.comment h c) = h
       part_fits text n (pieces.byte p) = omega arith
 
-pub open_walk : (file bytes : List ℕ) (s at k : ℕ) (us : List Placed) → OneString → drop s file ≡ bytes → at ≤ k → k ≤ length bytes → PartsAre (drop at bytes) (k - at) → HasNoPart (drop k bytes) → ¬ (BeginsWith 59 (drop k bytes)) → Tokens bytes at us → OpenWalk file bytes s at us
-open_walk file bytes s at k us one e h within all stop no_mark (tokens.last {t = t} f l) =
+pub open_walk : (file bytes : List ℕ) (s at k place : ℕ) (before : List Placed) (t : Placed) → OneString → drop s file ≡ bytes → at ≤ k → k ≤ length bytes → PartsAre (drop at bytes) (k - at) → HasNoPart (drop k bytes) → ¬ (BeginsWith 59 (drop k bytes))
+    → TokensUpTo bytes at before place → First bytes place t → OpenWalk file bytes s at before t
+open_walk file bytes s at k place before t one e h within all stop no_mark tokens.none f =
     let there : drop at bytes ≡ drop (s + at) file = ap (drop at) (sym e) ∙ drop-drop at s file in
     record {
-      body = [];
-      last = t;
-      parts = refl;
-      is_last = l;
       no_semi = no_semi_yet;
-      in_file = tokens.last (first_same bytes file at s t there f) l;
+      in_file = record { place = s + at; tokens = tokens.none; next = first_same bytes file at s t there f };
       end = end_place bytes at t (omega (arith, h, within)) f;
     }
-open_walk file bytes s at k us one e h within all stop no_mark (tokens.more {t = t} {ts = ts} f nl rest) =
+open_walk file bytes s at k place before t one e h within all stop no_mark (tokens.more {t = u} {ts = ts} f nl rest) last =
     let there : drop at bytes ≡ drop (s + at) file = ap (drop at) (sym e) ∙ drop-drop at s file in
-    let place : at + (k - at) ≡ k = omega (arith, h) in
-    let end_at : drop (k - at) (drop at bytes) ≡ drop k bytes = drop-drop (k - at) at bytes ∙ ap (λ j. drop j bytes) place in
+    let there_k : at + (k - at) ≡ k = omega (arith, h) in
+    let end_at : drop (k - at) (drop at bytes) ≡ drop k bytes = drop-drop (k - at) at bytes ∙ ap (λ j. drop j bytes) there_k in
     let stops : HasNoPart (drop (k - at) (drop at bytes)) = rw end_at stop in
-    let other : t.token ≢ token.semi =
-    λ q. no_mark (subst (BeginsWith 59) end_at (first_semi bytes (drop at bytes) at (k - at) t one refl all stops f q).1.1) in
-    let found = first_more bytes (drop at bytes) at (k - at) t one refl all stops f nl other in
-    let after : t.after ≡ at + (f.gap + f.len) = omega (arith, f.start_is, f.after_is) in
-    let fits : t.after ≤ k = omega (arith, after, found.0, h) in
-    let count : k - at - (f.gap + f.len) ≡ k - t.after = omega (arith, after) in
-    let behind : drop (f.gap + f.len) (drop at bytes) ≡ drop t.after bytes = drop-drop (f.gap + f.len) at bytes ∙ ap (λ j. drop j bytes) (sym after) in
-    let next : PartsAre (drop t.after bytes) (k - t.after) = subst (PartsAre (drop t.after bytes)) count (subst (λ x. PartsAre x (k - at - (f.gap + f.len))) behind found.1) in
-    let more = open_walk file bytes s t.after k ts one e fits within next stop no_mark rest in
+    let other : u.token ≢ token.semi =
+    λ q. no_mark (subst (BeginsWith 59) end_at (first_semi bytes (drop at bytes) at (k - at) u one refl all stops f q).1.1) in
+    let found = first_more bytes (drop at bytes) at (k - at) u one refl all stops f nl other in
+    let after : u.after ≡ at + (f.gap + f.len) = omega (arith, f.start_is, f.after_is) in
+    let fits : u.after ≤ k = omega (arith, after, found.0, h) in
+    let count : k - at - (f.gap + f.len) ≡ k - u.after = omega (arith, after) in
+    let behind : drop (f.gap + f.len) (drop at bytes) ≡ drop u.after bytes = drop-drop (f.gap + f.len) at bytes ∙ ap (λ j. drop j bytes) (sym after) in
+    let next : PartsAre (drop u.after bytes) (k - u.after) = subst (PartsAre (drop u.after bytes)) count (subst (λ x. PartsAre x (k - at - (f.gap + f.len))) behind found.1) in
+    let more = open_walk file bytes s u.after k place ts t one e fits within next stop no_mark rest last in
     record {
-      body = t ∷ more.body;
-      last = more.last;
-      parts = ap (λ l. t ∷ l) more.parts;
-      is_last = more.is_last;
-      no_semi = All-cons (λ x. x.token ≢ token.semi) t more.body other more.no_semi;
-      in_file = tokens.more (first_same bytes file at s t there f) nl more.in_file;
+      no_semi = All-cons (λ x. x.token ≢ token.semi) u ts other more.no_semi;
+      in_file = record { place = more.in_file.place; tokens = tokens.more (first_same bytes file at s u there f) nl more.in_file.tokens; next = more.in_file.next };
       end = more.end;
     }
 
@@ -290,6 +284,12 @@ begins_name text rest s ts (t ∷ body) last e (tokens.more {t = u} {ts = us} h 
     let same : u ≡ t = cc in
     inl (elim (first_named text rest 0 u e h) [ inl n ↦ (n.0, ap (λ x. x.token) (sym same) ∙ n.1) | inr b ↦ absurd (nl (subst IsLast (sym b) tokens.at_bad)) ])
 
+-- the first of some tokens of a piece is its name, unless none begins there
+pub begins_first : (text rest : List ℕ) (s place : ℕ) (before : List Placed) (t : Placed) → text ≡ 35 ∷ rest → TokensUpTo text 0 before place → First text place t → BeginsWithName (shifted s (before ++ t ∷ [])) ⊎ (t.token ≡ token.bad)
+begins_first text rest s place before t e tokens.none f = first_named text rest 0 t e f
+begins_first text rest s place before t e (tokens.more {t = u} g nl others) f =
+    elim (first_named text rest 0 u e g) [ inl n ↦ inl n | inr b ↦ absurd (nl (subst IsLast (sym b) tokens.at_bad)) ]
+
 -- the first token of a piece is its name, or none begins there
 first_of_piece : (text rest : List ℕ) (ts body : List Placed) (first : Placed) → text ≡ 35 ∷ rest → Tokens text 0 ts → ts ≡ first ∷ body → ((m : ℕ) × (first.token ≡ token.name m)) ⊎ (first.token ≡ token.bad)
 first_of_piece text rest ts body first e (tokens.last {t = u} h l) f = let same : u ≡ first = cc in subst (λ x. ((m : ℕ) × (x.token ≡ token.name m)) ⊎ (x.token ≡ token.bad)) same (first_named text rest 0 u e h)
@@ -314,11 +314,12 @@ front_name text n m t (tokens.token l) e =
 front_name text n m t tokens.ended e = cc
 front_name text n m t (tokens.none some nothing) e = cc
 
--- a tail begins with no name
-pub tail_no_name : (text : List ℕ) (at : ℕ) (ts : List Placed) → ¬ (BeginsWith 35 (drop at text)) → ((gap : ℕ) → Passes (drop at text) gap → gap ≡ 0) → Tokens text at ts → ¬ (BeginsWithName ts)
-tail_no_name text at ts none still (tokens.last {t = t} f l) n = not_last t.token n.0 n.1 l where
-  not_last : (t : Symbol) (m : ℕ) → t ≡ token.name m → ¬ (IsLast t)
-  not_last t m e l = elim (end_or_bad t l) [ inl k ↦ (let other = k in cc) | inr k ↦ (let other = k in cc) ]
-tail_no_name text at ts none still (tokens.more {t = t} f nl rest) n =
+-- the first token of a tail is no name
+pub first_no_name : (text : List ℕ) (at : ℕ) (t : Placed) → ¬ (BeginsWith 35 (drop at text)) → ((gap : ℕ) → Passes (drop at text) gap → gap ≡ 0) → First text at t → ¬ ((n : ℕ) × (t.token ≡ token.name n))
+first_no_name text at t none still f n =
     let gap : f.gap ≡ 0 = still f.gap f.passes in
     none (front_name (drop at text) f.len n.0 t.token (subst (λ g. Front (drop g (drop at text)) f.len t.token) gap f.front) n.1)
+
+pub tail_no_name : (text : List ℕ) (at : ℕ) (ts : List Placed) → ¬ (BeginsWith 35 (drop at text)) → ((gap : ℕ) → Passes (drop at text) gap → gap ≡ 0) → Tokens text at ts → ¬ (BeginsWithName ts)
+tail_no_name text at ts none still (tokens.last {t = t} f l) = first_no_name text at t none still f
+tail_no_name text at ts none still (tokens.more {t = t} f nl rest) = first_no_name text at t none still f

@@ -42,9 +42,13 @@ pub record Piece : Type 0 where
   pub at : ℕ
   pub bytes : List ℕ
 
+-- The next piece of a file from a place on, with its number, and the place behind it.
+pub data IsNext (file : List ℕ) : ℕ → ℕ → Piece → ℕ → Type 0 where
+  made : {at number gap len : ℕ} → Passes (drop at file) gap → PieceIs (drop (at + gap) file) len
+      → IsNext file at number (record { number = number; at = at + gap; bytes = take len (drop (at + gap) file) }) (at + gap + len)
+
 -- The pieces of a file from a place on, numbered from `number` on, and the place of the tail: separators and pieces
 -- stand in turn, and the tail begins where, after separators, no `#` stands.
 pub data PiecesAre (file : List ℕ) : ℕ → ℕ → List Piece → ℕ → Type 0 where
   tail : {at number gap : ℕ} → Passes (drop at file) gap → ¬ (BeginsWith 35 (drop (at + gap) file)) → PiecesAre file at number [] (at + gap)
-  piece : {at number gap len end : ℕ} {others : List Piece} → Passes (drop at file) gap → PieceIs (drop (at + gap) file) len → PiecesAre file (at + gap + len) (number + 1) others end
-      → PiecesAre file at number (record { number = number; at = at + gap; bytes = take len (drop (at + gap) file) } ∷ others) end
+  piece : {at number next end : ℕ} {p : Piece} {others : List Piece} → IsNext file at number p next → PiecesAre file next (number + 1) others end → PiecesAre file at number (p ∷ others) end

@@ -1,9 +1,10 @@
 -- The tokens of a file's pieces and of its tail.
-use Rattle.std.specs.Prelude.{ℕ, List, [], ◌∷◌}
-use Rattle.p21_text.specs.Tokens.{Placed, Tokens}
-use Rattle.p21_tree.specs.Texts.{shifted}
-use Rattle.p21_tree.specs.InOrder.{Joined}
-use Rattle.p21_cut.specs.Pieces.{Piece, PiecesAre}
+use Rattle.std.specs.Prelude.{◌≡◌, ◌⊎◌, ℕ, List, [], ◌∷◌, ◌++◌}
+use Rattle.p21_text.specs.Spelling as token
+use Rattle.p21_text.specs.Tokens.{Placed, First, Tokens, TokensUpTo}
+use Rattle.p21_tree.specs.Texts.{shift, shifted}
+use Rattle.p21_tree.specs.InOrder.{BeginsWithName, HasNoSemi, Joined}
+use Rattle.p21_cut.specs.Pieces.{Piece, IsNext, PiecesAre}
 
 -- of each piece its own tokens, with their places in the file
 pub data TokensOfEach : List Piece → List (List Placed) → Type 0 where
@@ -13,3 +14,24 @@ pub data TokensOfEach : List Piece → List (List Placed) → Type 0 where
 -- The tokens of a file from a place on, up to its first Bad, are those of its pieces in turn and of its tail.
 abbrev pub PiecesHoldTokens : List ℕ → ℕ → Type 0
 PiecesHoldTokens file at = (number end : ℕ) (ps : List Piece) (tss : List (List Placed)) (tail rest : List Placed) → PiecesAre file at number ps end → TokensOfEach ps tss → Tokens file end tail → Tokens file at rest → Joined tss tail rest
+
+-- Tokens of a text from a place on, none of them End or Bad, and the one behind them.
+pub record TokensAndNext (text : List ℕ) (at : ℕ) (before : List Placed) (t : Placed) : Type 0 where
+  pub place : ℕ
+  pub tokens : TokensUpTo text at before place
+  pub next : First text place t
+
+-- What first tokens of a piece, and the one behind them, are in the file, where cutting goes on from `at` to `next`.
+pub data InFile (file : List ℕ) (at next : ℕ) (p : Piece) (before : List Placed) (t : Placed) : Type 0 where
+  -- Before the piece's semicolon they are tokens of the file. The first is a name, unless no token begins there.
+  inside : HasNoSemi before → BeginsWithName (shifted p.at (before ++ t ∷ [])) ⊎ (t.token ≡ token.bad) → TokensAndNext file at (shifted p.at before) (shift p.at t) → InFile file at next p before t
+  -- Behind the semicolon stands the piece's End, and the file goes on behind the piece.
+  whole : (body : List Placed) (semi : Placed) → before ≡ body ++ semi ∷ [] → HasNoSemi body → semi.token ≡ token.semi → t.token ≡ token.end → TokensUpTo file at (shifted p.at before) next → InFile file at next p before t
+
+-- first tokens of a piece are tokens of the file
+abbrev pub PieceTokensAreOfFile : Type 0
+PieceTokensAreOfFile = (file : List ℕ) (at number next : ℕ) (p : Piece) (before : List Placed) (t : Placed) → IsNext file at number p next → TokensAndNext p.bytes 0 before t → InFile file at next p before t
+
+-- first tokens of a tail are tokens of the file from before the separators on; the first is no name
+abbrev pub TailTokensAreOfFile : Type 0
+TailTokensAreOfFile = (file : List ℕ) (at number end : ℕ) (before : List Placed) (t : Placed) → PiecesAre file at number [] end → TokensAndNext file end before t → TokensAndNext file at before t × ¬ (BeginsWithName (before ++ t ∷ []))

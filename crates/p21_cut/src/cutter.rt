@@ -1,6 +1,6 @@
 //! The pieces of a data section, one after the other.
 
-ghost use Rattle.std.specs.Prelude.{◌≡◌, ◌≤◌, ℕ, List, ◌∷◌, [], length};
+ghost use Rattle.std.specs.Prelude.{◌≡◌, ◌≤◌, length};
 
 use crate::parts::piece_end;
 use p21_text::next_token;
@@ -29,14 +29,14 @@ pub enum Cut<'a> {
 }
 
 impl<'a> Cutter<'a> {
-    ghost use Rattle.p21_cut.specs.Cutter.{Gives, GivesNext, LeavesLess, file_of};
-    ghost use Rattle.p21_cut.specs.Pieces.{Piece as PlainPiece, PiecesAre};
+    ghost use Rattle.p21_cut.specs.Cutter.{GivesNext, LeavesLess, file_of, number_of, place_of};
 
     /// Cuts a file from a place on, which is at most its length. The pieces are numbered from 0.
     pub fn new(file: &'a [u8], at: usize) -> Cutter<'a>
         requires { at ≤ length file.now }
-        ensures pieces { (ps : List PlainPiece) → (end : ℕ) → Gives result ps end → PiecesAre file.now at 0 ps end }
         ensures file { file_of result ≡ file.now }
+        ensures place { place_of result ≡ at }
+        ensures number { number_of result ≡ 0 }
     {
         Cutter {
             file,

@@ -2,7 +2,7 @@
 
 ghost use Rattle.std.specs.Prelude.{◌≤◌, ℕ, List, length};
 ghost use Rattle.p21_cut.specs.Laws.{HasOneCutting};
-ghost use Rattle.p21_cut.specs.Tokens.{PiecesHoldTokens};
+ghost use Rattle.p21_cut.specs.Tokens.{PieceTokensAreOfFile, PiecesHoldTokens, TailTokensAreOfFile};
 
 use crate::cutter::{Cut, Cutter};
 use p21_text::{one_string, tokens_are_unique};
@@ -29,4 +29,12 @@ pub fn pieces_hold_tokens()
 {
     one_string();
     tokens_are_unique();
+}
+
+/// First tokens of a piece or of the tail are tokens of the file, whatever stands behind them.
+pub fn first_tokens_of_file()
+    ensures of_pieces { PieceTokensAreOfFile }
+    ensures of_tails { TailTokensAreOfFile }
+{
+    one_string();
 }

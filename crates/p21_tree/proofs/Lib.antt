@@ -25,3 +25,4 @@ pub mod Verdicts
 pub mod FileVerdict
 pub mod InOrder
 pub mod TextFaults
+pub mod UpToFault

@@ -1,9 +1,9 @@
 -- The parts of a file by their tokens, its preface, its pieces and its tail, and what reading them in order gives.
 use Rattle.std.specs.Prelude.{◌≡◌, ◌≢◌, ◌⊎◌, ℕ, List, [], ◌∷◌, ◌++◌, All}
 use Rattle.p21_text.specs.Spelling as token
-use Rattle.p21_text.specs.Tokens.{Placed}
+use Rattle.p21_text.specs.Tokens.{Placed, IsLast}
 use Rattle.p21_tree.specs.Sentence.{Instance, Opening, IsFile, IsPreface, IsPiece, IsInstance, IsInstances, IsTail, deepest}
-use Rattle.p21_tree.specs.Fault.{Kind, files, pieces, tails}
+use Rattle.p21_tree.specs.Fault.{Kind, IsFault, files, pieces, tails}
 use Rattle.p21_tree.specs.Laws.{IsTokenList, FaultOf}
 
 -- the first token is an instance name
@@ -65,3 +65,25 @@ IsOutcome ts o (stopped is kind at) = StopsBehind ts o is kind at
 -- reading the parts of a file in order gives the tree or the fault of the file
 abbrev pub PartsGiveFile : Type 0
 PartsGiveFile = (ts rest : List Placed) (o : Opening) (ps : List (List Placed)) (tail : List Placed) (found : Outcome) → IsPreface deepest ts o → Joined ps tail rest → ReadsInOrder ps tail found → IsOutcome (ts ++ rest) o found
+
+-- Behind a preface and whole instances stand some tokens, and the next one is the fault of the file; no further
+-- instance stands whole before it.
+pub record StopsAt (opening body front : List Placed) (t : Placed) (kind : Kind) (at : ℕ) : Type 0 where
+  pub is_fault : IsFault files (opening ++ (body ++ front)) t kind at
+  pub no_more : (a b : List Placed) (i : Instance) → front ≡ a ++ b → ¬ (IsInstance deepest a i)
+
+-- behind a preface and whole instances, the fault of a piece that stands before its semicolon is the file's
+abbrev pub PieceFaultIsOfFile : Type 0
+PieceFaultIsOfFile = (opening body front : List Placed) (o : Opening) (is : List Instance) (t : Placed) (kind : Kind) (at : ℕ) → IsPreface deepest opening o → IsInstances deepest body is → HasNoSemi front → BeginsWithName (front ++ t ∷ []) ⊎ (t.token ≡ token.bad) → IsFault pieces front t kind at → StopsAt opening body front t kind at
+
+-- behind a preface and whole instances, the fault of a tail is the file's
+abbrev pub TailFaultIsOfFile : Type 0
+TailFaultIsOfFile = (opening body front : List Placed) (o : Opening) (is : List Instance) (t : Placed) (kind : Kind) (at : ℕ) → IsPreface deepest opening o → IsInstances deepest body is → All (λ u. ¬ (IsLast u.token)) front → ¬ (BeginsWithName (front ++ t ∷ [])) → IsFault tails front t kind at → StopsAt opening body front t kind at
+
+-- a piece without its End is an instance, and has a semicolon
+abbrev pub PieceIsInstance : Type 0
+PieceIsInstance = (front : List Placed) (end : Placed) (i : Instance) → IsPiece deepest (front ++ end ∷ []) i → IsInstance deepest front i × ¬ (HasNoSemi front)
+
+-- an End behind the first semicolon is no fault of a piece
+abbrev pub NoFaultBehindSemi : Type 0
+NoFaultBehindSemi = (body : List Placed) (semi end : Placed) (kind : Kind) (at : ℕ) → HasNoSemi body → semi.token ≡ token.semi → end.token ≡ token.end → ¬ (IsFault pieces (body ++ semi ∷ []) end kind at)

@@ -2,7 +2,7 @@
 
 ghost use Rattle.p21_tree.specs.Fault.{files, instances, pieces, prefaces, tails};
 ghost use Rattle.p21_tree.specs.Laws.{FaultsAreOfTokens, HasAnswer, HasOneFaultAtMost, HasOneTree, NoneBeginsAnother, PieceFaultsAreOfTokens, PrefaceFaultsAreOfTokens};
-ghost use Rattle.p21_tree.specs.InOrder.{PartsGiveFile};
+ghost use Rattle.p21_tree.specs.InOrder.{NoFaultBehindSemi, PartsGiveFile, PieceFaultIsOfFile, PieceIsInstance, TailFaultIsOfFile};
 
 /// A list of tokens that ends with the end of the text, or where no token begins, is a file or has a fault; the same
 /// of pieces and tails.
@@ -40,6 +40,14 @@ pub fn one_beginning()
 /// instances that stand whole before it.
 pub fn parts_in_order()
     ensures { PartsGiveFile }
+{}
+
+/// Reading the parts of a file in order up to the first fault gives the fault of the file, whatever stands behind it.
+pub fn parts_up_to_fault()
+    ensures of_pieces { PieceFaultIsOfFile }
+    ensures of_tails { TailFaultIsOfFile }
+    ensures whole { PieceIsInstance }
+    ensures behind { NoFaultBehindSemi }
 {}
 
 /// A fault that a reader finds in a text is the fault of the text's tokens.

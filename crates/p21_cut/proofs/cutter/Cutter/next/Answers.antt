@@ -14,5 +14,5 @@ returns-then-start-self-clause-next c =
     (tail_there file c.args.self.now.at c.args.self.now.number t c.next_token-start.ensures.first (not_before 35 file t.start stops), refl, (let h = c.next_token-start.ensures.ordered in let k = c.next_token-start.ensures.within in omega arith))
 
 pub returns-clause-next : goal.returns-clause-next
-returns-clause-next c = λ ps end others.
-    piece_there c.args.self.now.file.now c.args.self.now.at c.args.self.now.number c.piece_end-end.result (placed c.next_token-start.result) c.next_token-start.ensures.first c.piece_end-end.ensures.piece (let h = c.piece_end-end.ensures.advances in omega arith) ps end others
+returns-clause-next c =
+    (piece_there c.args.self.now.file.now c.args.self.now.at c.args.self.now.number c.piece_end-end.result (placed c.next_token-start.result) c.next_token-start.ensures.first c.piece_end-end.ensures.piece (let h = c.piece_end-end.ensures.advances in omega arith), refl)
