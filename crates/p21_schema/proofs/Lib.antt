@@ -6,4 +6,8 @@ pub mod AncestryLemmas
 pub mod RowLemmas
 pub mod UnderLemmas
 pub mod IdLemmas
+pub mod DeclarationLemmas
+pub mod SelectLemmas
+pub mod TestLemmas
 pub mod Examples
+pub mod AdmitLemmas

@@ -1,11 +1,12 @@
 -- Rows of attributes.
-use Rattle.std.proofs.Common.{◌≡◌, ℕ, zero, suc, ◌+◌, ◌-◌, ◌<◌, ◌≤◌, Bool, true, false, not, cond, ◌||◌, List, [], ◌∷◌, ◌++◌, Option, Some, None, is_some, option_map, length, get_or, set, take, drop, map, refl, sym, ap, ◌∙◌, subst, inl, inr, ⊎_elim, arith, append_assoc, add-zero}
+use Rattle.std.proofs.Common.{◌≡◌, ℕ, zero, suc, ◌+◌, ◌-◌, ◌<◌, ◌≤◌, Bool, true, false, not, cond, ◌||◌, List, [], ◌∷◌, ◌++◌, Option, Some, None, is_some, option_map, length, get_or, set, take, drop, replicate, map, refl, sym, ap, ◌∙◌, subst, inl, inr, ⊎_elim, arith, append_assoc, add-zero}
 use Rattle.std.specs.Prelude.{slice_get}
 use Rattle.std.specs.List.{list_any, filter, AllByRecursion}
 use Rattle.std.specs.Cmp.Lexicographic.{bytes_decides}
 use Rattle.std.specs.Str.{bytes_eq}
 use Rattle.std.proofs.lemmas.Bool.{cases_eq, cases_Bool, false≢true, eqb-true, eq-eqb, ne_eqb, and_parts, and_from}
-use Rattle.std.proofs.lemmas.List.{map-append, take_more, drop_more, drop_all, append-nil, length-append, length-map, get_or_append_left, get_or-append-add, get_or-map, get_or_push, get_or-set_same, get_or-set_other}
+use Rattle.std.proofs.lemmas.List.{map-append, take_more, drop_more, drop_all, append-nil, length-append, length-map, get_or_append_left, get_or-append-add, get_or-map, get_or_push, get_or-set_same, get_or-set_other, take-append-drop, replicate-append-replicate}
+use Rattle.std.proofs.Math.Seq.{get_or-append_seam}
 use Rattle.p21_express.specs.Schema.{Schema, Entity, Attribute}
 use Rattle.p21_express.specs.WellFormed.{IsIn, AreDistinct, Origin, new_explicit, new_derived, new_names, with_new}
 use Rattle.p21_schema.specs.declared.ids.AttrId.{AttrId}
@@ -139,20 +140,45 @@ pub new_append : (xs ys : List Attribute) → new_explicit (xs ++ ys) ≡ new_ex
 new_append [] ys = refl
 new_append (a ∷ others) ys = ap (λ (u : List (List ℕ)). with_new a.of a.name u) (new_append others ys) ∙ with_new_append a.of a.name (new_explicit others) (new_explicit ys)
 
-pub owners_more : (xs : List Attribute) (i : ℕ) (d : Attribute) (old now : ℕ) → i < length xs → now ≡ old + length (new_explicit (take i xs)) → (get_or xs i d).of ≡ None → now + 1 ≡ old + length (new_explicit (take (i + 1) xs))
-owners_more xs i d old now less h is_new =
-    let a = get_or xs i d in
-    let e : new_explicit (take (i + 1) xs) ≡ new_explicit (take i xs) ++ with_new a.of a.name [] = ap new_explicit (take_more xs i d less) ∙ new_append (take i xs) (a ∷ []) in
-    let f : new_explicit (take (i + 1) xs) ≡ new_explicit (take i xs) ++ a.name ∷ [] = e ∙ ap (λ (o : Option (List ℕ)). new_explicit (take i xs) ++ with_new o a.name []) is_new in
-    let g : length (new_explicit (take (i + 1) xs)) ≡ length (new_explicit (take i xs)) + 1 = ap length f ∙ length-append (new_explicit (take i xs)) (a.name ∷ []) in
-    omega (arith, g, h)
+-- the names that the attributes up to one more newly declare
+pub new_at : (xs : List Attribute) (i : ℕ) (d : Attribute) → i < length xs → new_explicit (take (i + 1) xs) ≡ new_explicit (take i xs) ++ with_new (get_or xs i d).of (get_or xs i d).name []
+new_at xs i d less = ap new_explicit (take_more xs i d less) ∙ new_append (take i xs) (get_or xs i d ∷ [])
 
-pub owners_same : (xs : List Attribute) (i : ℕ) (d : Attribute) (o : List ℕ) (old now : ℕ) → i < length xs → now ≡ old + length (new_explicit (take i xs)) → (get_or xs i d).of ≡ Some o → now ≡ old + length (new_explicit (take (i + 1) xs))
-owners_same xs i d o old now less h again =
-    let a = get_or xs i d in
-    let e : new_explicit (take (i + 1) xs) ≡ new_explicit (take i xs) ++ with_new a.of a.name [] = ap new_explicit (take_more xs i d less) ∙ new_append (take i xs) (a ∷ []) in
-    let f : new_explicit (take (i + 1) xs) ≡ new_explicit (take i xs) = e ∙ ap (λ (o : Option (List ℕ)). new_explicit (take i xs) ++ with_new o a.name []) again ∙ append-nil (new_explicit (take i xs)) in
-    h ∙ ap (λ (u : List (List ℕ)). old + length u) (sym f)
+pub new_more : (xs : List Attribute) (i : ℕ) (d : Attribute) → i < length xs → (get_or xs i d).of ≡ None → new_explicit (take (i + 1) xs) ≡ new_explicit (take i xs) ++ (get_or xs i d).name ∷ []
+new_more xs i d less e = new_at xs i d less ∙ ap (λ (o : Option (List ℕ)). new_explicit (take i xs) ++ with_new o (get_or xs i d).name []) e
+
+pub new_same : (xs : List Attribute) (i : ℕ) (d : Attribute) (o : List ℕ) → i < length xs → (get_or xs i d).of ≡ Some o → new_explicit (take (i + 1) xs) ≡ new_explicit (take i xs)
+new_same xs i d o less e = new_at xs i d less ∙ ap (λ (o : Option (List ℕ)). new_explicit (take i xs) ++ with_new o (get_or xs i d).name []) e ∙ append-nil (new_explicit (take i xs))
+
+empty_push : {X : Type 0} (n : ℕ) (x : X) → replicate n x ++ x ∷ [] ≡ replicate (n + 1) x
+empty_push n x = replicate-append-replicate n 1 x
+
+-- an empty list for each of them
+pub lists_more : {X : Type 0} (xs : List Attribute) (i : ℕ) (d : Attribute) (old now : List (List X)) → i < length xs → now ≡ old ++ replicate (length (new_explicit (take i xs))) [] → (get_or xs i d).of ≡ None → now ++ [] ∷ [] ≡ old ++ replicate (length (new_explicit (take (i + 1) xs))) []
+lists_more {X} xs i d old now less h e =
+    let n = length (new_explicit (take i xs)) in
+    let long : length (new_explicit (take (i + 1) xs)) ≡ n + 1 = ap length (new_more xs i d less e) ∙ length-append (new_explicit (take i xs)) ((get_or xs i d).name ∷ []) in
+    ap (λ (u : List (List X)). u ++ [] ∷ []) h ∙ append_assoc old (replicate n []) ([] ∷ []) ∙ ap (λ (u : List (List X)). old ++ u) (empty_push n [] ∙ ap (λ (u : ℕ). replicate u []) (sym long))
+
+pub lists_same : {X : Type 0} (xs : List Attribute) (i : ℕ) (d : Attribute) (o : List ℕ) (old now : List (List X)) → i < length xs → now ≡ old ++ replicate (length (new_explicit (take i xs))) [] → (get_or xs i d).of ≡ Some o → now ≡ old ++ replicate (length (new_explicit (take (i + 1) xs))) []
+lists_same {X} xs i d o old now less h e = h ∙ ap (λ (u : List (List ℕ)). old ++ replicate (length u) []) (sym (new_same xs i d o less e))
+
+-- the place of a new name among all
+pub new_place : (xs : List Attribute) (i : ℕ) (d : Attribute) → i < length xs → (get_or xs i d).of ≡ None → (length (new_explicit (take i xs)) < length (new_explicit xs)) × (get_or (new_explicit xs) (length (new_explicit (take i xs))) [] ≡ (get_or xs i d).name)
+new_place xs i d less e =
+    let front = new_explicit (take i xs) in
+    let rest = new_explicit (drop (i + 1) xs) in
+    let n = (get_or xs i d).name in
+    let whole : new_explicit xs ≡ front ++ n ∷ rest = ap new_explicit (sym (take-append-drop (i + 1) xs)) ∙ new_append (take (i + 1) xs) (drop (i + 1) xs) ∙ ap (λ (u : List (List ℕ)). u ++ rest) (new_more xs i d less e) ∙ append_assoc front (n ∷ []) rest in
+    let long : length (new_explicit xs) ≡ length front + length (n ∷ rest) = ap length whole ∙ length-append front (n ∷ rest) in
+    (omega (arith, long), ap (λ (u : List (List ℕ)). get_or u (length front) []) whole ∙ get_or-append_seam front n rest [])
+
+pub new_count : (xs : List Attribute) (i : ℕ) (d : Attribute) → i < length xs → length (new_explicit (take i xs)) ≤ i → length (new_explicit (take (i + 1) xs)) ≤ i + 1
+new_count xs i d less h = by (get_or xs i d).of refl
+  where
+    by : (o : Option (List ℕ)) → (get_or xs i d).of ≡ o → length (new_explicit (take (i + 1) xs)) ≤ i + 1
+    by None e = let long : length (new_explicit (take (i + 1) xs)) ≡ length (new_explicit (take i xs)) + 1 = ap length (new_more xs i d less e) ∙ length-append (new_explicit (take i xs)) ((get_or xs i d).name ∷ []) in omega (arith, long)
+    by (Some o) e = let same : length (new_explicit (take (i + 1) xs)) ≡ length (new_explicit (take i xs)) = ap length (new_same xs i d o less e) in omega (arith, same)
 
 -- the attributes of the entities up to one more
 attributes_append : (xs ys : List Entity) → attributes_of (xs ++ ys) ≡ attributes_of xs ++ attributes_of ys

@@ -7,3 +7,8 @@ pub mod Row
 pub mod RowTable
 pub mod Resolved
 pub mod Under
+pub mod Declaration
+pub mod DeclarationTable
+pub mod Select
+pub mod SelectItems
+pub mod SelectTable

@@ -2,14 +2,17 @@
 #![tactic(auto)]
 
 mod ancestry;
+mod declarations;
 mod graph;
 mod ids;
 mod names;
 mod resolved;
 mod rows;
 mod schema;
+mod selects;
 mod under;
 
+pub use declarations::{Declaration, Form};
 pub use ids::{AttrId, EntityId, TypeId};
 pub use p21_express::{Bounds, Width};
 pub use resolved::{Resolved, ResolvedExpr, Target};

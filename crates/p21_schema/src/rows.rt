@@ -1,15 +1,17 @@
 //! The own attributes and the row of each entity.
 
-ghost use Rattle.std.specs.Prelude.{◌≡◌, ◌<◌, ◌≤◌, ◌+◌, ◌-◌, ◌++◌, ℕ, [], length, get_or, map, IfOk, OnOk};
+ghost use Rattle.std.specs.Prelude.{◌≡◌, ◌<◌, ◌≤◌, ◌+◌, ◌-◌, ◌++◌, ℕ, [], replicate, length, get_or, map, IfOk, OnOk};
 ghost use Rattle.p21_express.specs.Schema.{Schema};
 ghost use Rattle.p21_express.specs.Plain.{plain_entity, plain_schema};
 ghost use Rattle.p21_express.specs.WellFormed.{IsIn, IsWellFormed, new_explicit};
 ghost use Rattle.p21_schema.specs.Graph.{rows_of, plain_graph, IsOrder};
 ghost use Rattle.p21_schema.specs.Ancestry.{AreSupertypesNamed};
+ghost use Rattle.p21_schema.specs.Row.{attributes_of};
 ghost use Rattle.p21_schema.specs.RowTable.{no_own, IsOwnTable, IsRowTable, kept, all_kept, ids_from, joined};
 
+use crate::declarations::Declaration;
 use crate::graph::Graph;
-use crate::ids::{AttrId, EntityId};
+use crate::ids::AttrId;
 use p21_express::{Declarations, EntityDecl};
 use std::alloc::{AllocError, Global};
 
@@ -20,39 +22,39 @@ pub(crate) struct Own {
     pub(crate) to: usize,
 }
 
-/// One owner more for each explicit attribute that an entity newly declares.
-fn push_owners(
-    owners: &mut Vec<EntityId>,
+/// One empty list more for each explicit attribute that an entity newly declares.
+fn push_lists(
+    alloc: Global,
+    lists: &mut Vec<Vec<Declaration>>,
     entity: &EntityDecl,
-    owner: EntityId,
 ) -> Result<(), AllocError>
-    ensures { OnOk result (length owners.new.items ≡ length owners.old.items + length (new_explicit (plain_entity entity.now).attributes)) }
+    ensures { OnOk result (rows_of lists.new ≡ rows_of lists.old ++ replicate (length (new_explicit (plain_entity entity.now).attributes)) []) }
 {
     for attribute in &entity.attributes {
         if attribute.of.is_none() {
-            owners.push(owner)?;
+            lists.push(Vec::new(alloc))?;
         }
     }
     Ok(())
 }
 
-/// Where the own attributes of each entity stand.
+/// Where the own attributes of each entity stand, and an empty list for each attribute.
 pub(crate) fn own_attributes(
     alloc: Global,
     declarations: &Declarations,
-) -> Result<Vec<Own>, AllocError>
-    ensures { IfOk result (λ table. IsOwnTable (plain_schema declarations.now) table.items) }
+) -> Result<(Vec<Own>, Vec<Vec<Declaration>>), AllocError>
+    ensures own { IfOk result (λ r. IsOwnTable (plain_schema declarations.now) r.0.items) }
+    ensures lists { IfOk result (λ r. rows_of r.1 ≡ replicate (length (attributes_of (plain_schema declarations.now).entities)) []) }
 {
-    let mut owners = Vec::new(alloc);
+    let mut lists = Vec::new(alloc);
     let mut table = Vec::with_capacity(alloc, declarations.entities.len())?;
     for entity in &declarations.entities {
-        let from = owners.len();
-        let owner = EntityId { index: table.len() };
-        push_owners(&mut owners, entity, owner)?;
-        let to = owners.len();
+        let from = lists.len();
+        push_lists(alloc, &mut lists, entity)?;
+        let to = lists.len();
         table.push(Own { from, to })?;
     }
-    Ok(table)
+    Ok((table, lists))
 }
 
 /// An attribute behind the others, where it does not stand among them.

@@ -1,13 +1,15 @@
 //! A schema as a table.
 
-ghost use Rattle.std.specs.Prelude.{◌≡◌, ◌<◌, ◌↔◌, List, Some, length, slice_get, IfOk, IsTrue, MatchOption};
+ghost use Rattle.std.specs.Prelude.{ℕ, get_or, true, false, ◌≡◌, ◌<◌, ◌↔◌, List, Some, length, slice_get, IfOk, IsTrue, MatchOption};
 
 use crate::ancestry::{supertype_ids, supertypes};
+use crate::declarations::{Declaration, Known, all_declarations};
 use crate::graph::{order, reached};
 use crate::ids::{AttrId, EntityId, TypeId};
 use crate::names::{Names, entity_names, type_names};
 use crate::resolved::Resolved;
 use crate::rows::{Own, own_attributes, rows};
+use crate::selects::{Selects, select_tables};
 use crate::under::{resolved, type_ends};
 use p21_express::Declarations;
 use std::alloc::{AllocError, Global};
@@ -18,21 +20,24 @@ use std::marker::Model;
 pub struct Schema {
     declarations: Declarations,
     entity_names: Names,
+    type_names: Names,
     supertypes: Vec<Vec<EntityId>>,
     /// For each entity which entities are its ancestors.
     ancestors: Vec<Vec<bool>>,
     own: Vec<Own>,
     rows: Vec<Vec<AttrId>>,
+    /// For each attribute its declarations.
+    attributes: Vec<Vec<Declaration>>,
     /// The place of the type at which the way from each type ends, by the names that alone stand under types.
     ends: Vec<usize>,
     unders: Vec<Resolved>,
+    selects: Selects,
 }
 
 impl Model for Schema {
     ghost use Rattle.p21_express.specs.Schema.{Schema as Declared};
     ghost use Rattle.p21_express.specs.Plain.{plain_schema};
     ghost use Rattle.p21_schema.specs.Code.{schema_code};
-    ghost use Rattle.p21_schema.specs.Graph.{rows_of};
     ghost use Rattle.p21_schema.specs.Tables.{AreTables};
 
     ghost Value = { Declared };
@@ -41,7 +46,7 @@ impl Model for Schema {
 
     ghost view = { λ a. plain_schema a.declarations };
 
-    ghost invariant = { λ a. AreTables (plain_schema a.declarations) a.entity_names (rows_of a.supertypes) (rows_of a.ancestors) a.own.items (rows_of a.rows) a.ends.items a.unders.items };
+    ghost invariant = { AreTables };
 }
 
 impl Schema {
@@ -55,6 +60,8 @@ impl Schema {
     ghost use Rattle.p21_express.specs.Schema.{Underlying};
     ghost use Rattle.p21_schema.specs.Ancestry.{NameEntities, IsA};
     ghost use Rattle.p21_schema.specs.Row.{IsRow, IsAttributeOf, attribute_at, own_attributes};
+    ghost use Rattle.p21_schema.specs.Declaration.{Declaration as Declared, AreDeclarations, AreResolvedIn};
+    ghost use Rattle.p21_schema.specs.Select.{SelectReaches, ReachesA, ReachesType, ReachesEntity};
 
     /// The table of declarations that fit together. It is refused for want of memory alone.
     pub fn build(alloc: Global, declarations: Declarations) -> Result<Schema, AllocError>
@@ -65,21 +72,33 @@ impl Schema {
         let graph = supertypes(alloc, &entity_names, &declarations.entities)?;
         let order = order(alloc, &graph)?;
         let ancestors = reached(alloc, &graph, &graph, &order, graph.len())?;
-        let own = own_attributes(alloc, &declarations)?;
+        let (own, lists) = own_attributes(alloc, &declarations)?;
         let rows = rows(alloc, &graph, &own, &order)?;
         let supertypes = supertype_ids(alloc, &graph)?;
         let type_names = type_names(alloc, &declarations.types)?;
         let ends = type_ends(alloc, &type_names, &declarations.types)?;
         let unders = resolved(alloc, &entity_names, &type_names, &declarations.types)?;
+        let known = Known {
+            declarations: &declarations,
+            entities: &entity_names,
+            types: &type_names,
+            ancestors: &ancestors,
+            own: &own,
+        };
+        let attributes = all_declarations(alloc, &known, lists)?;
+        let selects = select_tables(alloc, &unders, declarations.entities.len())?;
         Ok(Schema {
             declarations,
             entity_names,
+            type_names,
             supertypes,
             ancestors,
             own,
             rows,
+            attributes,
             ends,
             unders,
+            selects,
         })
     }
 
@@ -174,9 +193,10 @@ impl Schema {
         ensures known { IsAttributeOf self.now result }
         ensures own { slice_get (own_attributes (entity_at self.now entity)) position ≡ Some (attribute_at self.now result) }
     {
-        let Own { from, to } = self.own[entity.index];
-        let behind = to - from - position;
-        AttrId { index: to - behind }
+        let own = self.own[entity.index];
+        AttrId {
+            index: own.from + position,
+        }
     }
 
     /// What stands under a type. A type's name that stands there alone is followed to what stands under that type.
@@ -186,4 +206,68 @@ impl Schema {
     {
         &self.unders[self.ends[id.index]]
     }
+
+    /// All declarations of an attribute, in the order of the text: the one that newly declares it, and each that declares it
+    /// again, explicit or in DERIVE.
+    pub fn declarations(&self, attribute: AttrId) -> &[Declaration]
+        requires { IsAttributeOf self.now attribute }
+        ensures { (ds : List Declared) × (AreDeclarations self.now (attribute_at self.now attribute) ds × AreResolvedIn self.now result.now ds) }
+    {
+        &self.attributes[attribute.index]
+    }
+
+    /// The defined or enumeration type of this name that the SELECT reaches, or `None` where it reaches none. A SELECT
+    /// reaches its items, and what the SELECTs among them reach; a type that is no SELECT reaches nothing.
+    pub fn select_has(&self, select: TypeId, name: &[u8]) -> Option<TypeId>
+        requires { IsTypeOf self.now select }
+        ensures { MatchOption result (¬ (ReachesType self.now (type_name self.now select) name.now)) (λ t. IsTypeOf self.now t × ((type_name self.now t ≡ name.now) × ReachesType self.now (type_name self.now select) name.now)) }
+    {
+        let index = self.type_names.place(name)?;
+        if self.selects.types[select.index][index] {
+            Some(TypeId { index })
+        } else {
+            None
+        }
+    }
+
+    /// Whether the SELECT reaches this very entity.
+    pub fn select_reaches(&self, select: TypeId, entity: EntityId) -> bool
+        requires select { IsTypeOf self.now select }
+        requires entity { IsEntityOf self.now entity }
+        ensures { IsTrue result ↔ SelectReaches self.now (type_name self.now select) (entity_name self.now entity) }
+    {
+        self.selects.entities[select.index][entity.index]
+    }
+
+    /// Whether the SELECT reaches the entity or an ancestor of it.
+    pub fn select_admits(&self, select: TypeId, entity: EntityId) -> bool
+        requires select { IsTypeOf self.now select }
+        requires entity { IsEntityOf self.now entity }
+        ensures { IsTrue result ↔ ReachesA self.now (type_name self.now select) (entity_name self.now entity) }
+    {
+        let above = &self.ancestors[entity.index];
+        let reached = &self.selects.entities[select.index];
+        self.select_reaches(select, entity) || have_one_in_common(above, reached)
+    }
+
+    /// Whether the SELECT reaches an entity.
+    pub fn select_has_entity(&self, select: TypeId) -> bool
+        requires { IsTypeOf self.now select }
+        ensures { IsTrue result ↔ ReachesEntity self.now (type_name self.now select) }
+    {
+        self.selects.any_entity[select.index]
+    }
+}
+
+/// Whether some place is marked in both.
+fn have_one_in_common(some: &[bool], others: &[bool]) -> bool
+    requires { length some.now ≡ length others.now }
+    ensures { IsTrue result ↔ ((k : ℕ) × (get_or some.now k false ≡ true) × (get_or others.now k false ≡ true)) }
+{
+    for k in 0..some.len() {
+        if some[k] && others[k] {
+            return true;
+        }
+    }
+    false
 }

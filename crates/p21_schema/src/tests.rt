@@ -1,8 +1,9 @@
 ghost use Rattle.std.specs.Prelude.{IfOk};
-ghost use Rattle.p21_schema.specs.Place.{IsEntityOf};
+ghost use Rattle.p21_schema.specs.Place.{IsEntityOf, IsTypeOf};
+ghost use Rattle.p21_schema.specs.Row.{IsAttributeOf};
 
 use super::*;
-use p21_express::read_declarations;
+use p21_express::{SchemaError, read_declarations};
 use std::alloc::Global;
 use std::test::*;
 
@@ -139,5 +140,239 @@ fn one_name_in_two_supertypes(rt: HostRuntime) -> Result<(), Fail> {
         b"SCHEMA s; ENTITY c SUBTYPE OF (b, a); END_ENTITY; ENTITY a; x : REAL; END_ENTITY; ENTITY b; x : REAL; END_ENTITY; END_SCHEMA;";
     let schema = table(rt.alloc(), text).ok_or("the schema is read and built")?;
     assert!(rt; has_row(&schema, b"C", &[(b"B", 0), (b"A", 0)])?);
+    Ok(())
+}
+
+/// The attribute that this entity newly declares at this place among its own ones.
+fn attribute(schema: &Schema, owner: &[u8], position: usize) -> Result<AttrId, Fail>
+    ensures { IfOk result (λ id. IsAttributeOf schema.now id) }
+{
+    let owner = entity(schema, owner)?;
+    if position >= schema.own_count(owner) {
+        return Err("an attribute")?;
+    }
+    Ok(schema.own(owner, position))
+}
+
+/// A declaration by its entity; where it is explicit, with whether it is optional, and with the entity that is its type.
+type Declared = (&'static [u8], Option<(bool, &'static [u8])>);
+
+/// Whether a form is as wanted.
+fn has_form(schema: &Schema, form: &Form, expected: Option<(bool, &[u8])>) -> Result<bool, Fail> {
+    let Some((expected, name)) = expected else {
+        return Ok(matches!(form, Form::Derived));
+    };
+    let Form::Explicit { optional, texpr } = form else {
+        return Ok(false);
+    };
+    let ResolvedExpr::Named(target) = texpr else {
+        return Ok(false);
+    };
+    Ok(*optional == expected && *target == Target::Entity(entity(schema, name)?))
+}
+
+/// Whether the declarations of an entity's first own attribute are these.
+fn is_declared(schema: &Schema, owner: &[u8], expected: &[Declared]) -> Result<bool, Fail> {
+    let found = schema.declarations(attribute(schema, owner, 0)?);
+    if found.len() != expected.len() {
+        return Ok(false);
+    }
+    for position in 0..found.len() {
+        let (name, form) = expected[position];
+        let declaration = &found[position];
+        if declaration.entity != entity(schema, name)?
+            || !has_form(schema, &declaration.form, form)?
+        {
+            return Ok(false);
+        }
+    }
+    Ok(true)
+}
+
+#[test]
+fn declarations(rt: HostRuntime) -> Result<(), Fail> {
+    let toy = table(rt.alloc(), TOY).ok_or("the schema is read and built")?;
+    assert!(rt;
+        is_declared(
+            &toy,
+            b"ITEM",
+            &[
+                (b"ITEM", Some((true, b"ITEM"))),
+                (b"CHAIN", Some((false, b"SPECIAL")))
+            ]
+        )?
+    );
+    assert!(rt;
+        is_declared(
+            &toy,
+            b"NAMED_UNIT",
+            &[(b"NAMED_UNIT", Some((false, b"MARK"))), (b"SIUNIT", None)]
+        )?
+    );
+    Ok(())
+}
+
+/// C declares again what B declares again, and stands before both; D is a sibling of B, with an attribute X of its own.
+const AGAIN: &[u8] = b"SCHEMA s;\n\
+ENTITY c SUBTYPE OF (b); SELF\\b.x : u; END_ENTITY;\n\
+ENTITY a; x : OPTIONAL t; END_ENTITY;\n\
+ENTITY b SUBTYPE OF (a); SELF\\a.x : t; END_ENTITY;\n\
+ENTITY d SUBTYPE OF (a); x : u; DERIVE SELF\\a.x : t := ?; END_ENTITY;\n\
+ENTITY t; END_ENTITY;\n\
+ENTITY u SUBTYPE OF (t); DERIVE y : t := ?; END_ENTITY;\n\
+ENTITY v SUBTYPE OF (u); z : t; DERIVE SELF\\u.y : t := ?; END_ENTITY;\n\
+END_SCHEMA;\n";
+
+#[test]
+fn declared_again(rt: HostRuntime) -> Result<(), Fail> {
+    let schema = table(rt.alloc(), AGAIN).ok_or("the schema is read and built")?;
+    assert!(rt;
+        is_declared(
+            &schema,
+            b"A",
+            &[
+                (b"C", Some((false, b"U"))),
+                (b"A", Some((true, b"T"))),
+                (b"B", Some((false, b"T"))),
+                (b"D", None)
+            ]
+        )?
+    );
+    assert!(rt; is_declared(&schema, b"D", &[(b"D", Some((false, b"U")))])?);
+    assert!(rt; is_declared(&schema, b"V", &[(b"V", Some((false, b"T")))])?);
+    Ok(())
+}
+
+/// The type of the first own attribute of an entity.
+fn type_of(schema: &Schema, owner: &[u8]) -> Result<TypeId, Fail>
+    ensures { IfOk result (λ id. IsTypeOf schema.now id) }
+{
+    let found = schema.declarations(attribute(schema, owner, 0)?);
+    if found.is_empty() {
+        return Err("a declaration")?;
+    }
+    let Form::Explicit { texpr, .. } = &found[0].form else {
+        return Err("an explicit declaration")?;
+    };
+    let ResolvedExpr::Named(target) = texpr else {
+        return Err("a name")?;
+    };
+    let Target::Defined(id) = target else {
+        return Err("a type")?;
+    };
+    Ok(*id)
+}
+
+/// The type that is the first item of a SELECT.
+fn first_item(schema: &Schema, select: TypeId) -> Result<TypeId, Fail>
+    requires { IsTypeOf schema.now select }
+    ensures { IfOk result (λ id. IsTypeOf schema.now id) }
+{
+    let Resolved::Select(items) = schema.under(select) else {
+        return Err("a SELECT")?;
+    };
+    if items.is_empty() {
+        return Err("an item")?;
+    }
+    let Target::Defined(id) = items[0] else {
+        return Err("a type")?;
+    };
+    Ok(id)
+}
+
+/// Whether the SELECT that is the type of an entity's first own attribute reaches a type and an entity of this name, and an
+/// entity.
+fn reach(schema: &Schema, owner: &[u8], name: &[u8]) -> Result<(bool, bool, bool), Fail> {
+    let select = type_of(schema, owner)?;
+    let is_type = schema.select_has(select, name).is_some();
+    let any_entity = schema.select_has_entity(select);
+    let is_entity = match schema.entity(name) {
+        Some(entity) => schema.select_reaches(select, entity),
+        None => false,
+    };
+    Ok((is_type, is_entity, any_entity))
+}
+
+#[test]
+fn selects(rt: HostRuntime) -> Result<(), Fail> {
+    let toy = table(rt.alloc(), TOY).ok_or("the schema is read and built")?;
+    let rows: [(&[u8], bool, bool); 8] = [
+        (b"LABEL", true, false),
+        (b"TALLY", true, false),
+        (b"COLOUR", true, false),
+        (b"SIMPLE", false, false),
+        (b"ANY_VALUE", false, false),
+        (b"UNIT_NAME", false, false),
+        (b"ITEM", false, true),
+        (b"SPECIAL", false, false),
+    ];
+    for (name, is_type, is_entity) in rows {
+        assert_eq!(rt; reach(&toy, b"PROP", name)?, (is_type, is_entity, true));
+    }
+    let simple = first_item(&toy, type_of(&toy, b"PROP")?)?;
+    assert!(rt; toy.select_has(simple, b"TALLY").is_some());
+    assert_eq!(rt; toy.select_has(simple, b"COLOUR"), None);
+    assert!(rt; !toy.select_has_entity(simple));
+    Ok(())
+}
+
+/// Selects of selects; what stands in an aggregate or in a defined type is not reached.
+const SELECTS: &[u8] = b"SCHEMA s;\n\
+TYPE p = SELECT (q, l); END_TYPE;\n\
+TYPE q = SELECT (r, k); END_TYPE;\n\
+TYPE r = SELECT (a, m, a, e); END_TYPE;\n\
+TYPE l = STRING; END_TYPE;\n\
+TYPE m = n; END_TYPE;\n\
+TYPE n = INTEGER; END_TYPE;\n\
+TYPE e = ENUMERATION OF (x); END_TYPE;\n\
+TYPE k = LIST OF w; END_TYPE;\n\
+TYPE w = SELECT (c); END_TYPE;\n\
+TYPE o = SELECT (l, z); END_TYPE;\n\
+TYPE z = SELECT (m); END_TYPE;\n\
+ENTITY a; h : p; END_ENTITY;\n\
+ENTITY b SUBTYPE OF (a); i : o; END_ENTITY;\n\
+ENTITY c; j : w; END_ENTITY;\n\
+END_SCHEMA;\n";
+
+#[test]
+fn selects_of_selects(rt: HostRuntime) -> Result<(), Fail> {
+    let schema = table(rt.alloc(), SELECTS).ok_or("the schema is read and built")?;
+    let rows: [(&[u8], &[u8], (bool, bool, bool)); 15] = [
+        (b"A", b"L", (true, false, true)),
+        (b"A", b"M", (true, false, true)),
+        (b"A", b"E", (true, false, true)),
+        (b"A", b"K", (true, false, true)),
+        (b"A", b"N", (false, false, true)),
+        (b"A", b"Q", (false, false, true)),
+        (b"A", b"R", (false, false, true)),
+        (b"A", b"A", (false, true, true)),
+        (b"A", b"B", (false, false, true)),
+        (b"A", b"C", (false, false, true)),
+        (b"A", b"NONE", (false, false, true)),
+        (b"B", b"M", (true, false, false)),
+        (b"B", b"E", (false, false, false)),
+        (b"B", b"A", (false, false, false)),
+        (b"C", b"C", (false, true, true)),
+    ];
+    for (owner, name, expected) in rows {
+        assert_eq!(rt; reach(&schema, owner, name)?, expected);
+    }
+    Ok(())
+}
+
+/// Its answer is right also where a request for memory is refused, which `tests/refused_memory` does in turn.
+#[test]
+fn memory_or_the_answer(rt: HostRuntime) -> Result<(), Fail> {
+    let declarations = match read_declarations(rt.alloc(), SELECTS) {
+        Ok(declarations) => declarations,
+        Err(error) => {
+            assert_eq!(rt; error, SchemaError::Memory);
+            return Ok(());
+        }
+    };
+    if let Ok(schema) = Schema::build(rt.alloc(), declarations) {
+        assert_eq!(rt; reach(&schema, b"A", b"E")?, (true, false, true));
+        assert!(rt; has_row(&schema, b"B", &[(b"A", 0), (b"B", 0)])?);
+    }
     Ok(())
 }

@@ -1,10 +1,13 @@
-use Rattle.std.proofs.Common.{◌≡◌, sym, List, map, length, ap, ◌∙◌}
+use Rattle.std.proofs.Common.{◌≡◌, sym, List, [], map, length, get_or, ap, ◌∙◌}
+use Rattle.std.proofs.lemmas.List.{length-map}
 use Rattle.p21_express.specs.Schema.{Entity, Defined}
 use Rattle.p21_express.specs.Plain.{plain_schema, plain_entity, plain_type}
 use Rattle.p21_schema.specs.Graph.{plain_graph, IsReachTable, rows_of}
 use Rattle.p21_schema.specs.Ancestry.{AreSupertypesNamed}
+use Rattle.p21_schema.specs.Under.{AreResolved}
 use Rattle.p21_schema.proofs.GraphLemmas.{row_count}
 use Rattle.p21_schema.proofs.AncestryLemmas.{named_by, distinct_entities, supertypes_known, edges_below, no_cycle, ancestor_table, supertype_table}
+use Rattle.p21_schema.proofs.DeclarationLemmas.{empty_at}
 use Rattle.p21_schema.proofs.UnderLemmas.{distinct_types, other_known, unders_known}
 use Rattle.p21_schema.proofs.schema.Schema.build.Goals as goal
 
@@ -34,11 +37,15 @@ invariant_of-result c =
     let reach : IsReachTable g g (length g) (rows_of c.in_ok-ancestors.ancestors) = rw (row_count c.in_ok-graph.graph, ← c.len.ensures) c.in_ok-ancestors.ensures in
     let names_are : c.in_ok-entity_names.entity_names ≡ map (λ (e : Entity). e.name) s.entities = c.in_ok-entity_names.ensures ∙ ap (λ (es : List _). map (λ (e : Entity). e.name) (map plain_entity es)) c.deref.ensures.value in
     let types_are : c.in_ok-type_names.type_names ≡ map (λ (t : Defined). t.name) s.types = c.in_ok-type_names.ensures ∙ ap (λ (ts : List _). map (λ (t : Defined). t.name) (map plain_type ts)) c.deref-6.ensures.value in
+    let found : AreResolved (map (λ (e : Entity). e.name) s.entities) (map (λ (t : Defined). t.name) s.types) c.in_ok-unders.unders.items s.types = rw (← names_are, ← types_are, ← c.deref-8.ensures.value) c.in_ok-unders.ensures in
     record {
+      types = types_are;
+      attributes = c.in_ok-attributes.ensures;
+      selects = c.in_ok-selects.ensures s c.requires (rw c.deref-10.ensures.value found) (c.len-2.ensures ∙ c.args.declarations.entities.ok.0 ∙ sym (length-map c.args.declarations.entities.items plain_entity));
       ends = c.in_ok-ends.ensures s (ap (λ (ts : List _). map plain_type ts) (sym c.deref-7.ensures.value));
-      resolved = rw (← names_are, ← types_are, ← c.deref-8.ensures.value) c.in_ok-unders.ensures;
-      own = c.in_ok-own.ensures;
-      rows = c.in_ok-rows.ensures s c.requires h (rw c.deref-4.ensures.value c.in_ok-own.ensures);
+      resolved = found;
+      own = c.in_ok-own.ensures.own;
+      rows = c.in_ok-rows.ensures s c.requires h (rw c.deref-4.ensures.value c.in_ok-own.ensures.own);
       well_formed = c.requires;
       names = names_are;
       supertypes = rw c.in_ok-supertypes.ensures (supertype_table s g h);
@@ -56,3 +63,28 @@ type_ends-requires-clause-cycles c = (plain_schema c.args.declarations, (ap (λ 
 
 pub resolved-requires : goal.resolved-requires
 resolved-requires c = rw (c.in_ok-entity_names.ensures, c.in_ok-type_names.ensures, c.deref.ensures.value, c.deref-6.ensures.value, c.deref-8.ensures.value) (unders_known (plain_schema c.args.declarations) c.requires.unknown)
+
+pub all_declarations-requires-clause-known : goal.all_declarations-requires-clause-known
+all_declarations-requires-clause-known c =
+    let s = plain_schema c.args.declarations in
+    let g = plain_graph c.in_ok-graph.graph in
+    let h : AreSupertypesNamed (map (λ (e : Entity). e.name) s.entities) g s.entities = named_by plain_entity c.in_ok-entity_names.entity_names (plain_graph c.in_ok-graph.graph) c.deref.result.now c.deref-2.result.now c.args.declarations.entities.items c.in_ok-entity_names.ensures c.deref.ensures.value c.deref-2.ensures.value c.in_ok-graph.ensures in
+    let reach : IsReachTable g g (length g) (rows_of c.in_ok-ancestors.ancestors) = rw (row_count c.in_ok-graph.graph, ← c.len.ensures) c.in_ok-ancestors.ensures in
+    record {
+      well_formed = c.requires;
+      entities = c.in_ok-entity_names.ensures ∙ ap (λ (es : List _). map (λ (e : Entity). e.name) (map plain_entity es)) c.deref.ensures.value;
+      types = c.in_ok-type_names.ensures ∙ ap (λ (ts : List _). map (λ (t : Defined). t.name) (map plain_type ts)) c.deref-6.ensures.value;
+      ancestors = ancestor_table s g h (distinct_entities s c.requires.repeated) (rows_of c.in_ok-ancestors.ancestors) reach;
+      own = rw c.deref-9.ensures.value c.in_ok-own.ensures.own;
+    }
+
+pub all_declarations-requires-clause-empty : goal.all_declarations-requires-clause-empty
+all_declarations-requires-clause-empty c = λ i. ap (λ (u : List _). get_or u i []) c.in_ok-own.ensures.lists ∙ empty_at _ i
+
+pub select_tables-requires : goal.select_tables-requires
+select_tables-requires c =
+    let s = plain_schema c.args.declarations in
+    let names_are : c.in_ok-entity_names.entity_names ≡ map (λ (e : Entity). e.name) s.entities = c.in_ok-entity_names.ensures ∙ ap (λ (es : List _). map (λ (e : Entity). e.name) (map plain_entity es)) c.deref.ensures.value in
+    let types_are : c.in_ok-type_names.type_names ≡ map (λ (t : Defined). t.name) s.types = c.in_ok-type_names.ensures ∙ ap (λ (ts : List _). map (λ (t : Defined). t.name) (map plain_type ts)) c.deref-6.ensures.value in
+    let found : AreResolved (map (λ (e : Entity). e.name) s.entities) (map (λ (t : Defined). t.name) s.types) c.in_ok-unders.unders.items s.types = rw (← names_are, ← types_are, ← c.deref-8.ensures.value) c.in_ok-unders.ensures in
+    (s, (c.requires, (rw c.deref-10.ensures.value found, c.len-2.ensures ∙ c.args.declarations.entities.ok.0 ∙ sym (length-map c.args.declarations.entities.items plain_entity))))
