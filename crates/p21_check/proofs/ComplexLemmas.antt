@@ -1,0 +1,200 @@
+-- What a complex instance has, by its records.
+use Rattle.std.proofs.Common.{◌≡◌, ◌≢◌, ◌⊎◌, ◌↔◌, ⊎_elim, inl, inr, ℕ, zero, suc, ◌<◌, ◌≤◌, true, List, [], ◌∷◌, Some, map, length, get_or, take, refl, sym, ap, subst, ◌∙◌, arith, Bor}
+use Rattle.std.specs.Prelude.{slice_get}
+use Rattle.std.proofs.lemmas.Bool.{false≢true}
+use Rattle.p21_express.specs.Schema.{Schema, Entity}
+use Rattle.p21_express.specs.WellFormed.{IsIn, IsEntity, IsSupertype, IsWellFormed}
+use Rattle.p21_tree.specs.Grammar.{Entry}
+use Rattle.p21_tree.specs.Views.{plain_record}
+use Rattle.p21_tree.specs.declared.instances.Record.{Record}
+use Rattle.p21_schema.specs.declared.ids.EntityId.{EntityId}
+use Rattle.p21_schema.specs.Place.{entity_at, entity_name, IsEntityOf}
+use Rattle.p21_check.specs.EntitySet.{IsInSet, keywords}
+use Rattle.p21_check.specs.EntitySet as sets
+use Rattle.p21_check.specs.LocalFault.{IsAbstract, HasUnknownEntity, HasAbstractEntity, IsBadComplex, NamesTwice, LacksSupertype, LacksSubtype}
+use Rattle.p21_check.specs.declared.entity_set.EntitySet.TheVariants as set
+use Rattle.p21_check.specs.Sets.{HasEntity, keywords_of, AnyIn, EachIn}
+use Rattle.p21_tree.specs.Plain.{plain_all}
+use Rattle.p21_express.specs.WellFormed.{Origin}
+use Rattle.p21_check.specs.Attributes.{AreAttributes}
+use Rattle.p21_check.specs.LocalFault.{HasWrongCount, HasBadAttribute}
+use Rattle.p21_check.proofs.InstanceLemmas.{wrong_at, not_wrong_at, bad_at, unfit_at, unfit_along}
+use Rattle.p21_check.specs.Instances.{complex_instance, IsUnfitAt, NamesEntity, IsUnknown, LacksAbove, LacksBelow, IsNamedBefore}
+use Rattle.p21_check.proofs.TypeLemmas.{in_map}
+use Rattle.p21_check.proofs.ElementLemmas.{count_all}
+use Rattle.p21_check.proofs.AttributeLemmas.{one_entity, entity_there}
+
+pub at_index : {X : Type 0} (xs : List X) (i : ℕ) (d : X) → i < length xs → IsIn xs (get_or xs i d)
+at_index [] i d h = absurd (omega arith)
+at_index (x ∷ xs) zero d h = inl refl
+at_index (x ∷ xs) (suc i) d h = inr (at_index xs i d (omega arith))
+
+out_of_map : {X : Type 0} (f : X → List ℕ) (xs : List X) (n : List ℕ) → IsIn (map f xs) n → (x : X) × IsIn xs x × (f x ≡ n)
+out_of_map f [] n h = absurd h
+out_of_map f (y ∷ xs) n h =
+    ⊎_elim (λ (e : f y ≡ n). (y, inl refl, e)) (λ (k : IsIn (map f xs) n). let more = out_of_map f xs n k in (more.0, inr more.1, more.2)) h
+
+written : (rs : List Record) → map (λ (e : Entry). e.keyword) (map plain_record rs) ≡ keywords_of rs
+written [] = refl
+written (r ∷ rs) = ap (λ l. r.keyword.now ∷ l) (written rs)
+
+pub record_at : (rs : List Record) (k : ℕ) (d : Record) → k < length rs → slice_get (map plain_record rs) k ≡ Some (plain_record (get_or rs k d))
+record_at [] k d h = absurd (omega arith)
+record_at (r ∷ rs) zero d h = refl
+record_at (r ∷ rs) (suc k) d h = record_at rs k d (omega arith)
+
+pub record_below : (rs : List Record) (k : ℕ) (e : Entry) → slice_get (map plain_record rs) k ≡ Some e → k < length rs
+record_below [] k e h = absurd (cc)
+record_below (r ∷ rs) zero e h = omega arith
+record_below (r ∷ rs) (suc k) e h = let more = record_below rs k e h in omega arith
+
+keyword_at : (rs : List Record) (k : ℕ) (d : Record) → k < length rs → slice_get (keywords_of rs) k ≡ Some (get_or rs k d).keyword.now
+keyword_at [] k d h = absurd (omega arith)
+keyword_at (r ∷ rs) zero d h = refl
+keyword_at (r ∷ rs) (suc k) d h = keyword_at rs k d (omega arith)
+
+keyword_below : (rs : List Record) (k : ℕ) (n : List ℕ) → slice_get (keywords_of rs) k ≡ Some n → k < length rs
+keyword_below [] k n h = absurd (cc)
+keyword_below (r ∷ rs) zero n h = omega arith
+keyword_below (r ∷ rs) (suc k) n h = let more = keyword_below rs k n h in omega arith
+
+-- a keyword among the first ones has a place there
+placed : (rs : List Record) (k : ℕ) (n : List ℕ) → IsIn (keywords_of (take k rs)) n → (i : ℕ) × (i < k) × (slice_get (keywords_of rs) i ≡ Some n)
+placed [] zero n h = absurd h
+placed [] (suc k) n h = absurd h
+placed (r ∷ rs) zero n h = absurd h
+placed (r ∷ rs) (suc k) n h =
+    ⊎_elim
+    (λ (e : r.keyword.now ≡ n). (zero, omega arith, ap Some e))
+    (λ (j : IsIn (keywords_of (take k rs)) n). let more = placed rs k n j in (suc more.0, (let l = more.1 in omega arith), more.2))
+    h
+
+place_in : (rs : List Record) (k i : ℕ) (n : List ℕ) → i < k → slice_get (keywords_of rs) i ≡ Some n → IsIn (keywords_of (take k rs)) n
+place_in [] k i n h e = absurd (cc)
+place_in (r ∷ rs) zero i n h e = absurd (omega arith)
+place_in (r ∷ rs) (suc k) zero n h e = inl (cc)
+place_in (r ∷ rs) (suc k) (suc i) n h e = inr (place_in rs k i n (omega arith) e)
+
+-- a record has the keyword of an earlier one
+pub named_here : (rs : List Record) (k : ℕ) (d : Record) → k < length rs → IsIn (keywords_of (take k rs)) (get_or rs k d).keyword.now → IsNamedBefore (keywords_of rs) k
+named_here rs k d h i = let p = placed rs k (get_or rs k d).keyword.now i in ((get_or rs k d).keyword.now, p.0, p.1, p.2, keyword_at rs k d h)
+
+pub not_named_here : (rs : List Record) (k : ℕ) (d : Record) → k < length rs → ¬ (IsIn (keywords_of (take k rs)) (get_or rs k d).keyword.now) → ¬ (IsNamedBefore (keywords_of rs) k)
+not_named_here rs k d h none b =
+    let e : Some (get_or rs k d).keyword.now ≡ Some b.0 = sym (keyword_at rs k d h) ∙ b.4 in
+    let same : (get_or rs k d).keyword.now ≡ b.0 = cc in
+    none (subst (IsIn (keywords_of (take k rs))) (sym same) (place_in rs k b.1 b.0 b.2 b.3))
+
+pub named_below : (rs : List Record) (k : ℕ) → length rs ≤ k → ¬ (IsNamedBefore (keywords_of rs) k)
+named_below rs k h b = let less = keyword_below rs k b.0 b.4 in absurd (omega arith)
+
+-- ---- supertypes
+
+supertype_entity : (s : Schema) (n m : List ℕ) → IsSupertype s n m → IsEntity s n
+supertype_entity s n m h = subst (IsEntity s) h.name_is (in_map (λ (e : Entity). e.name) s.entities h.entity h.declared)
+
+module _ (s : Schema) (w : IsWellFormed s) (e : EntityId) (known : IsEntityOf s e) (ids : List EntityId) (named : map (entity_name s) ids ≡ (entity_at s e).supertypes) where
+  pub supertype_by : (m : List ℕ) → IsIn (map (entity_name s) ids) m ↔ IsSupertype s (entity_name s e) m
+  supertype_by m = (
+    λ h. record { entity = entity_at s e; declared = entity_there s e known; name_is = refl; named = subst (λ l. IsIn l m) named h },
+    λ h. subst (λ l. IsIn l m) (ap (λ (x : Entity). x.supertypes) (one_entity s w h.entity (entity_at s e) h.declared (entity_there s e known) h.name_is) ∙ sym named) h.named,
+  )
+
+  pub lacks_by : (P : List ℕ → Type 0) → AnyIn ids (λ x. P (entity_name s x)) ↔ ((m : List ℕ) × (IsSupertype s (entity_name s e) m × P m))
+  lacks_by P = (
+    λ h. (entity_name s h.0, ((supertype_by (entity_name s h.0)).0 (in_map (entity_name s) ids h.0 h.1), h.2)),
+    λ h. let p = out_of_map (entity_name s) ids h.0 ((supertype_by h.0).1 h.1.0) in (p.0, p.1, subst P (sym p.2) h.1.1),
+  )
+
+-- ---- the instance
+
+module _ (s : Schema) (name at : ℕ) (rs : List Record) where
+  in_keywords : (n : List ℕ) → IsIn (keywords_of rs) n → IsIn (keywords (complex_instance name at rs)) n
+  in_keywords n h = subst (λ l. IsIn l n) (sym (written rs)) h
+
+  of_keywords : (n : List ℕ) → IsIn (keywords (complex_instance name at rs)) n → IsIn (keywords_of rs) n
+  of_keywords n h = subst (λ l. IsIn l n) (written rs) h
+
+  record_of : (n : List ℕ) → IsIn (keywords (complex_instance name at rs)) n → (r : Record) × IsIn rs r × (r.keyword.now ≡ n)
+  record_of n h = out_of_map (λ (r : Record). r.keyword.now) rs n (of_keywords n h)
+
+  keyword_of : (r : Record) → IsIn rs r → IsIn (keywords (complex_instance name at rs)) r.keyword.now
+  keyword_of r h = in_keywords r.keyword.now (in_map (λ (r : Record). r.keyword.now) rs r h)
+
+  pub complex_unknown : AnyIn rs (IsUnknown s) → HasUnknownEntity s (complex_instance name at rs)
+  complex_unknown h = record { keyword = h.0.keyword.now; written = keyword_of h.0 h.1; unknown = h.2 }
+
+  pub complex_known : EachIn rs (NamesEntity s) → ¬ (HasUnknownEntity s (complex_instance name at rs))
+  complex_known h x = let r = record_of x.keyword x.written in x.unknown (subst (IsEntity s) r.2 (h r.0 r.1))
+
+  pub complex_concrete : ¬ (HasAbstractEntity s (complex_instance name at rs))
+  complex_concrete x = false≢true (sym x.simple)
+
+  set_back : {n : List ℕ} → IsInSet s (complex_instance name at rs) n → IsIn (keywords_of rs) n × IsEntity s n
+  set_back {n} (sets.named h k) = (of_keywords n h, k)
+  set_back (sets.ancestor c h k) = absurd (false≢true (sym c))
+
+  pub complex_set : (b : Bor (List Record)) → b.now ≡ rs → (n : List ℕ) → HasEntity s (set.Complex b) n ↔ IsInSet s (complex_instance name at rs) n
+  complex_set b e n = subst (λ l. (IsIn (keywords_of l) n × IsEntity s n) ↔ IsInSet s (complex_instance name at rs) n) (sym e) ((λ h. sets.named (in_keywords n h.0) h.1), set_back)
+
+  pub twice_by : ((k : ℕ) × IsNamedBefore (keywords_of rs) k) ↔ NamesTwice (complex_instance name at rs)
+  twice_by = (
+    λ h. record { keyword = h.1.0; first = h.1.1; second = h.0; before = h.1.2; there = subst (λ l. slice_get l h.1.1 ≡ Some h.1.0) (sym (written rs)) h.1.3; again = subst (λ l. slice_get l h.0 ≡ Some h.1.0) (sym (written rs)) h.1.4 },
+    λ h. (h.second, (h.keyword, h.first, h.before, subst (λ l. slice_get l h.first ≡ Some h.keyword) (written rs) h.there, subst (λ l. slice_get l h.second ≡ Some h.keyword) (written rs) h.again)),
+  )
+
+  pub above_by : AnyIn rs (LacksAbove s (IsInSet s (complex_instance name at rs))) ↔ LacksSupertype s (complex_instance name at rs)
+  above_by = (
+    λ h. record { keyword = h.0.keyword.now; supertype = h.2.0; written = keyword_of h.0 h.1; above = h.2.1.0; lacking = h.2.1.1 },
+    λ h. let r = record_of h.keyword h.written in (r.0, r.1, (h.supertype, (subst (λ n. IsSupertype s n h.supertype) (sym r.2) h.above, h.lacking))),
+  )
+
+  pub below_by : AnyIn rs (LacksBelow s rs) ↔ LacksSubtype s (complex_instance name at rs)
+  below_by = (
+    λ h. record {
+      keyword = h.0.keyword.now;
+      written = keyword_of h.0 h.1;
+      is_abstract = h.2.0;
+      lacking = λ sub up there. (let r = out_of_map (λ (r : Record). r.keyword.now) rs sub (set_back there).0 in h.2.1 (r.0, r.1, subst (λ n. IsSupertype s n h.0.keyword.now) (sym r.2) up));
+    },
+    λ h. let r = record_of h.keyword h.written in (
+      r.0,
+      r.1,
+      (
+        subst (IsAbstract s) (sym r.2) h.is_abstract,
+        λ q. let up : IsSupertype s q.0.keyword.now h.keyword = subst (IsSupertype s q.0.keyword.now) r.2 q.2 in
+            h.lacking q.0.keyword.now up (sets.named (keyword_of q.0 q.1) (supertype_entity s q.0.keyword.now h.keyword up)),
+      ),
+    ),
+  )
+
+  pub bad_by : (NamesTwice (complex_instance name at rs) ⊎ (LacksSupertype s (complex_instance name at rs) ⊎ LacksSubtype s (complex_instance name at rs))) ↔ IsBadComplex s (complex_instance name at rs)
+  bad_by = (λ h. record { complex = refl; bad = h }, λ h. h.bad)
+
+-- a record of the instance, by its place
+module _ (s : Schema) (w : IsWellFormed s) (name at : ℕ) (rs : List Record) (k : ℕ) (x : Record) (less : k < length rs) (is : x ≡ get_or rs k x) (os : List Origin) (are : AreAttributes s true x.keyword.now os) where
+  there : slice_get (map plain_record rs) k ≡ Some (plain_record x)
+  there = record_at rs k x less ∙ ap (λ (y : Record). Some (plain_record y)) (sym is)
+
+  pub wrong_here : length x.params.items ≢ length os → HasWrongCount s (complex_instance name at rs) k
+  wrong_here h = wrong_at s w (complex_instance name at rs) k (plain_record x) there os are (λ e. h (sym (count_all x.params.items) ∙ e))
+
+  pub right_here : length x.params.items ≡ length os → ¬ (HasWrongCount s (complex_instance name at rs) k)
+  right_here h = not_wrong_at s w (complex_instance name at rs) k (plain_record x) there os are (count_all x.params.items ∙ h)
+
+  pub bad_here : (a : ℕ) (b : Bor (List Record)) → b.now ≡ rs → IsUnfitAt s (HasEntity s (set.Complex b)) os (plain_all x.params.items) a → HasBadAttribute s (complex_instance name at rs) k a
+  bad_here a b e u = bad_at s w (complex_instance name at rs) k (plain_record x) there os are a (unfit_along s (HasEntity s (set.Complex b)) (IsInSet s (complex_instance name at rs)) os (plain_all x.params.items) a (complex_set s name at rs b e) u)
+
+  pub unfit_there : (a : ℕ) (b : Bor (List Record)) → b.now ≡ rs → HasBadAttribute s (complex_instance name at rs) k a → IsUnfitAt s (HasEntity s (set.Complex b)) os (plain_all x.params.items) a
+  unfit_there a b e u = unfit_along s (IsInSet s (complex_instance name at rs)) (HasEntity s (set.Complex b)) os (plain_all x.params.items) a (λ n. ((complex_set s name at rs b e n).1, (complex_set s name at rs b e n).0)) (unfit_at s w (complex_instance name at rs) k (plain_record x) there os are a u)
+
+pub no_wrong_behind : (s : Schema) (name at : ℕ) (rs : List Record) (k : ℕ) → length rs ≤ k → ¬ (HasWrongCount s (complex_instance name at rs) k)
+no_wrong_behind s name at rs k h x = let less = record_below rs k x.entry x.there in absurd (omega arith)
+
+pub no_bad_behind : (s : Schema) (name at : ℕ) (rs : List Record) (k a : ℕ) → length rs ≤ k → ¬ (HasBadAttribute s (complex_instance name at rs) k a)
+no_bad_behind s name at rs k a h x = let less = record_below rs k x.entry x.there in absurd (omega arith)
+
+pub one_record : (rs : List Record) (x : Record) → length rs ≡ 1 → x ≡ get_or rs 0 x → rs ≡ x ∷ []
+one_record [] x h e = absurd (omega arith)
+one_record (r ∷ []) x h e = ap (λ y. y ∷ []) (sym e)
+one_record (r ∷ q ∷ rs) x h e = absurd (omega arith)

@@ -1,0 +1,34 @@
+use Rattle.std.proofs.Common.{◌≡◌, List, Bool, false, [], ◌∷◌, map, None, refl, sym, subst, ◌∙◌}
+use Rattle.p21_tree.specs.declared.instances.Record.{Record}
+use Rattle.p21_tree.specs.Views.{plain_record}
+use Rattle.p21_check.specs.LocalFault.{IsLocalFault}
+use Rattle.p21_check.specs.Instances.{complex_instance}
+use Rattle.p21_check.specs.Asked.{IsReferenceAnswer}
+use Rattle.p21_check.proofs.ComplexLemmas.{one_record}
+use Rattle.p21_check.proofs.references.check_references.Goals as goal
+
+pub simple_references-requires : goal.simple_references-requires
+simple_references-requires g c κs =
+    let i = c.args.instance.now in
+    let x = c.index.result.now in
+    let one : i.records.items ≡ x ∷ [] = one_record i.records.items x (sym i.records.ok.0 ∙ i.single c.if-instance.false) c.index.ensures in
+    let fine = subst (λ (b : Bool). IsLocalFault c.args.schema.now (record { name = i.name; at = i.at; complex = b; records = map plain_record i.records.items }) None) c.if-instance.false c.requires in
+    ((refl, (refl, tt)), (i.name, i.at, subst (λ (l : List Record). IsLocalFault c.args.schema.now (record { name = i.name; at = i.at; complex = false; records = map plain_record l }) None) one fine))
+
+pub returns-then-instance : goal.returns-then-instance
+returns-then-instance g c =
+    let i = c.args.instance.now in
+    let named = g.M.TypeOf.named c.args.model.now in
+    let answer = c.complex_references.ensures i.name i.at in
+    subst (λ (b : Bool). IsReferenceAnswer c.args.schema.now named (record { name = i.name; at = i.at; complex = b; records = map plain_record i.records.items }) c.complex_references.result) (sym c.if-instance.true)
+    (subst (λ (l : List Record). IsReferenceAnswer c.args.schema.now named (complex_instance i.name i.at l) c.complex_references.result) c.deref.ensures.value answer)
+
+pub returns-else-instance : goal.returns-else-instance
+returns-else-instance g c =
+    let i = c.args.instance.now in
+    let x = c.index.result.now in
+    let named = g.M.TypeOf.named c.args.model.now in
+    let one : i.records.items ≡ x ∷ [] = one_record i.records.items x (sym i.records.ok.0 ∙ i.single c.if-instance.false) c.index.ensures in
+    let answer = c.simple_references.ensures i.name i.at in
+    subst (λ (b : Bool). IsReferenceAnswer c.args.schema.now named (record { name = i.name; at = i.at; complex = b; records = map plain_record i.records.items }) c.simple_references.result) (sym c.if-instance.false)
+    (subst (λ (l : List Record). IsReferenceAnswer c.args.schema.now named (record { name = i.name; at = i.at; complex = false; records = map plain_record l }) c.simple_references.result) (sym one) answer)

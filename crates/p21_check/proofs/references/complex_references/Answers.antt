@@ -1,0 +1,50 @@
+use Rattle.std.proofs.Common.{◌≡◌, ◌≤◌, Some, refl, sym, ap, subst, ◌∙◌}
+use Rattle.std.specs.Prelude.{slice_get}
+use Rattle.std.proofs.lemmas.List.{length-map}
+use Rattle.p21_tree.specs.Views.{plain_record}
+use Rattle.p21_check.specs.declared.entity_set.EntitySet.TheVariants as set
+use Rattle.p21_check.specs.Sets.{HasEntity}
+use Rattle.p21_check.specs.Instances.{complex_instance}
+use Rattle.p21_check.proofs.ElementLemmas.{count_all}
+use Rattle.p21_check.proofs.ComplexLemmas.{complex_set, record_at}
+use Rattle.p21_check.proofs.RecordLemmas.{record_known, record_counted, none_in_record, first_in_record, one_more, all_before}
+use Rattle.p21_check.proofs.references.complex_references.Goals as goal
+
+pub entry-requires : goal.entry-requires
+entry-requires g c κs =
+    let s = c.args.schema.now in
+    let rs = c.args.records.now in
+    let d = c.index-records-rec.result in
+    let e = plain_record d in
+    let i = complex_instance c.requires.0 c.requires.1 rs in
+    let there : slice_get i.records c.loop-rec.rec ≡ Some e = record_at rs c.loop-rec.rec d c.loop-rec-test.true ∙ ap (λ r. Some (plain_record r)) (sym c.index-records-rec.is) in
+    ((refl, (refl, tt)), (tt, (record_known s i c.loop-rec.rec e c.requires.2 there, λ os are. sym (count_all d.params.items) ∙ record_counted s i c.loop-rec.rec e c.requires.2 there os are)))
+
+pub returns-in-Err : goal.returns-in-Err
+returns-in-Err g c name at =
+    let s = c.args.schema.now in
+    let rs = c.args.records.now in
+    let d = c.index-records-rec.result in
+    let e = plain_record d in
+    let i = complex_instance name at rs in
+    let q = c.loop-rec.rec in
+    let there : slice_get i.records q ≡ Some e = record_at rs q d c.loop-rec-test.true ∙ ap (λ r. Some (plain_record r)) (sym c.index-records-rec.is) in
+    let some = c.in-Err.ensures.attributes in
+    first_in_record s c.fits.ensures (g.M.TypeOf.named c.args.model.now) i (HasEntity s (set.Complex c.args.records)) (complex_set s name at rs c.args.records refl) q e there some.0 c.in-Err.kind some.1 (c.loop-rec.invariant name at) (c.in-Err.ensures.found some.0 some.1)
+
+pub loop-rec-preserved : goal.loop-rec-preserved
+loop-rec-preserved g c name at =
+    let s = c.args.schema.now in
+    let rs = c.args.records.now in
+    let d = c.index-records-rec.result in
+    let e = plain_record d in
+    let i = complex_instance name at rs in
+    let q = c.loop-rec.rec in
+    let named = g.M.TypeOf.named c.args.model.now in
+    let there : slice_get i.records q ≡ Some e = record_at rs q d c.loop-rec-test.true ∙ ap (λ r. Some (plain_record r)) (sym c.index-records-rec.is) in
+    one_more s named i q (c.loop-rec.invariant name at) (none_in_record s c.fits.ensures named i (HasEntity s (set.Complex c.args.records)) (complex_set s name at rs c.args.records refl) q e there c.in_default.ensures.found)
+
+pub returns : goal.returns
+returns g c name at =
+    let rs = c.args.records.now in
+    all_before c.args.schema.now (g.M.TypeOf.named c.args.model.now) (complex_instance name at rs) c.loop-rec.rec (subst (λ n. n ≤ c.loop-rec.rec) (sym (length-map rs plain_record)) c.loop-rec-test.false) (c.loop-rec.invariant name at)

@@ -1,0 +1,6 @@
+use Rattle.p21_check.proofs.PlainLemmas.{plain_enumeration}
+use Rattle.p21_check.proofs.SimpleLemmas.{logical_by, both}
+use Rattle.p21_check.proofs.simple.is_logical.Goals as goal
+
+pub returns-in-Enumeration : goal.returns-in-Enumeration
+returns-in-Enumeration c = λ s. both c.is_logical_name.ensures (logical_by s (plain_enumeration _ c.in-Enumeration.is))

@@ -1,0 +1,14 @@
+pub mod EntitySet
+pub mod Slot
+pub mod Conforms
+pub mod Known
+pub mod Attributes
+pub mod LocalFault
+pub mod Sets
+pub mod Instances
+pub mod Header
+pub mod SchemaName
+pub mod References
+pub mod Wanted
+pub mod Walk
+pub mod Asked

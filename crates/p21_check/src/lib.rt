@@ -1,0 +1,26 @@
+//! Checks of a file against its schema: of its header, of one instance by itself, and of its references.
+#![tactic(auto)]
+
+mod attributes;
+mod bounds;
+mod complex;
+mod conform;
+mod entity_set;
+mod header;
+#[cfg(test)]
+mod header_tests;
+mod judge;
+mod local;
+#[cfg(test)]
+mod local_tests;
+mod references;
+mod schema_name;
+mod simple;
+mod slot;
+mod walk;
+mod wanted;
+mod width;
+
+pub use header::check_header;
+pub use local::check_local;
+pub use references::{TypeOf, check_references};

@@ -1,0 +1,91 @@
+//! The references in a parameter, from the left.
+
+ghost use Rattle.std.specs.Prelude.{◌≡◌, ℕ, Option};
+ghost use Rattle.p21_express.specs.Schema.{Schema};
+ghost use Rattle.p21_tree.specs.Plain.{plain};
+ghost use Rattle.p21_tree.specs.Sentence.{Instance};
+ghost use Rattle.p21_tree.specs.Tree.{reference};
+ghost use Rattle.p21_check.specs.Wanted.{Asks, IsAsked};
+ghost use Rattle.p21_check.specs.Walk.{FindsBad};
+
+use crate::wanted::Wanted;
+use p21_schema::Schema;
+use p21_tree::{FaultKind, Param};
+
+/// A reference that is at fault.
+#[derive(Clone, Copy)]
+pub(crate) enum Bad {
+    /// No instance has the name.
+    Missing(u64),
+    /// The instance that has the name is of no entity that is wanted.
+    Wrong(u64),
+}
+
+impl Bad {
+    ghost use Rattle.p21_check.specs.Asked.{kind_at};
+
+    /// The fault of a parameter, by its record and its place in it.
+    pub(crate) fn at(self, rec: u64, attr: u64) -> FaultKind
+        ensures { result ≡ kind_at rec attr self }
+    {
+        match self {
+            Bad::Missing(name) => FaultKind::MissingReference { rec, attr, name },
+            Bad::Wrong(name) => FaultKind::WrongReference { rec, attr, name },
+        }
+    }
+}
+
+/// The first reference that is at fault against one of two types.
+#[derive(Clone, Copy)]
+pub(crate) struct FirstBad {
+    pub(crate) bad: Bad,
+    /// Whether it is against the second type alone.
+    pub(crate) second: bool,
+}
+
+/// What judges an instance name.
+pub(crate) trait Judge {
+    ghost table: { Self → Schema };
+
+    ghost named: { Self → ℕ → Option Instance };
+
+    /// Whether the name is answered as two types ask.
+    fn judge(&self, first: Wanted<'_>, second: Wanted<'_>, name: u64) -> Result<(), FirstBad>
+        requires first { IsAsked (table self.now) first }
+        requires second { IsAsked (table self.now) second }
+        ensures { FindsBad (table self.now) (named self.now) (Asks (table self.now) first.entry (reference name)) (Asks (table self.now) second.entry (reference name)) result };
+}
+
+/// Looks for the first reference in a parameter that is at fault against one of two types.
+pub(crate) fn walk<'s, J: Judge>(
+    schema: &'s Schema,
+    judge: &J,
+    first: Wanted<'s>,
+    second: Wanted<'s>,
+    param: &Param<'_>,
+) -> Result<(), FirstBad>
+    requires table { J.table judge.now ≡ schema.now }
+    requires first { IsAsked schema.now first }
+    requires second { IsAsked schema.now second }
+    ensures { FindsBad schema.entry.now (J.named judge.now) (Asks schema.entry.now first.entry (plain param.now)) (Asks schema.entry.now second.entry (plain param.now)) result }
+{
+    match param {
+        Param::Ref(name) => judge.judge(first, second, *name),
+        Param::Items(items) => {
+            let of_first = first.elements(schema);
+            let of_second = second.elements(schema);
+            for item in items {
+                if let Err(found) = walk(schema, judge, of_first, of_second, item) {
+                    return Err(found);
+                }
+            }
+            Ok(())
+        }
+        Param::Typed(keyword, inner) => {
+            let in_first = first.inside(schema, keyword);
+            let in_second = second.inside(schema, keyword);
+            walk(schema, judge, in_first, in_second, inner)
+        }
+        _ => Ok(()),
+    }
+}
