@@ -1,12 +1,15 @@
 -- Names among instances.
-use Rattle.std.proofs.Common.{◌≡◌, ◌≢◌, ℕ, suc, ◌<◌, ⊎_elim, true, false, List, [], ◌∷◌, Some, map, length, get_or, refl, sym, ap, ◌∙◌, arith}
+use Rattle.std.proofs.Common.{◌≡◌, ◌≢◌, ℕ, suc, ◌<◌, ⊎_elim, true, false, List, [], ◌∷◌, ◌++◌, Some, map, length, get_or, refl, sym, ap, ◌∙◌, arith, inl, inr, length-append}
 use Rattle.std.specs.Prelude.{All, Contains, nat_eq}
 use Rattle.std.specs.List.{list_any, position}
-use Rattle.std.proofs.lemmas.Bool.{false≢true, or_parts, cases_Bool}
+use Rattle.std.proofs.lemmas.Bool.{false≢true, or_parts, cases_Bool, cases_lt}
 use Rattle.std.proofs.lemmas.Bool.Decides.{nat_tests}
-use Rattle.std.proofs.lemmas.List.{get_or-map, length-map}
+use Rattle.std.proofs.lemmas.List.{get_or-map, get_or_append_left, length-map}
+use Rattle.std.proofs.Math.Seq.{get_or-append_seam}
 use Rattle.std.proofs.lemmas.List.Elements.{All-cons}
 use Rattle.std.proofs.lemmas.List.Quantifiers.{position-Some}
+use Rattle.p21_join.specs.Names.{HaveOwnNames}
+use Rattle.p21_join.specs.Joined.{IsNewIn}
 use Rattle.p21_tree.specs.declared.instances.RawInstance.{RawInstance}
 
 pub absent : (is : List RawInstance) (n : ℕ) → list_any (nat_eq n) (map (λ (i : RawInstance). i.name) is) ≡ false → All (λ i. i.name ≢ n) is
@@ -39,3 +42,18 @@ placed is n i found e at =
     ((i, less, sym at), sym name ∙ (let t = test in grind (arith, nat_tests, t))) where
       get_or-at : (i : ℕ) → i < length is → found ≡ get_or is i found → get_or (map (λ (x : RawInstance). x.name) is) i 0 ≡ found.name
       get_or-at i less at = get_or-map (λ (x : RawInstance). x.name) is i found 0 less ∙ ap (λ (x : RawInstance). x.name) (sym at)
+
+-- an instance with a new name stands behind the others
+pub own_names_more : (is : List RawInstance) (i : RawInstance) → HaveOwnNames is → IsNewIn is i → HaveOwnNames (is ++ i ∷ [])
+own_names_more is i h new j k d less within = elim (cases_lt k (length is)) [
+  | inl earlier ↦
+      let first : get_or (is ++ i ∷ []) j d ≡ get_or is j d = get_or_append_left is (i ∷ []) d j (omega arith) in
+      let second : get_or (is ++ i ∷ []) k d ≡ get_or is k d = get_or_append_left is (i ∷ []) d k earlier in
+      λ e. h j k d less earlier (ap (λ x. x.name) (sym first) ∙ (e ∙ ap (λ x. x.name) second))
+  | inr last ↦
+      let place : k ≡ length is = omega (arith, length-append is (i ∷ [])) in
+      let before : j < length is = omega arith in
+      let first : get_or (is ++ i ∷ []) j d ≡ get_or is j d = get_or_append_left is (i ∷ []) d j before in
+      let second : get_or (is ++ i ∷ []) k d ≡ i = ap (λ x. get_or (is ++ i ∷ []) x d) place ∙ get_or-append_seam is i [] d in
+      λ e. new j d before (ap (λ x. x.name) (sym first) ∙ (e ∙ ap (λ x. x.name) second))
+]

@@ -1,7 +1,7 @@
 //! A model in the making.
 
 ghost use Rattle.std.specs.Prelude.{◌≡◌, []};
-ghost use Rattle.p21_join.specs.Names.{AreNamesOf};
+ghost use Rattle.p21_join.specs.Names.{AreNamesOf, HaveOwnNames};
 
 use crate::model::Model;
 use indexmap::IndexSet;
@@ -15,6 +15,7 @@ pub struct Joiner<'a> {
     /// The name of each instance, at its place.
     names: IndexSet<u64>,
     ghost named: { AreNamesOf names.keys instances.items },
+    ghost own_names: { HaveOwnNames instances.items },
 }
 
 /// Why an instance was not joined; it is handed back.

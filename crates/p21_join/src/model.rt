@@ -1,9 +1,10 @@
 //! A model: the instances of a file, and the places of their names.
 
 ghost use Rattle.std.specs.Prelude.{◌≡◌, ◌<◌, ◌↔◌, IsTrue, length, get_or};
-ghost use Rattle.p21_join.specs.Names.{AreNamesOf};
+ghost use Rattle.p21_join.specs.Names.{AreNamesOf, HaveOwnNames};
 
 use indexmap::IndexSet;
+use p21_check::TypeOf;
 use p21_tree::RawInstance;
 
 /// Instances in file order, of which no two have one name.
@@ -13,13 +14,16 @@ pub struct Model<'a> {
     /// The name of each instance, at its place.
     names: IndexSet<u64>,
     ghost named: { AreNamesOf names.keys instances.items },
+    /// No two instances have one name.
+    pub ghost own_names: { HaveOwnNames instances.items },
 }
 
 impl<'a> Model<'a> {
     ghost use Rattle.p21_join.specs.Model.{instances_of, Finds};
 
     pub(crate) fn of(instances: Vec<RawInstance<'a>>, names: IndexSet<u64>) -> Model<'a>
-        requires { AreNamesOf names.keys instances.items }
+        requires named { AreNamesOf names.keys instances.items }
+        requires own_names { HaveOwnNames instances.items }
         ensures { instances_of result ≡ instances.entry.items }
     {
         Model { instances, names }
@@ -60,5 +64,16 @@ impl<'a> Model<'a> {
     {
         let place = self.names.get_index_of(&name)?;
         Some(&self.instances[place])
+    }
+}
+
+impl<'a> TypeOf<'a> for Model<'a> {
+    ghost use Rattle.p21_join.specs.Model.{instances_of, plain_instances};
+    ghost use Rattle.p21_check.specs.References.{named_in};
+
+    ghost named = { λ model. named_in (plain_instances (instances_of model)) };
+
+    fn find(&self, name: u64) -> Option<&RawInstance<'a>> {
+        Model::find(self, name)
     }
 }

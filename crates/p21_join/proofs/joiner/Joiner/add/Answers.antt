@@ -1,7 +1,8 @@
 use Rattle.std.proofs.Common.{◌≡◌, ℕ, List, true, false, refl, sym, subst, ◌∙◌}
 use Rattle.std.specs.Prelude.{nat_eq}
 use Rattle.std.specs.List.{list_any}
-use Rattle.p21_join.proofs.NameLemmas.{absent, present}
+use Rattle.p21_join.specs.Names.{HaveOwnNames}
+use Rattle.p21_join.proofs.NameLemmas.{absent, present, own_names_more}
 use Rattle.p21_join.proofs.joiner.Joiner.add.Goals as goal
 
 pub returns-then-contains : goal.returns-then-contains
@@ -24,3 +25,10 @@ pub returns-in-Err : goal.returns-in-Err
 returns-in-Err c =
     let none : list_any (nat_eq c.args.instance.name) c.args.self.now.names.keys ≡ false = sym c.contains.ensures ∙ c.if-contains.false in
     (absent c.args.self.now.instances.items c.args.instance.name (subst (λ (ks : List ℕ). list_any (nat_eq c.args.instance.name) ks ≡ false) c.args.self.now.named none), c.in-Err.ensures.value_returned, c.in-Err.ensures.items)
+
+pub invariant_of-self-in-Ok-clause-own_names : goal.invariant_of-self-in-Ok-clause-own_names
+invariant_of-self-in-Ok-clause-own_names c =
+    let old = c.args.self.now.instances.items in
+    let none : list_any (nat_eq c.args.instance.name) c.args.self.now.names.keys ≡ false = sym c.contains.ensures ∙ c.if-contains.false in
+    let new = absent old c.args.instance.name (subst (λ (ks : List ℕ). list_any (nat_eq c.args.instance.name) ks ≡ false) c.args.self.now.named none) in
+    subst HaveOwnNames (sym c.in-Ok.ensures.items) (own_names_more old c.args.instance c.args.self.now.own_names new)
