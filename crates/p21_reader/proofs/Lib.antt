@@ -1,0 +1,5 @@
+pub mod TokenLemmas
+pub mod ReadLemmas
+pub mod NameLemmas
+pub mod ExitLemmas
+pub mod ReferenceLemmas

@@ -1,0 +1,14 @@
+//! The reading of a whole file against a schema: the list of its instances, or its first fault.
+#![tactic(auto)]
+
+mod local;
+mod reading;
+#[cfg(test)]
+mod reference_tests;
+mod serial;
+mod stop;
+#[cfg(test)]
+mod tests;
+
+pub use reading::{ReadError, Reading};
+pub use serial::read_serial;

@@ -1,0 +1,106 @@
+//! The instances of a file without a local fault, or that fault.
+
+ghost use Rattle.std.specs.Prelude.{◌≡◌, ◌≤◌, ℕ, [], length, IfOk, IfErr, None};
+ghost use Rattle.p21_tree.specs.Views.{plain_preface};
+ghost use Rattle.p21_tree.specs.Texts.{BeginsPreface};
+ghost use Rattle.p21_check.specs.Header.{IsHeaderFault};
+ghost use Rattle.p21_cut.specs.Pieces.{PiecesAre};
+ghost use Rattle.p21_join.specs.Joined.{joined};
+ghost use Rattle.p21_reader.specs.LocalFault.{IsLocalFault, HasNoLocalFault};
+ghost use Rattle.p21_reader.specs.Steps.{EndsBehind, IsReadUpTo, JoinsPiece, OnFault};
+ghost use Rattle.p21_join.specs.Model.{instances_of, plain_instances};
+
+use crate::stop::Stop;
+use p21_check::{check_header, check_local};
+use p21_cut::{Cut, Cutter, first_tokens_of_file};
+use p21_join::{JoinError, Joiner, Model};
+use p21_schema::Schema;
+use p21_tree::{
+    Fault, FaultKind, Piece, Preface, parts_up_to_fault, read_piece, read_preface, read_tail,
+};
+use std::alloc::Global;
+
+/// The instances of a file that has no local fault; else that fault.
+pub(crate) fn local_model<'a>(
+    alloc: Global,
+    schema: &Schema,
+    file: &'a [u8],
+) -> Result<Model<'a>, Stop>
+    ensures ok { IfOk result (λ model. HasNoLocalFault schema.now file.now (plain_instances (instances_of model))) }
+    ensures fault { IfErr result (λ stop. OnFault stop (IsLocalFault schema.now file.now)) }
+{
+    first_tokens_of_file();
+    parts_up_to_fault();
+    let preface = checked_preface(alloc, schema, file)?;
+    let (joiner, tail) = join_pieces(alloc, schema, file, &preface)?;
+    read_tail(file, tail)?;
+    Ok(joiner.into_model())
+}
+
+/// The preface of a file, whose header section is that of a file of the schema.
+fn checked_preface<'a>(alloc: Global, schema: &Schema, file: &'a [u8]) -> Result<Preface<'a>, Stop>
+    ensures begins { IfOk result (λ preface. BeginsPreface file.now (plain_preface preface)) }
+    ensures within { IfOk result (λ preface. preface.data_at ≤ length file.now) }
+    ensures header { IfOk result (λ preface. IsHeaderFault schema.now (plain_preface preface) None) }
+    ensures fault { IfErr result (λ stop. OnFault stop (IsLocalFault schema.now file.now)) }
+{
+    let preface = read_preface(alloc, file)?;
+    match check_header(schema, &preface) {
+        Ok(()) => Ok(preface),
+        Err(kind) => Err(Stop::Fault(Fault {
+            kind,
+            at: preface.header_at,
+        })),
+    }
+}
+
+/// The instances of all pieces behind a preface, and the place of the tail.
+fn join_pieces<'a>(
+    alloc: Global,
+    schema: &Schema,
+    file: &'a [u8],
+    preface: &Preface<'a>,
+) -> Result<(Joiner<'a>, usize), Stop>
+    requires begins { BeginsPreface file.now (plain_preface preface.now) }
+    requires within { preface.now.data_at ≤ length file.now }
+    requires header { IsHeaderFault schema.now (plain_preface preface.now) None }
+    ensures ok { IfOk result (λ r. EndsBehind schema.now file.now (plain_preface preface.now) (plain_instances (joined r.0)) r.1) }
+    ensures within { IfOk result (λ r. r.1 ≤ length file.now) }
+    ensures fault { IfErr result (λ stop. OnFault stop (IsLocalFault schema.now file.now)) }
+{
+    first_tokens_of_file();
+    parts_up_to_fault();
+    let mut cutter = Cutter::new(file, preface.data_at as usize);
+    let mut joiner = Joiner::new(alloc);
+    loop {
+        match cutter.next() {
+            Cut::Piece(piece) => join_piece(alloc, schema, &mut joiner, piece)?,
+            Cut::Tail(at) => return Ok((joiner, at as usize)),
+        }
+    }
+}
+
+/// Joins the instance that a piece is, where it has no fault.
+fn join_piece<'a>(
+    alloc: Global,
+    schema: &Schema,
+    joiner: &mut Joiner<'a>,
+    piece: Piece<'a>,
+) -> Result<(), Stop>
+    ensures { JoinsPiece schema.now (joined joiner.old) piece.entry result (joined joiner.new) }
+{
+    let instance = read_piece(alloc, piece)?;
+    let at = instance.at;
+    let checked = check_local(schema, &instance);
+    match joiner.add(instance) {
+        Ok(()) => match checked {
+            Ok(()) => Ok(()),
+            Err(kind) => Err(Stop::Fault(Fault { kind, at })),
+        },
+        Err(JoinError::Duplicate(_)) => Err(Stop::Fault(Fault {
+            kind: FaultKind::DuplicateName,
+            at,
+        })),
+        Err(JoinError::Memory(_)) => Err(Stop::Memory),
+    }
+}

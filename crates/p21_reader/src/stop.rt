@@ -1,0 +1,35 @@
+//! Why a reading ends early.
+
+use p21_tree::{Fault, TreeError};
+
+/// Why a file gave no model.
+pub(crate) enum Stop {
+    /// Its first fault.
+    Fault(Fault),
+    /// There was no memory left.
+    Memory,
+}
+
+impl From<Fault> for Stop {
+    ghost use Rattle.p21_reader.specs.declared.stop.Stop.TheVariants.{Fault as FaultVariant};
+    ghost use Rattle.std.specs.Prelude.{◌≡◌};
+
+    ghost from_gives = { λ f e. e ≡ FaultVariant f };
+
+    fn from(fault: Fault) -> Stop {
+        Stop::Fault(fault)
+    }
+}
+
+impl From<TreeError> for Stop {
+    ghost use Rattle.p21_reader.specs.Steps.{IsStopOf};
+
+    ghost from_gives = { λ t e. IsStopOf t e };
+
+    fn from(error: TreeError) -> Stop {
+        match error {
+            TreeError::Grammar(fault) => Stop::Fault(fault),
+            TreeError::Memory => Stop::Memory,
+        }
+    }
+}
