@@ -1,8 +1,27 @@
 -- What some calls of `read` gave is what there was to read.
-use Rattle.std.proofs.Common.{◌≡◌, ℕ, ◌<◌, List, [], ◌++◌, Option, Result, Ok, Err, length, take, refl, sym, ap, subst, ◌∙◌, append-nil}
+use Rattle.std.proofs.Common.{◌≡◌, ℕ, ◌+◌, ◌<◌, ◌≤◌, Bool, true, false, ◌||◌, Some, None, arith, length-append, List, [], ◌++◌, Option, Result, Ok, Err, length, take, refl, sym, ap, subst, ◌∙◌, append-nil}
 use Rattle.std.specs.Prelude.{IfSome}
-use Rattle.std.specs.Io.KnownBytes.{ReadConsumes, Consumes, Keeps, IsAtEnd}
+use Rattle.std.specs.Io.KnownBytes.{ReadConsumes, Consumes}
+use Rattle.std.proofs.lemmas.Bool.{false≢true}
 use Rattle.std.proofs.KnownBytes.{Consumes-all, Consumes-trans, Consumes-kept}
+
+-- what was consumed is no longer than all that there was
+pub at_least : (a c : Option (List ℕ)) (bytes : List ℕ) (most : ℕ) → Consumes a c bytes → most ≤ length bytes → IfSome a (λ all. most ≤ length all)
+at_least None c bytes most consumed le = tt
+at_least (Some all) None bytes most consumed le = absurd consumed
+at_least (Some all) (Some left) bytes most consumed le = omega (arith, le, ap length consumed, length-append bytes left)
+
+abbrev failure : {T E : Type 0} → Result T E → E → E
+failure (Ok x) other = other
+failure (Err e) other = e
+
+pub same_err : {T E : Type 0} (a b : E) → ◌≡◌ {A = Result T E} (Err a) (Err b) → a ≡ b
+same_err a b e = ap (λ r. failure r a) e
+
+-- a mark that is not there was not there before
+pub unmarked : (old new fault : Bool) → new ≡ (old || fault) → new ≡ false → (old ≡ false) × (fault ≡ false)
+unmarked false new fault is unset = (refl, sym is ∙ unset)
+unmarked true new fault is unset = absurd (false≢true (sym unset ∙ is))
 
 module _ {E : Type 0} where
   pub read_end : (a b c : Option (List ℕ)) (r : Result ℕ E) (n : ℕ) (buf bytes : List ℕ) → Consumes a b bytes → ReadConsumes b c r buf → r ≡ Ok n → n ≡ 0 → 0 < length buf → IfSome a (λ all. bytes ≡ all)
@@ -18,3 +37,7 @@ module _ {E : Type 0} where
 
   pub read_again : (a b c : Option (List ℕ)) (r : Result ℕ E) (e : E) (buf bytes : List ℕ) → Consumes a b bytes → ReadConsumes b c r buf → r ≡ Err e → Consumes a c bytes
   read_again a b c r e buf bytes before read f = Consumes-kept a b c bytes before (subst (λ x. ReadConsumes b c x buf) f read)
+
+  pub read_past : (a b c : Option (List ℕ)) (r : Result ℕ E) (n most : ℕ) (buf bytes : List ℕ) → Consumes a b bytes → ReadConsumes b c r buf → r ≡ Ok n → most < length bytes + length (take n buf) → IfSome a (λ all. most ≤ length all)
+  read_past a b c r n most buf bytes before read e past =
+      at_least a c (bytes ++ take n buf) most (read_more a b c r n buf bytes before read e) (omega (arith, past, length-append bytes (take n buf)))

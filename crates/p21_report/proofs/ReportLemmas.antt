@@ -1,21 +1,20 @@
 -- From what is counted to the report text.
-use Rattle.std.proofs.Common.{◌≡◌, ℕ, zero, suc, ◌+◌, ◌-◌, ◌^◌, ◌<◌, ◌≤◌, ◌↔◌, Bool, true, false, cond, List, [], ◌∷◌, ◌++◌, Option, Some, None, min, map, length, take, drop, get_or, nat_eq, refl, sym, ap, subst, ◌∙◌, arith, Bor, append_assoc, append-nil}
-use Rattle.std.specs.Prelude.{All, Contains, IsSome, slice_get, codes, decimal, OnOk, Result, Ok, Err}
+use Rattle.std.proofs.Common.{◌≡◌, ℕ, zero, suc, ◌+◌, ◌-◌, ◌^◌, ◌<◌, ◌↔◌, Bool, true, false, cond, List, [], ◌∷◌, ◌++◌, Some, min, map, length, get_or, refl, sym, ap, subst, ◌∙◌, arith, Bor, append_assoc, append-nil}
+use Rattle.std.specs.Prelude.{All, Contains, slice_get, codes, decimal, OnOk, Result, Ok, Err}
 use Rattle.std.specs.Int.{from_bool}
 use Rattle.p21_tree.specs.declared.instances.Record.{Record}
 use Rattle.p21_tree.specs.Views.{plain_record}
 use Rattle.p21_tree.specs.Grammar.{Entry}
 use Rattle.std.specs.List.{flat_map, AllByRecursion}
 use Rattle.std.specs.List.Sorted.{IsStrictlySortedBy}
-use Rattle.std.specs.BTreeMap.{BTreeMap, get, IsOrdered, keys}
-use Rattle.std.specs.Cmp.Lexicographic.{slice_cmp, pointwise, nat_list_cmp_total}
+use Rattle.std.specs.BTreeMap.{BTreeMap, get, IsOrdered}
+use Rattle.std.specs.Cmp.Lexicographic.{slice_cmp, nat_list_cmp_total}
 use Rattle.std.specs.Cmp.{on_total}
 use Rattle.std.specs.Ordering.{nat_cmp, is_eq}
 use Rattle.std.specs.declared.cmp.Ordering.TheVariants.{Less}
-use Rattle.std.proofs.lemmas.List.{map-append, get_or_default}
 use Rattle.std.proofs.lemmas.Map.Entries.{place_from_lookup, btree_map_get_place}
 use Rattle.p21_tree.specs.Sentence.{Instance}
-use Rattle.p21_report.specs.Counts.{capped, complex_count, count_line, keyword_count, keywords_of, list_references, record_references, reference_count, AreIncreasing, IsCounts}
+use Rattle.p21_report.specs.Counts.{capped, complex_count, count_line, keyword_count, keywords_of, record_references, reference_count, AreIncreasing, IsCounts}
 use Rattle.p21_report.specs.Tally.{CountsOf, IsTallyOf, entry_lines, kept, key_cmp}
 use Rattle.p21_report.specs.declared.tally.Tally.{Tally}
 use Rattle.p21_report.proofs.TallyLemmas.{cmp_same, same_list}

@@ -1,5 +1,5 @@
 -- One more record of a keyword, counted.
-use Rattle.std.proofs.Common.{◌≡◌, ℕ, zero, suc, ◌+◌, ◌-◌, ◌^◌, ◌<◌, ◌≤◌, Bool, true, false, cond, ◌&&◌, List, [], ◌∷◌, ◌++◌, Option, Some, None, min, nat_eq, refl, sym, ap, subst, ◌∙◌, arith, Bor, inl, inr, ◌⊎◌, ⊎_elim, add-zero, add-one, nat_lt}
+use Rattle.std.proofs.Common.{◌≡◌, ℕ, zero, suc, ◌+◌, ◌-◌, ◌^◌, Bool, true, false, cond, List, [], ◌∷◌, ◌++◌, Some, None, min, nat_eq, refl, sym, ap, ◌∙◌, arith, Bor, inl, inr, ◌⊎◌, ⊎_elim, add-zero, add-one, nat_lt}
 use Rattle.std.specs.BTreeMap.{BTreeMap, get}
 use Rattle.std.specs.Cmp.Lexicographic.{slice_cmp, pointwise}
 use Rattle.std.specs.Ordering.{nat_cmp, is_eq}

@@ -1,21 +1,25 @@
 //! The program, over its words and any readers and writers.
 
-use crate::count_text::counts;
-use crate::fault_text::fault_line;
-use crate::input::{FILE_BOUNDS, read_bounded};
+ghost use Rattle.std.specs.Prelude.{◌≡◌, Ok, Err};
+ghost use Rattle.p21_report.specs.declared.outcome.Outcome.TheVariants.{Complete, Faulty, SchemaRefused, Device as Failed, Memory as NoMemory};
+ghost use Rattle.p21_report.specs.declared.program_error.ProgramError.TheVariants.{Device, Memory};
+
+use crate::opened::Opened;
+use crate::outcome::Outcome;
 use crate::program_error::ProgramError;
-use crate::words::{file_named, not_text};
-use p21_tree::{TreeError, read_whole};
-use std::alloc::{AllocError, AllocGlobal, Global};
-use std::fs::{File, Files};
+use crate::runner::run;
+use crate::source::Stream;
+use crate::words::{not_text, paths_named};
+use std::alloc::{AllocError, Global};
+use std::fs::Files;
 use std::io::{self, Read, Write};
 
-/// The program `p21check FILE`: reads the exchange structure and writes its counts to `output`, or the line of its first
-/// grammar fault. `words` are the words of the command line, the program's own name first; FILE `-` is `input`, and `rt`
-/// opens any other. The answer is the status to end with: 0 where the file was read, 1 where it has a fault, 2 where the
-/// words were refused (clap's text goes to `errors`), 4 where a file, a reader or a writer failed, or the file has more
-/// than 4294967296 bytes or took more than 16777216 calls of `read`, 5 where there was no memory left. The help goes to
-/// `output`, with status 0. A failed write to `errors` changes no status.
+/// The program `p21check SCHEMA FILE`: reads the schema, checks the file against it, and writes the report to `output`.
+/// `words` are the words of the command line, the program's own name first; FILE `-` is `input`, and `rt` opens the others,
+/// FILE only where the schema was read. The answer is the status to end with: 0 where the file was read, 1 where it has a
+/// fault, 2 where the words were refused (clap's text goes to `errors`), 3 where the schema was refused, 4 where a path cannot
+/// be opened, a reader or the writer failed, or a bound on bytes or calls was passed, 5 where there was no memory left. The
+/// help goes to `output`, with status 0. A failed write to `errors` changes no status.
 pub fn program<R, I, O, E>(
     rt: &R,
     alloc: Global,
@@ -47,7 +51,7 @@ pub fn unreadable_words<E: Write>(alloc: Global, error: &io::Error, errors: &mut
     tell_on(&error, errors)
 }
 
-/// Reads the file that the words name and writes its report.
+/// Runs over the schema and the file that the words name.
 fn report<R: Files, I: Read, O: Write>(
     rt: &R,
     alloc: Global,
@@ -55,35 +59,32 @@ fn report<R: Files, I: Read, O: Write>(
     input: &mut I,
     output: &mut O,
 ) -> Result<u8, ProgramError> {
-    let path = file_named(alloc, words)?;
-    let bytes = bytes_of(rt, alloc, path, input)?;
-    let (status, text) = report_text(alloc, bytes.as_slice())?;
-    output
-        .write_all(text.as_slice())
-        .map_err(|_| ProgramError::Device)?;
-    Ok(status)
+    let paths = paths_named(alloc, words)?;
+    let mut schema = Opened::new(rt, paths.schema);
+    let mut out = Stream::new(output);
+    let outcome = if paths.file == "-" {
+        run(alloc, &mut schema, &mut Stream::new(input), &mut out)
+    } else {
+        let mut file = Opened::new(rt, paths.file);
+        run(alloc, &mut schema, &mut file, &mut out)
+    };
+    status_of(outcome)
 }
 
-/// The bytes of a file, or of the standard input.
-fn bytes_of<R: Files, I: Read>(
-    rt: &R,
-    alloc: Global,
-    path: &str,
-    input: &mut I,
-) -> Result<Vec<u8>, ProgramError> {
-    if path == "-" {
-        return read_bounded(alloc, input, FILE_BOUNDS);
-    }
-    let mut file = File::open(rt, path).map_err(|_| ProgramError::Device)?;
-    read_bounded(alloc, &mut file, FILE_BOUNDS)
-}
-
-/// The report of an exchange structure, and the status that goes with it.
-fn report_text(alloc: Global, bytes: &[u8]) -> Result<(u8, Vec<u8>), ProgramError> {
-    match read_whole(alloc, bytes) {
-        Ok((_, instances)) => Ok((0, counts(alloc, instances.as_slice())?)),
-        Err(TreeError::Grammar(fault)) => Ok((1, fault_line(alloc, &fault)?)),
-        Err(TreeError::Memory) => Err(ProgramError::Memory(AllocError)),
+/// The status of a run that wrote its report.
+fn status_of(outcome: Outcome) -> Result<u8, ProgramError>
+    ensures complete { outcome ≡ Complete → result ≡ Ok 0 }
+    ensures faulty { outcome ≡ Faulty → result ≡ Ok 1 }
+    ensures refused { outcome ≡ SchemaRefused → result ≡ Ok 3 }
+    ensures device { outcome ≡ Failed → result ≡ Err Device }
+    ensures memory { outcome ≡ NoMemory → (error : _) × (result ≡ Err (Memory error)) }
+{
+    match outcome {
+        Outcome::Complete => Ok(0),
+        Outcome::Faulty => Ok(1),
+        Outcome::SchemaRefused => Ok(3),
+        Outcome::Device => Err(ProgramError::Device),
+        Outcome::Memory => Err(ProgramError::Memory(AllocError)),
     }
 }
 

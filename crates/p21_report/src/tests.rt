@@ -5,35 +5,8 @@ use crate::fault_text::fault_line;
 use p21_tree::{Fault, FaultKind};
 use std::alloc::{AllocError, Global};
 use std::fs::Files;
-use std::io::{self, ErrorKind, Read, Write};
+use std::io::{self, ErrorKind, Write};
 use std::test::Fail;
-
-/// A file of three simple instances, and its report.
-const FILE: &[u8] =
-    b"ISO-10303-21;HEADER;FILE_DESCRIPTION((''),'2;1');FILE_NAME('','',(''),(''),'','','');FILE_SCHEMA(('TOY'));ENDSEC;DATA;#1=ITEM('A001',$,#3);#2=PROP(LABEL('x'));#3=SPECIAL('A003','t',$);ENDSEC;END-ISO-10303-21;";
-
-const REPORT: &[u8] = b"instances 3\ncomplex 0\nreferences 1\nITEM 1\nPROP 1\nSPECIAL 1\n";
-
-/// A reader that is interrupted once, gives some bytes, and then ends or fails.
-#[derive(Drop)]
-struct Interrupted<'a> {
-    bytes: &'a [u8],
-    calls: u32,
-    fails: bool,
-}
-
-impl Read for Interrupted<'_> {
-    fn read(&mut self, into: &mut [u8]) -> io::Result<usize> {
-        self.calls = self.calls.saturating_add(1);
-        if self.calls == 1 {
-            return Err(io::Error::from(ErrorKind::Interrupted));
-        }
-        if self.calls > 2 && self.fails {
-            return Err(io::Error::from(ErrorKind::TimedOut));
-        }
-        self.bytes.read(into)
-    }
-}
 
 /// A writer with room for so many bytes, which then fails.
 #[derive(Drop)]
@@ -74,9 +47,9 @@ fn run<R: Files>(
     rt: &R,
     alloc: Global,
     texts: &[&str],
-    mut input: &[u8],
 ) -> Result<(u8, Vec<u8>, Vec<u8>), AllocError> {
     let words = words(alloc, texts)?;
+    let mut input = b"".as_slice();
     let mut output = Vec::new(alloc);
     let mut errors = Vec::new(alloc);
     let status = program(
@@ -91,32 +64,12 @@ fn run<R: Files>(
 }
 
 #[test]
-fn reads_standard_input(rt: HostRuntime) -> Result<(), Fail> {
-    let (status, output, errors) = run(&rt, rt.alloc(), &["p21check", "-"], FILE)?;
-    assert_eq!(rt; status, 0);
-    assert_eq!(rt; output.as_slice(), REPORT);
-    assert!(rt; errors.is_empty());
-    Ok(())
-}
-
-#[test]
-fn tells_faults(rt: HostRuntime) -> Result<(), Fail> {
-    let (status, output, _) = run(&rt, rt.alloc(), &["p21check", "-"], b"")?;
-    assert_eq!(rt; status, 1);
-    assert_eq!(rt; output.as_slice(), b"fault 3 Truncated at 0\n".as_slice());
-    let (status, output, _) = run(&rt, rt.alloc(), &["p21check", "-"], b"\xff\xfe")?;
-    assert_eq!(rt; status, 1);
-    assert_eq!(rt; output.as_slice(), b"fault 1 BadToken at 0\n".as_slice());
-    Ok(())
-}
-
-#[test]
 fn refuses_words(rt: HostRuntime) -> Result<(), Fail> {
-    let (status, output, errors) = run(&rt, rt.alloc(), &["p21check"], FILE)?;
+    let (status, output, errors) = run(&rt, rt.alloc(), &["p21check"])?;
     assert_eq!(rt; status, 2);
     assert!(rt; output.is_empty());
     assert!(rt; !errors.is_empty());
-    let (status, output, _) = run(&rt, rt.alloc(), &["p21check", "-", "--lanes"], FILE)?;
+    let (status, output, _) = run(&rt, rt.alloc(), &["p21check", "toy.exp", "-", "--lanes"])?;
     assert_eq!(rt; status, 2);
     assert!(rt; output.is_empty());
     Ok(())
@@ -124,7 +77,7 @@ fn refuses_words(rt: HostRuntime) -> Result<(), Fail> {
 
 #[test]
 fn helps(rt: HostRuntime) -> Result<(), Fail> {
-    let (status, output, errors) = run(&rt, rt.alloc(), &["p21check", "--help"], FILE)?;
+    let (status, output, errors) = run(&rt, rt.alloc(), &["p21check", "--help"])?;
     assert_eq!(rt; status, 0);
     assert!(rt; !output.is_empty());
     assert!(rt; errors.is_empty());
@@ -135,7 +88,7 @@ fn helps(rt: HostRuntime) -> Result<(), Fail> {
 fn help_into_a_writer_that_fails(rt: HostRuntime) -> Result<(), Fail> {
     let alloc = rt.alloc();
     let words = words(alloc, &["p21check", "--help"])?;
-    let mut input = FILE;
+    let mut input = b"".as_slice();
     let mut output = Short {
         bytes: Vec::new(alloc),
         room: 3,
@@ -158,71 +111,14 @@ fn help_into_a_writer_that_fails(rt: HostRuntime) -> Result<(), Fail> {
 }
 
 #[test]
-fn file_that_does_not_exist(rt: HostRuntime) -> Result<(), Fail> {
-    let (status, output, errors) = run(&rt, rt.alloc(), &["p21check", "no/such/file.stp"], FILE)?;
+fn schema_that_does_not_exist(rt: HostRuntime) -> Result<(), Fail> {
+    let (status, output, errors) = run(&rt, rt.alloc(), &["p21check", "no/such/schema.exp", "-"])?;
     assert_eq!(rt; status, 4);
     assert!(rt; output.is_empty());
     assert_eq!(rt;
         errors.as_slice(),
         b"p21check: input or output failed\n".as_slice()
     );
-    Ok(())
-}
-
-#[test]
-fn reader_that_is_interrupted_or_fails(rt: HostRuntime) -> Result<(), Fail> {
-    let alloc = rt.alloc();
-    let words = words(alloc, &["p21check", "-"])?;
-    for fails in [false, true] {
-        let mut output = Vec::new(alloc);
-        let mut errors = Vec::new(alloc);
-        let mut input = Interrupted {
-            bytes: FILE,
-            calls: 0,
-            fails,
-        };
-        let status = program(
-            &rt,
-            alloc,
-            words.as_slice(),
-            &mut input,
-            &mut output,
-            &mut errors,
-        );
-        assert_eq!(rt; status, if fails { 4 } else { 0 });
-        assert_eq!(rt;
-            output.as_slice(),
-            if fails { b"".as_slice() } else { REPORT }
-        );
-    }
-    Ok(())
-}
-
-#[test]
-fn writer_that_fails(rt: HostRuntime) -> Result<(), Fail> {
-    let alloc = rt.alloc();
-    let words = words(alloc, &["p21check", "-"])?;
-    for room in [0, 1, 20, 57] {
-        let mut input = FILE;
-        let mut output = Short {
-            bytes: Vec::new(alloc),
-            room,
-        };
-        let mut errors = Short {
-            bytes: Vec::new(alloc),
-            room,
-        };
-        let status = program(
-            &rt,
-            alloc,
-            words.as_slice(),
-            &mut input,
-            &mut output,
-            &mut errors,
-        );
-        assert_eq!(rt; status, 4);
-        assert!(rt; REPORT.starts_with(output.bytes.as_slice()));
-    }
     Ok(())
 }
 

@@ -5,15 +5,26 @@ use clap::error::ErrorKind;
 use clap::{Arg, Command};
 use std::alloc::Global;
 
-/// The file that the words name; the first word is the program's own name.
-pub(crate) fn file_named<'a>(alloc: Global, words: &'a [String]) -> Result<&'a str, ProgramError> {
+/// The paths that the words name.
+#[derive(Clone, Copy, Debug)]
+pub(crate) struct Paths<'a> {
+    pub(crate) schema: &'a str,
+    /// `-` is the standard input.
+    pub(crate) file: &'a str,
+}
+
+/// The paths that the words name; the first word is the program's own name.
+pub(crate) fn paths_named<'a>(
+    alloc: Global,
+    words: &'a [String],
+) -> Result<Paths<'a>, ProgramError> {
     let matches = command(alloc)?.try_get_matches_from(words)?;
-    match matches.get_str("FILE") {
-        Some(file) => Ok(file),
-        None => Err(refused(
+    match (matches.get_str("SCHEMA"), matches.get_str("FILE")) {
+        (Some(schema), Some(file)) => Ok(Paths { schema, file }),
+        _ => Err(refused(
             alloc,
             ErrorKind::MissingRequiredArgument,
-            "no FILE is given",
+            "no SCHEMA or no FILE is given",
         )?),
     }
 }
@@ -38,11 +49,15 @@ fn refused(alloc: Global, kind: ErrorKind, cause: &str) -> Result<ProgramError, 
 }
 
 fn command<'a>(alloc: Global) -> Result<Command<'a>, ProgramError> {
+    let schema = Arg::new(alloc, "SCHEMA")
+        .required(true)
+        .help("the EXPRESS schema to check against");
     let file = Arg::new(alloc, "FILE")
         .required(true)
         .help("the exchange structure to read; - is standard input");
     let command = Command::new(alloc, "p21check")
-        .about("Reads a STEP file (ISO 10303-21) and counts its instances")
+        .about("Reads a STEP file (ISO 10303-21) and checks it against an EXPRESS schema")
+        .arg(schema)?
         .arg(file)?;
     Ok(command)
 }

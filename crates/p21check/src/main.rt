@@ -1,4 +1,4 @@
-//! `p21check FILE`: reads a STEP file and counts its instances.
+//! `p21check SCHEMA FILE`: checks a STEP file against an EXPRESS schema.
 #![tactic(auto)]
 
 use p21_report::{program, unreadable_words};

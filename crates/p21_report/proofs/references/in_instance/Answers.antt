@@ -1,4 +1,4 @@
-use Rattle.std.proofs.Common.{◌≤◌, length, sym, ◌∙◌, ap, arith}
+use Rattle.std.proofs.Common.{sym, ◌∙◌, ap, arith}
 use Rattle.p21_report.specs.Counts.{capped}
 use Rattle.p21_report.proofs.CountLemmas.{left_of, records_all}
 use Rattle.p21_report.proofs.references.in_instance.Goals as goal

@@ -1,6 +1,6 @@
 use Rattle.std.proofs.Common.{◌≡◌, ◌++◌, ◌∷◌, [], map, ap, subst, ◌∙◌}
 use Rattle.p21_tree.specs.declared.instances.Record.{Record}
-use Rattle.p21_tree.specs.Views.{plain_instance, plain_record}
+use Rattle.p21_tree.specs.Views.{plain_instance}
 use Rattle.p21_report.specs.Counts.{keywords_of}
 use Rattle.p21_report.specs.Tally.{CountsOf, IsTallyOf}
 use Rattle.p21_report.specs.declared.tally.Tally.{Tally}

@@ -1,7 +1,6 @@
-use Rattle.std.proofs.Common.{Some, None, refl, sym, ap, subst, ◌∙◌, IsSome}
-use Rattle.std.specs.BTreeMap.{get}
+use Rattle.std.proofs.Common.{refl, sym, subst, ◌∙◌, IsSome}
 use Rattle.p21_report.specs.Counts.{keyword_count}
-use Rattle.p21_report.specs.Tally.{CountsOf, key_cmp}
+use Rattle.p21_report.specs.Tally.{CountsOf}
 use Rattle.p21_report.proofs.TallyLemmas.{counts_more, kept_next, kept_first}
 use Rattle.p21_report.proofs.tally.add_keyword.Goals as goal
 

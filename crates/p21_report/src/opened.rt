@@ -1,0 +1,58 @@
+//! A file that is opened at its first read.
+
+ghost use Rattle.std.specs.Prelude.{◌≡◌, false};
+ghost use Rattle.std.specs.Io.{ReadsAtMost};
+
+use crate::source::{IoFault, Source, Stream};
+use std::fs::{File, Files};
+
+/// A file that is opened at its first read. One that cannot be opened, from whatever cause, failed.
+#[derive(Drop)]
+pub(crate) struct Opened<'a, R: Files> {
+    rt: &'a R,
+    path: &'a str,
+    file: Option<Stream<R::File>>,
+    marked: bool,
+}
+
+impl<'a, R: Files> Opened<'a, R> {
+    ghost use Rattle.p21_report.specs.Stream.{mark_of_opened};
+
+    /// The file of a path, which is not opened yet.
+    pub(crate) fn new(rt: &'a R, path: &'a str) -> Opened<'a, R>
+        ensures { mark_of_opened result ≡ false }
+    {
+        Opened {
+            rt,
+            path,
+            file: None,
+            marked: false,
+        }
+    }
+
+    fn read_file(&mut self, into: &mut [u8]) -> Result<usize, IoFault>
+        ensures bound { ReadsAtMost result into.new }
+        ensures mark { mark_of_opened self.new ≡ mark_of_opened self.old }
+    {
+        if self.file.is_none() {
+            let file = File::open(self.rt, self.path).map_err(|_| IoFault::Failed)?;
+            self.file = Some(Stream::new(file));
+        }
+        match &mut self.file {
+            Some(file) => file.read(into),
+            None => Err(IoFault::Failed),
+        }
+    }
+}
+
+impl<R: Files> Source for Opened<'_, R> {
+    ghost use Rattle.p21_report.specs.Stream.{mark_of_opened};
+
+    ghost marked = { mark_of_opened };
+
+    fn read(&mut self, into: &mut [u8]) -> Result<usize, IoFault> {
+        let result = self.read_file(into);
+        self.marked |= result.is_err();
+        result
+    }
+}
