@@ -1,0 +1,2 @@
+pub mod InstanceNames
+pub mod Keywords
