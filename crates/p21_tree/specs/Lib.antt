@@ -4,6 +4,7 @@ pub mod Bodies
 pub mod Grammar
 pub mod Sentence
 pub mod Fault
+pub mod Few
 pub mod Views
 pub mod Texts
 pub mod Machine

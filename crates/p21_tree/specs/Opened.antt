@@ -35,9 +35,10 @@ mode_of (mode.After p) = after (plain p)
 abbrev pub state_of : Nest → source.Mode → State
 state_of o m = record { mode = mode_of m; stack = stack_of o; room = o.room }
 
+-- what a token did, as the machine says it
 abbrev pub step_of : Nest → source'.Step → Step
 step_of o (outcome.Go m) = go (state_of o m)
-step_of o (outcome.Closed v) = closed (plain_all v.items)
+step_of o (outcome.Closed v) = closed (plain_all v)
 step_of o outcome.Refused = refused
 step_of o outcome.TooDeep = deep
 

@@ -8,6 +8,7 @@ ghost use Rattle.p21_tree.specs.Progress.{Covers, Fails};
 ghost use Rattle.p21_tree.specs.Texts.{OnGrammar};
 
 use crate::faults::{Fault, FaultKind, TreeError};
+use crate::few::Few;
 use crate::nest::{Mode, Nest, Step};
 use crate::params::Param;
 use crate::source::Source;
@@ -24,10 +25,10 @@ fn parameters<'a>(
     source: Source<'a>,
     at: usize,
     left: usize,
-) -> Result<(Vec<Param<'a>>, usize), TreeError>
+) -> Result<(Few<Param<'a>>, usize), TreeError>
     requires place { at ≤ length source.text.now }
     requires few { left ≤ 64 }
-    ensures ok { IfOk result (λ r. Covers (λ ts. IsClosed left (symbols ts) (plain_all r.0.items)) source.entry at r.1) }
+    ensures ok { IfOk result (λ r. Covers (λ ts. IsClosed left (symbols ts) (plain_all r.0)) source.entry at r.1) }
     ensures behind { IfOk result (λ r. at ≤ r.1) }
     ensures within { IfOk result (λ r. r.1 ≤ length source.entry.text.now) }
     ensures fault { IfErr result (λ e. OnGrammar e (Fails Closed left source.entry at)) }
@@ -61,10 +62,10 @@ pub fn arguments<'a>(
     source: Source<'a>,
     at: usize,
     left: usize,
-) -> Result<(Vec<Param<'a>>, usize), TreeError>
+) -> Result<(Few<Param<'a>>, usize), TreeError>
     requires place { at ≤ length source.text.now }
     requires few { left ≤ 64 }
-    ensures ok { IfOk result (λ r. Covers (λ ts. IsArguments left ts (plain_all r.0.items)) source.entry at r.1) }
+    ensures ok { IfOk result (λ r. Covers (λ ts. IsArguments left ts (plain_all r.0)) source.entry at r.1) }
     ensures behind { IfOk result (λ r. at ≤ r.1) }
     ensures within { IfOk result (λ r. r.1 ≤ length source.entry.text.now) }
     ensures fault { IfErr result (λ e. OnGrammar e (Fails Arguments left source.entry at)) }

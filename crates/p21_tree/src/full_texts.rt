@@ -34,7 +34,11 @@ pub fn whole<'a>(
 }
 
 /// Reads an instance that takes the whole text.
-pub fn single<'a>(alloc: Global, source: Source<'a>) -> Result<RawInstance<'a>, TreeError>
+pub fn single<'a>(
+    alloc: Global,
+    nest: &mut Nest<'a>,
+    source: Source<'a>,
+) -> Result<RawInstance<'a>, TreeError>
     ensures ok { IfOk result (λ r. Finishes (λ ts. IsPiece deepest ts (plain_instance r)) source.entry 0) }
     ensures fault { IfErr result (λ e. OnGrammar e (Fails Pieces 64 source.entry 0)) }
 {
@@ -42,8 +46,7 @@ pub fn single<'a>(alloc: Global, source: Source<'a>) -> Result<RawInstance<'a>, 
     let Token::Name(name) = lexed.token else {
         return Err(TreeError::Grammar(refused(source, lexed)));
     };
-    let mut nest = Nest::new(alloc);
-    let (read, after) = instance(alloc, &mut nest, source, name, lexed.start, lexed.after)?;
+    let (read, after) = instance(alloc, nest, source, name, lexed.start, lexed.after)?;
     let _end = expect(source, after, Terminal::End)?;
     Ok(read)
 }

@@ -2,6 +2,7 @@
 
 ghost use Rattle.p21_tree.specs.Bodies.{AllHaveBodies, AllHaveBodies-prop};
 
+use crate::few::Few;
 use crate::params::Param;
 
 /// An entity of the header section.
@@ -10,9 +11,9 @@ pub struct HeaderEntity<'a> {
     /// The keyword, as spelled; a user-defined one with its `!`.
     pub keyword: &'a [u8],
     /// The parameters in their order.
-    pub params: Vec<Param<'a>>,
+    pub params: Few<Param<'a>>,
     /// Each string and binary among the parameters holds the body of such a token.
-    pub ghost bodies: { AllHaveBodies params.items } by { AllHaveBodies-prop params.items },
+    pub ghost bodies: { AllHaveBodies params } by { AllHaveBodies-prop params },
 }
 
 /// What stands before the instances of a file, up to and including `DATA;`.

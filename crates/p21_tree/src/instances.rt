@@ -1,8 +1,9 @@
 //! Records and instances of the data section.
 
-ghost use Rattle.std.specs.Prelude.{◌≡◌, ◌<◌, false, vec_len};
+ghost use Rattle.std.specs.Prelude.{◌≡◌, ◌<◌, false, length};
 ghost use Rattle.p21_tree.specs.Bodies.{AllHaveBodies, AllHaveBodies-prop};
 
+use crate::few::Few;
 use crate::params::Param;
 
 /// A keyword and its parameters.
@@ -11,9 +12,9 @@ pub struct Record<'a> {
     /// The keyword, as spelled; a user-defined one with its `!`.
     pub keyword: &'a [u8],
     /// The parameters in their order.
-    pub params: Vec<Param<'a>>,
+    pub params: Few<Param<'a>>,
     /// Each string and binary among the parameters holds the body of such a token.
-    pub ghost bodies: { AllHaveBodies params.items } by { AllHaveBodies-prop params.items },
+    pub ghost bodies: { AllHaveBodies params } by { AllHaveBodies-prop params },
 }
 
 /// An instance as it is written, not yet checked against a schema.
@@ -26,9 +27,9 @@ pub struct RawInstance<'a> {
     /// Whether it is written in the external mapping, as several records in parentheses.
     pub complex: bool,
     /// The records in their order: exactly one of a simple instance, at least one of a complex one.
-    pub records: Vec<Record<'a>>,
+    pub records: Few<Record<'a>>,
     /// There is a record.
-    pub ghost some: { 0 < vec_len records },
+    pub ghost some: { 0 < length records },
     /// A simple instance has one record.
-    pub ghost single: { complex ≡ false → vec_len records ≡ 1 },
+    pub ghost single: { complex ≡ false → length records ≡ 1 },
 }

@@ -5,9 +5,11 @@
 mod arguments;
 mod data_section;
 mod faults;
+mod few;
 mod full_texts;
 mod header_section;
 mod headers;
+mod instance_reader;
 mod instances;
 mod keywords;
 mod laws;
@@ -24,7 +26,9 @@ mod tests;
 mod tokens;
 
 pub use faults::{Fault, FaultKind, TreeError};
+pub use few::Few;
 pub use headers::{HeaderEntity, Preface};
+pub use instance_reader::InstanceReader;
 pub use instances::{RawInstance, Record};
 pub use laws::{
     faults_of_tokens, one_answer, one_beginning, one_fault_at_most, one_tree, parts_in_order,

@@ -3,6 +3,7 @@
 ghost use Rattle.std.specs.Prelude.{◌≡◌, [], ℕ, ◌+◌, ◌≤◌};
 ghost use Rattle.smallvec.specs.SmallVec.{small_vec_len};
 
+use crate::few::Few;
 use crate::params::Param;
 use smallvec::SmallVec;
 use std::alloc::Global;
@@ -85,7 +86,7 @@ pub enum Step<'a> {
     /// It was taken.
     Go(Mode<'a>),
     /// It closed the record's parenthesis, behind these parameters.
-    Closed(Vec<Param<'a>>),
+    Closed(Few<Param<'a>>),
     /// It fits at no limit of parentheses.
     Refused,
     /// It is a parenthesis that the limit refuses.

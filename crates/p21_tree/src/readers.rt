@@ -7,9 +7,10 @@ ghost use Rattle.p21_tree.specs.Texts.{IsFileText, BeginsPreface, HasTail, IsPie
 
 use crate::data_section::behind_endsec;
 use crate::faults::{Fault, TreeError};
-use crate::full_texts::{single, whole};
+use crate::full_texts::whole;
 use crate::header_section::preface;
 use crate::headers::Preface;
+use crate::instance_reader::InstanceReader;
 use crate::instances::RawInstance;
 use crate::nest::Nest;
 use crate::pieces::Piece;
@@ -41,11 +42,7 @@ pub fn read_piece<'a>(alloc: Global, piece: Piece<'a>) -> Result<RawInstance<'a>
     ensures ok { IfOk result (λ r. IsPieceText piece.entry (plain_instance r)) }
     ensures fault { IfErr result (λ e. OnGrammar e (HasPieceFault piece.entry)) }
 {
-    let source = Source {
-        text: piece.bytes,
-        base: piece.at,
-    };
-    single(alloc, source)
+    InstanceReader::new(alloc).read(piece)
 }
 
 /// Reads the end of a file from a place on: `ENDSEC;`, `END-ISO-10303-21;` and separators alone. `at` is at most the

@@ -6,13 +6,14 @@ ghost use Rattle.p21_text.specs.Spelling as token_is;
 ghost use Rattle.p21_tree.specs.Grammar.{IsRecord};
 ghost use Rattle.p21_tree.specs.Sentence.{IsRecords, IsInstance};
 ghost use Rattle.p21_tree.specs.Views.{plain_record};
-ghost use Rattle.p21_tree.specs.Parts.{Arguments, Records, SomeRecords, IsKeyed, IsSomeRecords, IsFormOf};
-ghost use Rattle.p21_tree.specs.Parts.{Form as FormOf};
+ghost use Rattle.p21_tree.specs.Parts.{Arguments, SomeRecords, IsKeyed, IsSomeRecords, IsFormOf};
+ghost use Rattle.p21_tree.specs.Parts.{Form as FormOf, Records as RecordsOf};
 ghost use Rattle.p21_tree.specs.Progress.{Covers, Fails};
 ghost use Rattle.p21_tree.specs.Texts.{OnGrammar};
 
 use crate::arguments::arguments;
 use crate::faults::TreeError;
+use crate::few::Few;
 use crate::instances::Record;
 use crate::keywords::keyword;
 use crate::nest::Nest;
@@ -53,7 +54,7 @@ fn record<'a>(
     ensures ok { IfOk result (λ r. Covers (λ ts. IsRecord 63 (symbols ts) (plain_record r.0)) source.entry at r.1) }
     ensures behind { IfOk result (λ r. at ≤ r.1) }
     ensures within { IfOk result (λ r. r.1 ≤ length source.entry.text.now) }
-    ensures fault { IfErr result (λ e. OnGrammar e (Fails Records 63 source.entry at)) }
+    ensures fault { IfErr result (λ e. OnGrammar e (Fails RecordsOf 63 source.entry at)) }
 {
     let lexed = token(source, at);
     let Some(keyword) = keyword(lexed.token) else {
@@ -101,7 +102,7 @@ pub struct InstanceBody<'a> {
     /// Whether it is several records in parentheses.
     pub complex: bool,
     /// The records.
-    pub records: Vec<Record<'a>>,
+    pub records: Few<Record<'a>>,
     /// The place behind them.
     pub after: usize,
 }
@@ -114,9 +115,9 @@ pub fn form<'a>(
     at: usize,
 ) -> Result<InstanceBody<'a>, TreeError>
     requires { at ≤ length source.text.now }
-    ensures ok { IfOk result (λ r. Covers (λ ts. IsFormOf 64 ts r.complex (map plain_record r.records.items)) source.entry at r.after) }
-    ensures some { IfOk result (λ r. 0 < vec_len r.records) }
-    ensures single { IfOk result (λ r. r.complex ≡ false → vec_len r.records ≡ 1) }
+    ensures ok { IfOk result (λ r. Covers (λ ts. IsFormOf 64 ts r.complex (map plain_record r.records)) source.entry at r.after) }
+    ensures some { IfOk result (λ r. 0 < length r.records) }
+    ensures single { IfOk result (λ r. r.complex ≡ false → length r.records ≡ 1) }
     ensures behind { IfOk result (λ r. at ≤ r.after) }
     ensures within { IfOk result (λ r. r.after ≤ length source.entry.text.now) }
     ensures fault { IfErr result (λ e. OnGrammar e (Fails FormOf 64 source.entry at)) }
@@ -124,10 +125,9 @@ pub fn form<'a>(
     let lexed = token(source, at);
     if let Token::LParen = lexed.token {
         let (records, after) = records(alloc, nest, source, lexed.after)?;
-        let complex = true;
         return Ok(InstanceBody {
-            complex,
-            records,
+            complex: true,
+            records: Few::from_vec(records),
             after,
         });
     }
@@ -135,12 +135,9 @@ pub fn form<'a>(
         return Err(TreeError::Grammar(refused(source, lexed)));
     };
     let (record, after) = keyed(alloc, nest, source, lexed.after, keyword, 63)?;
-    let mut records = Vec::with_capacity(alloc, 1)?;
-    records.push(record)?;
-    let complex = false;
     Ok(InstanceBody {
-        complex,
-        records,
+        complex: false,
+        records: Few::lone(record),
         after,
     })
 }

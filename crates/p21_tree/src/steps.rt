@@ -6,6 +6,7 @@ ghost use Rattle.p21_tree.specs.Plain.{plain};
 ghost use Rattle.p21_tree.specs.Machine.{step, begin as begin_by, close_empty, by_mode, class_of, behind_key as key_mode, after, leaf, key, open_, close_, comma};
 ghost use Rattle.p21_tree.specs.Opened.{mode_of, stack_of, state_of, step_of, class_view, is_typed};
 
+use crate::few::Few;
 use crate::nest::{Class, Frame, Mode, Nest, Step};
 use crate::params::Param;
 use p21_text::Token;
@@ -83,7 +84,7 @@ fn close_none<'a>(alloc: Global, nest: &mut Nest<'a>) -> Step<'a>
         return Step::Refused;
     }
     match nest.frames.pop() {
-        None => Step::Closed(Vec::new(alloc)),
+        None => Step::Closed(Few::from_vec(Vec::new(alloc))),
         Some(Frame::List(outer)) => {
             nest.spare = mem::replace(&mut nest.current, outer);
             nest.room += 1;
@@ -143,12 +144,26 @@ fn exactly<'a>(
     Ok(exact)
 }
 
+/// The parameters of a record that ends: those before the last one, and that one. A lone one takes no memory.
+fn closed<'a>(
+    alloc: Global,
+    before: &mut Vec<Param<'a>>,
+    last: Param<'a>,
+) -> Result<Few<Param<'a>>, AllocError>
+    ensures { IfOk result (λ r. r ≡ before.old.items ++ last.entry ∷ []) }
+{
+    if before.is_empty() {
+        return Ok(Few::lone(last));
+    }
+    Ok(Few::from_vec(exactly(alloc, before, last)?))
+}
+
 /// A parenthesis is closed behind a parameter.
 fn close<'a>(alloc: Global, nest: &mut Nest<'a>, param: Param<'a>) -> Result<Step<'a>, AllocError>
     ensures { IfOk result (λ r. step_of nest.new r ≡ by_mode (after (plain param.entry)) (stack_of nest.old) nest.old.room close_) }
 {
     match nest.frames.pop() {
-        None => Ok(Step::Closed(exactly(alloc, &mut nest.current, param)?)),
+        None => Ok(Step::Closed(closed(alloc, &mut nest.current, param)?)),
         Some(Frame::List(outer)) => {
             let items = exactly(alloc, &mut nest.current, param)?;
             nest.spare = mem::replace(&mut nest.current, outer);

@@ -52,6 +52,7 @@ fn keyword_terminal(keyword: &[u8]) -> Option<Terminal>
 }
 
 /// Which of these a token is.
+#[inline(always)]
 pub fn as_terminal(token: Token<'_>) -> Option<Terminal>
     ensures { result ≡ terminal_in (symbol token.entry) }
 {

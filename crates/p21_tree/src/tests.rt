@@ -4,8 +4,8 @@ ghost use Rattle.p21_tree.specs.Plain.{plain};
 ghost use Rattle.p21_tree.specs.Bodies.{AllHaveBodies, HasBodies};
 
 use crate::{
-    Fault, FaultKind, Param, Piece, Record, TreeError, read_piece, read_preface, read_tail,
-    read_whole,
+    Fault, FaultKind, Few, InstanceReader, Param, Piece, RawInstance, Record, TreeError,
+    read_piece, read_preface, read_tail, read_whole,
 };
 use p21_text::{binary_bits, string_len};
 use std::alloc::{AllocError, Global};
@@ -441,12 +441,12 @@ fn tree_of_an_instance(rt: HostRuntime) -> Result<(), Fail> {
     assert_eq!(rt; read.at, 119);
     assert!(rt; !read.complex);
     assert_eq!(rt; read.records.len(), 1);
-    let record = &read.records[0];
+    let record = &read.records.as_slice()[0];
     assert!(rt; record.keyword == b"!A".as_slice());
     assert_eq!(rt; record.params.len(), 4);
-    assert!(rt; matches!(record.params[0], Param::Absent));
-    assert!(rt; matches!(record.params[1], Param::Derived));
-    match &record.params[3] {
+    assert!(rt; matches!(record.params.as_slice()[0], Param::Absent));
+    assert!(rt; matches!(record.params.as_slice()[1], Param::Derived));
+    match &record.params.as_slice()[3] {
         Param::Typed(keyword, inner) => {
             assert!(rt; *keyword == b"LABEL".as_slice());
             match &**inner {
@@ -457,6 +457,77 @@ fn tree_of_an_instance(rt: HostRuntime) -> Result<(), Fail> {
         _ => assert!(rt; false, "a typed parameter"),
     }
     Ok(())
+}
+
+/// Whether it is the integer of this spelling.
+fn is_integer(param: &Param<'_>, spelled: &[u8]) -> bool {
+    match param {
+        Param::Int(text) => *text == spelled,
+        _ => false,
+    }
+}
+
+#[test]
+fn one_reader_for_two_pieces(rt: HostRuntime) -> Result<(), Fail> {
+    let mut reader = InstanceReader::new(rt.alloc());
+    let refused = reader.read(piece(b"#1=A((1,B((2,3 4))));")).err();
+    assert_eq!(rt; refused, Some(grammar(FaultKind::Unexpected, 133)));
+    let read = reader.read(piece(b"#2=C(5,(6,$),D(*));"))?;
+    assert_eq!(rt; read.name, 2);
+    assert_eq!(rt; read.at, 118);
+    assert!(rt; !read.complex);
+    assert_eq!(rt; read.records.len(), 1);
+    let record = &read.records.as_slice()[0];
+    assert!(rt; record.keyword == b"C".as_slice());
+    assert_eq!(rt; record.params.len(), 3);
+    assert!(rt; is_integer(&record.params.as_slice()[0], b"5"));
+    match &record.params.as_slice()[1] {
+        Param::Items(items) => {
+            assert_eq!(rt; items.len(), 2);
+            assert!(rt; is_integer(&items[0], b"6"));
+            assert!(rt; matches!(items[1], Param::Absent));
+        }
+        _ => assert!(rt; false, "a list"),
+    }
+    match &record.params.as_slice()[2] {
+        Param::Typed(keyword, inner) => {
+            assert!(rt; *keyword == b"D".as_slice());
+            assert!(rt; matches!(&**inner, Param::Derived));
+        }
+        _ => assert!(rt; false, "a typed parameter"),
+    }
+    Ok(())
+}
+
+#[test]
+fn records_of_a_complex_instance(rt: HostRuntime) -> Result<(), Fail> {
+    let read = read_piece(rt.alloc(), piece(b"#1=(A(1)B());"))?;
+    assert!(rt; read.complex);
+    assert_eq!(rt; read.records.len(), 2);
+    let listed = read.records.into_vec(rt.alloc())?;
+    assert_eq!(rt; listed.len(), 2);
+    assert!(rt; listed[0].keyword == b"A".as_slice());
+    assert!(rt; listed[1].keyword == b"B".as_slice());
+    let again = Few::from_vec(listed);
+    assert!(rt; again.as_slice()[1].keyword == b"B".as_slice());
+    Ok(())
+}
+
+#[test]
+fn record_of_a_simple_instance(rt: HostRuntime) -> Result<(), Fail> {
+    let read = read_piece(rt.alloc(), piece(b"#1=A(1);"))?;
+    let listed = read.records.into_vec(rt.alloc())?;
+    assert_eq!(rt; listed.len(), 1);
+    let record = &listed[0];
+    assert!(rt; record.keyword == b"A".as_slice());
+    assert_eq!(rt; record.params.len(), 1);
+    assert!(rt; is_integer(&record.params.as_slice()[0], b"1"));
+    Ok(())
+}
+
+#[test]
+fn size_of_an_instance(rt: HostRuntime) {
+    assert_eq!(rt; size_of::<RawInstance<'static>>(), 88);
 }
 
 /// The characters of a string, the bits of a binary, 0 of any other parameter.
@@ -494,7 +565,7 @@ fn size_within(param: &Param<'_>) -> u128
 /// The sum of the sizes of a record's parameters.
 fn record_size(record: &Record<'_>) -> u128 {
     let mut sum: u128 = 0;
-    for param in record.params.iter() {
+    for param in record.params.as_slice().iter() {
         sum = sum.saturating_add(size_within(param));
     }
     sum
@@ -506,7 +577,7 @@ fn sizes_of_strings_and_binaries(rt: HostRuntime) -> Result<(), Fail> {
         rt.alloc(),
         piece(b"#1=A('ab',\"1F\",('\\X2\\00E4\\X0\\',7));"),
     )?;
-    assert_eq!(rt; record_size(&read.records[0]), 2 + 3 + 1);
+    assert_eq!(rt; record_size(&read.records.as_slice()[0]), 2 + 3 + 1);
     Ok(())
 }
 

@@ -66,6 +66,7 @@ fn kind(token: Token<'_>) -> FaultKind
 }
 
 /// Whether a token is this one.
+#[inline(always)]
 pub fn is(token: Token<'_>, wanted: Terminal) -> bool
     ensures { IsTrue result ↔ (symbol token.entry ≡ terminal_of wanted) }
 {

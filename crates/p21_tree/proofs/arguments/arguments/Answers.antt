@@ -16,7 +16,7 @@ returns-in_err-open-clause-fault c =
 
 pub returns-clause-ok : goal.returns-clause-ok
 returns-clause-ok c =
-    result_ok c.parameters.result _ _ (λ r h. covers_arguments c.args.source c.args.at r.1 c.args.left (placed c.in_ok-open.open) (plain_all r.0.items) c.in_ok-open.ensures.first c.in_ok-open.ensures.terminal h) c.parameters.ensures.ok
+    result_ok c.parameters.result _ _ (λ r h. covers_arguments c.args.source c.args.at r.1 c.args.left (placed c.in_ok-open.open) (plain_all r.0) c.in_ok-open.ensures.first c.in_ok-open.ensures.terminal h) c.parameters.ensures.ok
 
 pub returns-clause-fault : goal.returns-clause-fault
 returns-clause-fault c =

@@ -31,8 +31,8 @@ tokens-preserved c =
 
 pub returns-in-Closed-clause-ok : goal.returns-in-Closed-clause-ok
 returns-in-Closed-clause-ok c =
-    let e : step (state_of c.tokens.nest c.tokens.mode) (symbol c.token-lexed.result.token) ≡ closed (plain_all c.in-Closed.params.items) = sym c.in_ok-next.ensures ∙ ap (step_of c.take_token.new.nest) c.in-Closed.is in
-    covers_closed c.args.source c.args.at c.tokens.place c.args.left (state_of c.tokens.nest c.tokens.mode) (placed c.token-lexed.result) (plain_all c.in-Closed.params.items) c.tokens.invariant.reads c.token-lexed.ensures.first e
+    let e : step (state_of c.tokens.nest c.tokens.mode) (symbol c.token-lexed.result.token) ≡ closed (plain_all c.in-Closed.params) = sym c.in_ok-next.ensures ∙ ap (step_of c.take_token.new.nest) c.in-Closed.is in
+    covers_closed c.args.source c.args.at c.tokens.place c.args.left (state_of c.tokens.nest c.tokens.mode) (placed c.token-lexed.result) (plain_all c.in-Closed.params) c.tokens.invariant.reads c.token-lexed.ensures.first e
 
 pub returns-in-Refused-clause-fault : goal.returns-in-Refused-clause-fault
 returns-in-Refused-clause-fault c =

@@ -23,8 +23,8 @@ returns-in_err-body-clause-fault c =
 pub returns-in_err-semi-clause-fault : goal.returns-in_err-semi-clause-fault
 returns-in_err-semi-clause-fault c =
     exit_fault c.from_residual-in_err-semi.result (Fails EqualsOn 64 c.args.source c.args.at) c.in_err-semi.field-0.0 c.from_residual-in_err-semi.ensures.1
-    (fails_semi c.args.source c.args.at (placed c.in_ok-equals.equals) c.in_ok-equals.ensures.first c.in_ok-equals.ensures.terminal c.in_ok-body.body.after c.in_ok-body.body.complex (map plain_record c.in_ok-body.body.records.items) c.in_err-semi.field-0.0 c.in_ok-body.ensures.ok (c.in_err-semi.ensures.fault 64))
+    (fails_semi c.args.source c.args.at (placed c.in_ok-equals.equals) c.in_ok-equals.ensures.first c.in_ok-equals.ensures.terminal c.in_ok-body.body.after c.in_ok-body.body.complex (map plain_record c.in_ok-body.body.records) c.in_err-semi.field-0.0 c.in_ok-body.ensures.ok (c.in_err-semi.ensures.fault 64))
 
 pub returns-clause-ok : goal.returns-clause-ok
 returns-clause-ok c =
-    covers_instance c.args.source c.args.at (placed c.in_ok-equals.equals) c.in_ok-equals.ensures.first c.in_ok-equals.ensures.terminal c.in_ok-body.body.after c.args.name (c.args.source.base + c.args.start) c.in_ok-body.body.complex (map plain_record c.in_ok-body.body.records.items) (placed c.in_ok-semi.semi) c.in_ok-body.ensures.ok c.in_ok-semi.ensures.first c.in_ok-semi.ensures.terminal
+    covers_instance c.args.source c.args.at (placed c.in_ok-equals.equals) c.in_ok-equals.ensures.first c.in_ok-equals.ensures.terminal c.in_ok-body.body.after c.args.name (c.args.source.base + c.args.start) c.in_ok-body.body.complex (map plain_record c.in_ok-body.body.records) (placed c.in_ok-semi.semi) c.in_ok-body.ensures.ok c.in_ok-semi.ensures.first c.in_ok-semi.ensures.terminal

@@ -19,13 +19,13 @@ returns-in_err-params-clause-fault c =
 pub returns-in_err-semi-clause-fault : goal.returns-in_err-semi-clause-fault
 returns-in_err-semi-clause-fault c =
     exit_fault c.from_residual-in_err-semi.result (Fails EntityRest 63 c.args.source c.args.at) c.in_err-semi.field-0.0 c.from_residual-in_err-semi.ensures.1
-    (fails_entity_semi c.args.source c.args.at c.in_ok-params.after (plain_all c.in_ok-params.params.items) c.in_err-semi.field-0.0 c.in_ok-params.ensures.ok (c.in_err-semi.ensures.fault 63))
+    (fails_entity_semi c.args.source c.args.at c.in_ok-params.after (plain_all c.in_ok-params.params) c.in_err-semi.field-0.0 c.in_ok-params.ensures.ok (c.in_err-semi.ensures.fault 63))
 
 pub invariant_of-result : goal.invariant_of-result
 invariant_of-result c = record {
-  bodies = arguments_bodies c.args.source c.args.at c.in_ok-params.after 63 c.in_ok-params.params.items c.in_ok-params.ensures.ok;
+  bodies = arguments_bodies c.args.source c.args.at c.in_ok-params.after 63 c.in_ok-params.params c.in_ok-params.ensures.ok;
 }
 
 pub returns-clause-ok : goal.returns-clause-ok
 returns-clause-ok c =
-    covers_entity c.args.source c.args.at c.in_ok-params.after c.args.keyword.now (plain_all c.in_ok-params.params.items) (placed c.in_ok-semi.semi) c.in_ok-params.ensures.ok c.in_ok-semi.ensures.first c.in_ok-semi.ensures.terminal
+    covers_entity c.args.source c.args.at c.in_ok-params.after c.args.keyword.now (plain_all c.in_ok-params.params) (placed c.in_ok-semi.semi) c.in_ok-params.ensures.ok c.in_ok-semi.ensures.first c.in_ok-semi.ensures.terminal

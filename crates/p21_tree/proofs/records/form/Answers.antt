@@ -1,11 +1,11 @@
-use Rattle.std.proofs.Common.{◌≡◌, ◌++◌, ◌∷◌, [], map, sym, ap, ◌∙◌}
+use Rattle.std.proofs.Common.{map, true, sym, ap, subst, ◌∙◌}
 use Rattle.p21_text.specs.Spelling.{symbol}
 use Rattle.p21_text.specs.Tokens.{placed}
 use Rattle.p21_tree.specs.Grammar.{IsKey}
 use Rattle.p21_tree.specs.Keywords.{keyword_view}
 use Rattle.p21_tree.specs.Views.{plain_record}
-use Rattle.p21_tree.specs.Parts.{Arguments, SomeRecords, Form}
-use Rattle.p21_tree.specs.Progress.{Fails}
+use Rattle.p21_tree.specs.Parts.{Arguments, SomeRecords, Form, IsFormOf}
+use Rattle.p21_tree.specs.Progress.{Covers, Fails}
 use Rattle.p21_tree.proofs.RecordLemmas.{keyword_is, no_keyword, is_open, covers_record, covers_simple, covers_complex, fails_simple, fails_complex, fails_no_form}
 use Rattle.p21_tree.proofs.ExitLemmas.{exit_error}
 use Rattle.p21_tree.proofs.records.form.Goals as goal
@@ -21,7 +21,8 @@ returns-in_err-records-clause-fault c =
 
 pub returns-in-LParen-clause-ok : goal.returns-in-LParen-clause-ok
 returns-in-LParen-clause-ok c =
-    covers_complex c.args.source c.args.at c.in_ok-records.after 63 (placed c.token-lexed.result) (map plain_record c.in_ok-records.records.items) c.token-lexed.ensures.first (ap symbol c.in-LParen.is) c.in_ok-records.ensures.ok
+    subst (λ rs. Covers (λ ts. IsFormOf 64 ts true (map plain_record rs)) c.args.source c.args.at c.in_ok-records.after) (sym c.from_vec.ensures)
+    (covers_complex c.args.source c.args.at c.in_ok-records.after 63 (placed c.token-lexed.result) (map plain_record c.in_ok-records.records.items) c.token-lexed.ensures.first (ap symbol c.in-LParen.is) c.in_ok-records.ensures.ok)
 
 pub returns-in_default-keyword-clause-fault : goal.returns-in_default-keyword-clause-fault
 returns-in_default-keyword-clause-fault c =
@@ -36,6 +37,5 @@ returns-in_err-record-clause-fault c =
 
 pub returns-clause-ok : goal.returns-clause-ok
 returns-clause-ok c =
-    let e : c.push.new.self.items ≡ c.in_ok-record.record ∷ [] = c.in_ok-push.ensures.items ∙ ap (λ z. z ++ c.in_ok-record.record ∷ []) c.in_ok-records-2.ensures.items in
-    covers_simple c.args.source c.args.at c.in_ok-record.after 64 c.in_ok-record.record c.push.new.self.items e
+    covers_simple c.args.source c.args.at c.in_ok-record.after 64 c.in_ok-record.record c.lone.result c.lone.ensures
     (covers_record c.args.source c.args.at 63 (placed c.token-lexed.result) c.in-Some.keyword.now c.token-lexed.ensures.first (is_key (goal.at.returns-clause-ok c).In-Some) c.in_ok-record.after (plain_record c.in_ok-record.record) c.in_ok-record.ensures.ok)

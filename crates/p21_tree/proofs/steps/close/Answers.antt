@@ -8,13 +8,13 @@ use Rattle.p21_tree.specs.declared.params.Param.TheViews.{Items, Typed}
 use Rattle.p21_tree.proofs.OpenedLemmas.{none_of, popped_list, popped_typed, closed_base, closed_list, closed_typed, plain_items, plain_typed}
 use Rattle.p21_tree.proofs.steps.close.Goals as goal
 
-pub returns-in_ok-exactly-in-None : goal.returns-in_ok-exactly-in-None
-returns-in_ok-exactly-in-None c =
+pub returns-in_ok-closed-in-None : goal.returns-in_ok-closed-in-None
+returns-in_ok-closed-in-None c =
     let fs = c.args.nest.now.frames.items in
     let old = c.args.nest.now.current.items in
     let e : fs ≡ [] = none_of fs c.in-None.ensures.value in
-    closed_base (stack_of c.args.nest.now) old c.in_ok-exactly-in-None.field-0.items c.args.param c.args.nest.now.room
-    (ap (λ z. opened_all base z (plain_all old)) e) c.in_ok-exactly-in-None.ensures
+    closed_base (stack_of c.args.nest.now) old c.in_ok-closed-in-None.field-0 c.args.param c.args.nest.now.room
+    (ap (λ z. opened_all base z (plain_all old)) e) c.in_ok-closed-in-None.ensures
 
 pub returns-in_ok-items-in-Some-List : goal.returns-in_ok-items-in-Some-List
 returns-in_ok-items-in-Some-List c =
