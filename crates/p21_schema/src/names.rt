@@ -6,13 +6,15 @@ ghost use Rattle.p21_express.specs.WellFormed.{IsIn, AreDistinct};
 
 use indexmap::IndexSet;
 use p21_express::{EntityDecl, TypeDecl};
+use p21_hash::KeywordHasher;
 use std::alloc::{AllocError, Global};
+use std::hash::BuildHasherDefault;
 use std::marker::Model;
 
 /// Names that differ from each other, in order.
 #[derive(Drop)]
 pub(crate) struct Names {
-    set: IndexSet<Vec<u8>>,
+    set: IndexSet<Vec<u8>, BuildHasherDefault<KeywordHasher>>,
 }
 
 impl Model for Names {
@@ -28,7 +30,7 @@ impl Names {
         ensures { result ≡ [] }
     {
         Names {
-            set: IndexSet::new(alloc),
+            set: IndexSet::with_hasher(alloc, BuildHasherDefault::new()),
         }
     }
 
