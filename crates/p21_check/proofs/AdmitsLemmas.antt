@@ -1,5 +1,6 @@
 -- Instances that are asked for.
-use Rattle.std.proofs.Common.{◌≡◌, ◌↔◌, ℕ, ◌⊎◌, inl, inr, true, false, List, [], ◌∷◌, length, get_or, map, refl, sym, ap, subst, ◌∙◌}
+use Rattle.std.proofs.Common.{◌≡◌, ◌↔◌, ℕ, ◌⊎◌, inl, inr, Bool, true, false, Some, List, [], ◌∷◌, length, get_or, map, refl, sym, ap, subst, ◌∙◌}
+use Rattle.std.specs.Prelude.{IsTrue}
 use Rattle.std.proofs.lemmas.Bool.{false≢true}
 use Rattle.p21_express.specs.Schema.{Schema, Entity}
 use Rattle.p21_express.specs.WellFormed.{IsIn, IsEntity, IsSelect, IsAncestor, IsWellFormed, Leads, IsSupertype}
@@ -18,6 +19,9 @@ use Rattle.p21_check.specs.References.{IsWanted}
 use Rattle.p21_check.specs.References as wanted_is
 use Rattle.p21_check.specs.declared.wanted.Wanted.{Wanted}
 use Rattle.p21_check.specs.declared.wanted.Wanted.TheVariants as asked
+use Rattle.p21_check.specs.declared.entity_of.Named.{Named}
+use Rattle.p21_check.specs.declared.entity_of.Named.TheVariants as known_as
+use Rattle.p21_check.specs.EntityOf.{IsKnownAs}
 use Rattle.p21_check.specs.Wanted.{Admits, IsAsked, IsMetFrom, IsNamed, is_name}
 use Rattle.p21_check.proofs.NamedTypes.{in_map, no_select}
 use Rattle.p21_check.proofs.MetLemmas.{entity_is}
@@ -116,3 +120,15 @@ unknown_admits s i (asked.Select t) k ks none n (wanted_is.reached {e = m} h r s
 
 pub both : {P Q R : Type 0} → P ↔ Q → Q ↔ R → P ↔ R
 both a b = ((λ p. b.0 (a.0 p)), (λ r. a.1 (b.1 r)))
+
+some_one : {X : Type 0} {x y : X} → Some x ≡ Some y → x ≡ y
+some_one e = cc
+
+-- an instance that is known to be of an entity
+pub known_admits : (s : Schema) → IsWellFormed s → (i : Instance) (w : Wanted) (own : EntityId) (b : Bool) (known : Named) → known ≡ known_as.Simple own → IsKnownAs s (Some i) known → is_name w ≡ true → IsAsked s w → IsTrue b ↔ IsMetFrom s w own → IsTrue b ↔ Admits s w i
+known_admits s well i w own b known e k name a met =
+    let is = subst (IsKnownAs s (Some i)) e k in
+    let same : i ≡ is.0 = some_one is.1 in
+    let simple = is.2 in
+    subst (λ (j : Instance). IsTrue b ↔ Admits s w j) (sym same)
+    (both met (simple_admits s well is.0 w own (entity_name s own) simple.simple simple.keyword simple.known_ refl name a))

@@ -17,10 +17,11 @@ use Rattle.p21_check.specs.declared.wanted.Wanted.TheVariants as asked
 use Rattle.p21_check.specs.declared.walk.Bad.{Bad}
 use Rattle.p21_check.specs.declared.walk.Bad.TheVariants as bad
 use Rattle.p21_check.specs.declared.walk.FirstBad.{FirstBad}
-use Rattle.p21_check.specs.References.{Reference, Refers}
+use Rattle.p21_check.specs.References.{Reference, Refers, name_count}
 use Rattle.p21_check.specs.Sets.{CountsAmong}
 use Rattle.p21_check.specs.Wanted.{Asks, IsAskedBy, by_names}
 use Rattle.p21_check.specs.Walk.{FindsBad, IsAnswered, AreAnswered, IsBad}
+use Rattle.p21_check.proofs.WalkLemmas.{refers_below}
 use Rattle.p21_check.proofs.AnyLemmas.{zip_at, zip_length}
 use Rattle.p21_check.proofs.SlotLemmas.{counts_there, counts_among}
 use Rattle.p21_check.specs.Asked.{AskedBy, AsksAsCounted, RefersCounting, FindsFirst, IsFirst}
@@ -199,3 +200,7 @@ at_last s named InSet o cs ds i p W first are all h b = finish first (best_iff s
   finish : (first : Result (Unit {0}) Bad) → Best s named (AskedBy s InSet o p) W first → FindsFirst s named (AskedBy s InSet o p) first
   finish (Ok u) b = b.finds
   finish (Err e) b = b.finds.0
+
+-- where no instance name stands, nothing is asked
+pub no_names_asked : (s : Schema) (named : ℕ → Option Instance) (InSet : List ℕ → Type 0) (o : Origin) (p : Tree) → name_count p ≡ 0 → AreAnswered s named (AskedBy s InSet o p)
+no_names_asked s named InSet o p none k r a = let below = refers_below a.refers in absurd (omega (arith, none, below))

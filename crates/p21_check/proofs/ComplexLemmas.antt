@@ -176,17 +176,17 @@ module _ (s : Schema) (w : IsWellFormed s) (name at : ℕ) (rs : List Record) (k
   there : slice_get (map plain_record rs) k ≡ Some (plain_record x)
   there = record_at rs k x less ∙ ap (λ (y : Record). Some (plain_record y)) (sym is)
 
-  pub wrong_here : length x.params.items ≢ length os → HasWrongCount s (complex_instance name at rs) k
-  wrong_here h = wrong_at s w (complex_instance name at rs) k (plain_record x) there os are (λ e. h (sym (count_all x.params.items) ∙ e))
+  pub wrong_here : length x.params ≢ length os → HasWrongCount s (complex_instance name at rs) k
+  wrong_here h = wrong_at s w (complex_instance name at rs) k (plain_record x) there os are (λ e. h (sym (count_all x.params) ∙ e))
 
-  pub right_here : length x.params.items ≡ length os → ¬ (HasWrongCount s (complex_instance name at rs) k)
-  right_here h = not_wrong_at s w (complex_instance name at rs) k (plain_record x) there os are (count_all x.params.items ∙ h)
+  pub right_here : length x.params ≡ length os → ¬ (HasWrongCount s (complex_instance name at rs) k)
+  right_here h = not_wrong_at s w (complex_instance name at rs) k (plain_record x) there os are (count_all x.params ∙ h)
 
-  pub bad_here : (a : ℕ) (b : Bor (List Record)) → b.now ≡ rs → IsUnfitAt s (HasEntity s (set.Complex b)) os (plain_all x.params.items) a → HasBadAttribute s (complex_instance name at rs) k a
-  bad_here a b e u = bad_at s w (complex_instance name at rs) k (plain_record x) there os are a (unfit_along s (HasEntity s (set.Complex b)) (IsInSet s (complex_instance name at rs)) os (plain_all x.params.items) a (complex_set s name at rs b e) u)
+  pub bad_here : (a : ℕ) (b : Bor (List Record)) → b.now ≡ rs → IsUnfitAt s (HasEntity s (set.Complex b)) os (plain_all x.params) a → HasBadAttribute s (complex_instance name at rs) k a
+  bad_here a b e u = bad_at s w (complex_instance name at rs) k (plain_record x) there os are a (unfit_along s (HasEntity s (set.Complex b)) (IsInSet s (complex_instance name at rs)) os (plain_all x.params) a (complex_set s name at rs b e) u)
 
-  pub unfit_there : (a : ℕ) (b : Bor (List Record)) → b.now ≡ rs → HasBadAttribute s (complex_instance name at rs) k a → IsUnfitAt s (HasEntity s (set.Complex b)) os (plain_all x.params.items) a
-  unfit_there a b e u = unfit_along s (IsInSet s (complex_instance name at rs)) (HasEntity s (set.Complex b)) os (plain_all x.params.items) a (λ n. ((complex_set s name at rs b e n).1, (complex_set s name at rs b e n).0)) (unfit_at s w (complex_instance name at rs) k (plain_record x) there os are a u)
+  pub unfit_there : (a : ℕ) (b : Bor (List Record)) → b.now ≡ rs → HasBadAttribute s (complex_instance name at rs) k a → IsUnfitAt s (HasEntity s (set.Complex b)) os (plain_all x.params) a
+  unfit_there a b e u = unfit_along s (IsInSet s (complex_instance name at rs)) (HasEntity s (set.Complex b)) os (plain_all x.params) a (λ n. ((complex_set s name at rs b e n).1, (complex_set s name at rs b e n).0)) (unfit_at s w (complex_instance name at rs) k (plain_record x) there os are a u)
 
 pub no_wrong_behind : (s : Schema) (name at : ℕ) (rs : List Record) (k : ℕ) → length rs ≤ k → ¬ (HasWrongCount s (complex_instance name at rs) k)
 no_wrong_behind s name at rs k h x = let less = record_below rs k x.entry x.there in absurd (omega arith)

@@ -98,14 +98,14 @@ module _ {A : Type 0} where
   first_three (x ∷ y ∷ z ∷ xs) a b d h e f g = cc
 
 -- the first three header entities are those that must be there
-pub begins : (o : Opening) (es : List HeaderEntity) (a b d : HeaderEntity) (rest : List HeaderEntity) → o.entities ≡ map plain_entity es → es ≡ a ∷ b ∷ d ∷ rest → a.keyword.now ≡ codes "FILE_DESCRIPTION" → b.keyword.now ≡ codes "FILE_NAME" → d.keyword.now ≡ codes "FILE_SCHEMA" → BeginsWith o (plain_all d.params.items)
+pub begins : (o : Opening) (es : List HeaderEntity) (a b d : HeaderEntity) (rest : List HeaderEntity) → o.entities ≡ map plain_entity es → es ≡ a ∷ b ∷ d ∷ rest → a.keyword.now ≡ codes "FILE_DESCRIPTION" → b.keyword.now ≡ codes "FILE_NAME" → d.keyword.now ≡ codes "FILE_SCHEMA" → BeginsWith o (plain_all d.params)
 begins o es a b d rest e f first second third =
-    let x : plain_entity a ≡ entity (codes "FILE_DESCRIPTION") (plain_all a.params.items) = ap (λ k. entity k (plain_all a.params.items)) first in
-    let y : plain_entity b ≡ entity (codes "FILE_NAME") (plain_all b.params.items) = ap (λ k. entity k (plain_all b.params.items)) second in
-    let z : plain_entity d ≡ entity (codes "FILE_SCHEMA") (plain_all d.params.items) = ap (λ k. entity k (plain_all d.params.items)) third in
+    let x : plain_entity a ≡ entity (codes "FILE_DESCRIPTION") (plain_all a.params) = ap (λ k. entity k (plain_all a.params)) first in
+    let y : plain_entity b ≡ entity (codes "FILE_NAME") (plain_all b.params) = ap (λ k. entity k (plain_all b.params)) second in
+    let z : plain_entity d ≡ entity (codes "FILE_SCHEMA") (plain_all d.params) = ap (λ k. entity k (plain_all d.params)) third in
     record {
-      description = plain_all a.params.items;
-      name = plain_all b.params.items;
+      description = plain_all a.params;
+      name = plain_all b.params;
       others = map plain_entity rest;
       entities = e ∙ ap (map plain_entity) f ∙ cc;
     }

@@ -1,11 +1,14 @@
 -- An instance name, as types ask for it.
 use Rattle.std.proofs.Common.{◌≡◌, ℕ, ◌<◌, inl, inr, true, false, List, [], Option, Some, None, Err, refl, sym, ap, subst, ◌∙◌, arith}
-use Rattle.std.specs.Prelude.{option_map}
 use Rattle.std.proofs.lemmas.Bool.{false≢true}
 use Rattle.p21_express.specs.Schema.{Schema}
 use Rattle.p21_tree.specs.Tree.{reference}
 use Rattle.p21_tree.specs.Sentence.{Instance}
+use Rattle.p21_tree.specs.Views.{plain_instance}
 use Rattle.p21_schema.specs.Place.{entity_name, type_name}
+use Rattle.p21_check.specs.declared.entity_of.Named.{Named}
+use Rattle.p21_check.specs.declared.entity_of.Named.TheVariants as known
+use Rattle.p21_check.specs.EntityOf.{IsKnownAs}
 use Rattle.p21_check.specs.References.{Reference, IsWanted}
 use Rattle.p21_check.specs.declared.wanted.Wanted.{Wanted}
 use Rattle.p21_check.specs.declared.wanted.Wanted.TheVariants as asked
@@ -106,6 +109,8 @@ wrong_second s named v w n i e h = record {
   before_other = λ j r less a. absurd (below_none j less);
 }
 
-pub none_named : {X Y : Type 0} (f : X → Y) (o : Option X) (y : Option Y) → ((x : X) → ¬ (o ≡ Some x)) → option_map f o ≡ y → y ≡ None
-none_named f None y h e = sym e
-none_named f (Some x) y h e = absurd (h x refl)
+-- an instance has the name, and is known by the schema
+pub known_one : (s : Schema) (o : Option Instance) (k : Named) → IsKnownAs s o k → ¬ (k ≡ known.Missing) → (i : Instance) × (o ≡ Some i) × IsKnownAs s (Some i) k
+known_one s o known.Missing h there = absurd (there refl)
+known_one s o (known.Other r) h there = (plain_instance r.now, h, refl)
+known_one s o (known.Simple id) h there = (h.0, h.1, (h.0, refl, h.2))

@@ -1,7 +1,7 @@
 -- The declarations of an attribute, one by one, and what they make of its slot.
-use Rattle.std.proofs.Common.{◌≡◌, ◌⊎◌, ◌↔◌, ⊎_elim, inl, inr, ℕ, ◌+◌, ◌<◌, ◌≤◌, Bool, true, List, [], ◌∷◌, length, get_or, drop, refl, sym, ap, subst, arith}
+use Rattle.std.proofs.Common.{◌≡◌, ◌⊎◌, ◌↔◌, ⊎_elim, inl, inr, ℕ, ◌+◌, ◌<◌, ◌≤◌, Bool, true, List, [], ◌∷◌, length, get_or, drop, refl, sym, ap, subst, ◌∙◌, arith}
 use Rattle.p21_express.specs.Schema.{Schema, Expr}
-use Rattle.p21_express.specs.WellFormed.{IsIn, Origin}
+use Rattle.p21_express.specs.WellFormed.{IsIn, IsAncestor, IsWellFormed, Origin}
 use Rattle.p21_tree.specs.Tree.{Tree}
 use Rattle.p21_tree.specs.Tree as tree
 use Rattle.p21_schema.specs.declared.declarations.Declaration.{Declaration as Coded}
@@ -14,7 +14,7 @@ use Rattle.p21_check.specs.Conforms as conforms
 use Rattle.p21_check.specs.Known.{IsExpr}
 use Rattle.p21_check.specs.Slot.{DeclaresIn, IsDerived, Counts, FitsSlot, IsOptional, ConformsToForm}
 use Rattle.p21_check.specs.Slot as slot
-use Rattle.p21_check.specs.Sets.{AnyIn, Derives, EachIn, CountsAmong, FitsForm, FitsCounting}
+use Rattle.p21_check.specs.Sets.{AnyIn, Derives, IsAgainBelow, EachIn, CountsAmong, FitsForm, FitsCounting}
 use Rattle.p21_check.proofs.AnyLemmas.{any_here, any_further, any_nowhere, each_further, each_stops, each_done, zip_at, zip_length}
 
 -- ---- the code's declarations and the plain ones
@@ -160,3 +160,34 @@ module _ (s : Schema) (S : List ℕ → Type 0) (o : Origin) (ds : List Declarat
 
   pub fits_by_each : (t : Tree) → ¬ (IsDerived s S o) → EachIn ds (FitsCounting s S ds t) ↔ FitsSlot s S o t
   fits_by_each t h = (λ k. fits_there h k, λ k. fits_back h k)
+
+-- ---- an attribute with one declaration
+
+in_only : {d x : Declaration} → IsIn (d ∷ []) x → d ≡ x
+in_only (inl e) = e
+in_only (inr h) = elim h [ ]
+
+module _ (s : Schema) (well : IsWellFormed s) (S : List ℕ → Type 0) (o : Origin) (d : Declaration) (are : AreDeclarations s o (d ∷ [])) (t : Tree) where
+  -- nothing declares it again below
+  alone : ¬ (AnyIn (d ∷ []) (IsAgainBelow s S d.entity))
+  alone k = well.cycles.entities d.entity (subst (λ (x : Declaration). IsAncestor s x.entity d.entity) (sym (in_only k.1)) k.2.1)
+
+  counting : EachIn (d ∷ []) (FitsCounting s S (d ∷ []) t) ↔ (S d.entity → FitsForm s t d.form)
+  counting = (
+    λ each by. each d (inl refl) (by, alone),
+    λ fits x among. subst (FitsCounting s S (d ∷ []) t) (in_only among) (λ counts. fits counts.0),
+  )
+
+  pub outside_fits : ¬ (S d.entity) → FitsSlot s S o t
+  outside_fits out =
+      let whole : ¬ (IsDerived s S o) = λ h. let k = derived_among s S o (d ∷ []) are h in out (subst (λ (x : Declaration). S x.entity) (sym (in_only k.1)) k.2.0) in
+      (fits_by_each s S o (d ∷ []) are t whole).0 (counting.1 (λ by. absurd (out by)))
+
+  pub derived_fits : S d.entity → d.form ≡ form.derived → (t ≡ tree.derived) ↔ FitsSlot s S o t
+  derived_fits by e = fits_derived s S o (d ∷ []) are t (derived_there s S o (d ∷ []) are (d, inl refl, (by, e)))
+
+  pub explicit_fits : S d.entity → ¬ (d.form ≡ form.derived) → FitsForm s t d.form ↔ FitsSlot s S o t
+  explicit_fits by e =
+      let whole : ¬ (IsDerived s S o) = λ h. let k = derived_among s S o (d ∷ []) are h in e (ap (λ (x : Declaration). x.form) (in_only k.1) ∙ k.2.1) in
+      let each = fits_by_each s S o (d ∷ []) are t whole in
+      ((λ h. each.0 (counting.1 (λ _. h))), λ h. counting.0 (each.1 h) by)

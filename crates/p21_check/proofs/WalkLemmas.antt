@@ -23,7 +23,7 @@ use Rattle.p21_check.specs.Walk.{FindsBad, IsAnswered, AreAnswered, chosen}
 -- a reference stands within its parameter
 
 mutual
-  refers_below : {s : Schema} {x : Expr} {p : Tree} {k : ℕ} {r : Reference} → Refers s x p k r → k < name_count p
+  pub refers_below : {s : Schema} {x : Expr} {p : Tree} {k : ℕ} {r : Reference} → Refers s x p k r → k < name_count p
   refers_below (refers.entity h) = omega arith
   refers_below (refers.select h) = omega arith
   refers_below (refers.typed_as h reach r) = refers_below r
@@ -110,6 +110,14 @@ empty_among (asks.behind a) e = cc
 
 pub none_among : (s : Schema) (named : ℕ → Option Instance) (w : Wanted) → AreAnswered s named (AsksAmong s w nil)
 none_among s named w k r a = absurd (empty_among a refl)
+
+no_elements : {s : Schema} {w : Wanted} {ts : Trees} {k : ℕ} {r : Reference} → w ≡ asked.Nothing → AsksAmong s w ts k r → ⊥
+no_elements {s = s} {k = k} {r = r} e (asks.here {t = t} a) = subst (λ (u : Wanted). Asks s u t k r) e a
+no_elements e (asks.behind a) = no_elements e a
+
+-- where nothing is asked of elements, all are passed
+pub nothing_among : (s : Schema) (named : ℕ → Option Instance) (w : Wanted) (ts : Trees) → w ≡ asked.Nothing → AreAnswered s named (AsksAmong s w ts)
+nothing_among s named w ts e k r a = absurd (no_elements e a)
 
 -- a parameter that is no name, list or typed one
 abbrev pub IsLeaf : Tree → Type 0

@@ -48,7 +48,7 @@ IsUnknown s r = ¬ (IsEntity s r.keyword.now)
 
 -- the record has the number of parameters that a record of a complex instance has
 abbrev pub HasRightCount : Schema → Record → Type 0
-HasRightCount s r = (os : List Origin) × (AreAttributes s true r.keyword.now os × (length r.params.items ≡ length os))
+HasRightCount s r = (os : List Origin) × (AreAttributes s true r.keyword.now os × (length r.params ≡ length os))
 
 -- an entity stands in SUBTYPE OF of the record's that is not in the set
 abbrev pub LacksAbove : Schema → (List ℕ → Type 0) → Record → Type 0

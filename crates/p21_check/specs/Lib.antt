@@ -12,3 +12,5 @@ pub mod References
 pub mod Wanted
 pub mod Walk
 pub mod Asked
+pub mod EntityOf
+pub mod AmongTests

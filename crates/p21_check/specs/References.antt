@@ -35,6 +35,7 @@ abbrev mutual
   name_count (items ts) = names_count ts
   name_count (typed k t) = name_count t
 
+  -- the same of a list of trees
   pub names_count : Trees → ℕ
   names_count nil = 0
   names_count (cons t ts) = name_count t + names_count ts

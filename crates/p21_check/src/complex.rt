@@ -215,7 +215,7 @@ fn first_bad_attribute(schema: &Schema, records: &[Record<'_>]) -> Option<(usize
     for k in 0..records.len() {
         let record = &records[k];
         let entity = known(schema, record.keyword);
-        if let Some(attr) = first_unfit(schema, &set, true, entity, &record.params) {
+        if let Some(attr) = first_unfit(schema, &set, true, entity, record.params.as_slice()) {
             return Some((k, attr));
         }
     }

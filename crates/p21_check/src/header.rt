@@ -41,7 +41,7 @@ fn schema_string<'a>(preface: &Preface<'a>) -> Option<&'a [u8]>
     ensures { MatchOption result ((body : List ℕ) → ¬ (HasSchemaString (plain_preface preface.now) body)) (λ body. HasSchemaString (plain_preface preface.now) body.now × IsBody body.now) }
 {
     let schema = file_schema(preface)?;
-    let Param::Items(names) = only(&schema.params)? else {
+    let Param::Items(names) = only(schema.params.as_slice())? else {
         return None;
     };
     let Param::Str(body) = only(names)? else {
@@ -52,7 +52,7 @@ fn schema_string<'a>(preface: &Preface<'a>) -> Option<&'a [u8]>
 
 /// The third header entity, where the first three are those that must be there.
 fn file_schema<'p, 'a>(preface: &'p Preface<'a>) -> Option<&'p HeaderEntity<'a>>
-    ensures { MatchOption result ((params : Trees) → ¬ (BeginsWith (plain_preface preface.now) params)) (λ schema. BeginsWith (plain_preface preface.now) (plain_all schema.now.params.items)) }
+    ensures { MatchOption result ((params : Trees) → ¬ (BeginsWith (plain_preface preface.now) params)) (λ schema. BeginsWith (plain_preface preface.now) (plain_all schema.now.params)) }
 {
     let [description, name, schema, ..] = preface.entities.as_slice() else {
         return None;

@@ -1,10 +1,13 @@
 //! Checks of a file against its schema: of its header, of one instance by itself, and of its references.
 #![tactic(auto)]
 
+#[cfg(test)]
+mod among_tests;
 mod attributes;
 mod bounds;
 mod complex;
 mod conform;
+mod entity_of;
 mod entity_set;
 mod header;
 #[cfg(test)]
@@ -21,6 +24,7 @@ mod walk;
 mod wanted;
 mod width;
 
+pub use entity_of::{EntityOf, Named};
 pub use header::check_header;
 pub use local::check_local;
-pub use references::{TypeOf, check_references};
+pub use references::{TypeOf, check_references, check_references_among};

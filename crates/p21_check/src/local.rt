@@ -21,10 +21,11 @@ use p21_tree::{FaultKind, RawInstance, Record};
 pub fn check_local(schema: &Schema, instance: &RawInstance<'_>) -> Result<(), FaultKind>
     ensures { MatchResult result (λ _. IsLocalFault schema.now (plain_instance instance.now) None) (λ kind. IsLocalFault schema.now (plain_instance instance.now) (Some kind)) }
 {
+    let records = instance.records.as_slice();
     if instance.complex {
-        check_complex(schema, &instance.records)
+        check_complex(schema, records)
     } else {
-        check_simple(schema, &instance.records[0])
+        check_simple(schema, &records[0])
     }
 }
 
@@ -47,7 +48,7 @@ fn check_simple(schema: &Schema, entry: &Record<'_>) -> Result<(), FaultKind>
         &EntitySet::Simple(entity),
         false,
         entity,
-        &entry.params,
+        entry.params.as_slice(),
     ) {
         Some(attr) => Err(FaultKind::BadAttribute {
             rec: 0,

@@ -3,10 +3,11 @@
 ghost use Rattle.std.specs.Prelude.{◌≡◌, ℕ, List, Option, Some, None, length, option_map, MatchResult, OnErr};
 ghost use Rattle.p21_tree.specs.Sentence.{Instance};
 ghost use Rattle.p21_tree.specs.Views.{plain_instance, plain_record};
-ghost use Rattle.p21_express.specs.WellFormed.{IsEntity, Origin};
+ghost use Rattle.p21_express.specs.WellFormed.{Origin};
 ghost use Rattle.p21_check.specs.Attributes.{AreAttributes};
 ghost use Rattle.p21_tree.specs.Plain.{plain, plain_all};
 ghost use Rattle.p21_schema.specs.Declaration.{Declaration as Declared, AreResolvedIn, IsResolvedDeclaration};
+ghost use Rattle.p21_schema.specs.Place.{IsEntityOf, entity_name};
 ghost use Rattle.p21_schema.specs.Row.{IsAttributeOf, attribute_at};
 ghost use Rattle.p21_check.specs.Sets.{HasEntity, IsSetOf};
 ghost use Rattle.p21_check.specs.Asked.{AsksAsCounted, AskedBy, FindsFirst, FindsInRecord, IsReferenceAnswer};
@@ -15,12 +16,13 @@ ghost use Rattle.p21_check.specs.LocalFault.{IsLocalFault};
 ghost use Rattle.p21_check.specs.References.{IsReferenceFault};
 
 use crate::attributes::{attribute, attribute_count};
+use crate::entity_of::EntityOf;
 use crate::entity_set::EntitySet;
-use crate::judge::Answers;
+use crate::judge::{Entities, Keywords};
 use crate::slot::counts;
-use crate::walk::{Bad, walk};
+use crate::walk::{Bad, Judge, may_refer, walk};
 use crate::wanted::{Wanted, wanted_by};
-use p21_schema::{AttrId, Declaration, Form, Schema};
+use p21_schema::{AttrId, Declaration, EntityId, Form, Schema};
 use p21_tree::{FaultKind, Param, RawInstance, Record};
 use std::marker::PhantomData;
 
@@ -45,71 +47,113 @@ pub fn check_references<'m, 'a: 'm, M: TypeOf<'a>>(
     requires { IsLocalFault schema.now (plain_instance instance.now) None }
     ensures { MatchResult result (λ _. IsReferenceFault schema.now (M.named model.now) (plain_instance instance.now) None) (λ kind. IsReferenceFault schema.now (M.named model.now) (plain_instance instance.now) (Some kind)) }
 {
+    let keywords = Keywords {
+        schema,
+        model,
+        texts: PhantomData,
+    };
+    references(schema, instance, &keywords)
+}
+
+/// The first reference of an instance that is at fault, as `check_references` finds it, where the entities of the instances
+/// are known by this very schema. The instance has no fault by itself.
+pub fn check_references_among<'m, 'a: 'm, M: EntityOf<'a>>(
+    schema: &Schema,
+    instance: &RawInstance<'_>,
+    among: &'m M,
+) -> Result<(), FaultKind>
+    requires same { M.table among.now ≡ schema.now }
+    requires local { IsLocalFault schema.now (plain_instance instance.now) None }
+    ensures { MatchResult result (λ _. IsReferenceFault schema.now (M.named among.now) (plain_instance instance.now) None) (λ kind. IsReferenceFault schema.now (M.named among.now) (plain_instance instance.now) (Some kind)) }
+{
+    let entities = Entities {
+        among,
+        texts: PhantomData,
+    };
+    references(schema, instance, &entities)
+}
+
+/// The first reference of an instance that is at fault, by what judges instance names.
+fn references<J: Judge>(
+    schema: &Schema,
+    instance: &RawInstance<'_>,
+    judge: &J,
+) -> Result<(), FaultKind>
+    requires same { J.table judge.now ≡ schema.now }
+    requires local { IsLocalFault schema.now (plain_instance instance.now) None }
+    ensures { IsReferenceAnswer schema.now (J.named judge.now) (plain_instance instance.now) result }
+{
+    let records = instance.records.as_slice();
     if instance.complex {
-        complex_references(schema, &instance.records, model)
+        complex_references(schema, records, judge)
     } else {
-        simple_references(schema, &instance.records[0], model)
+        simple_references(schema, &records[0], judge)
     }
 }
 
 /// The first reference at fault of a simple instance, by its record.
-fn simple_references<'m, 'a: 'm, M: TypeOf<'a>>(
+fn simple_references<J: Judge>(
     schema: &Schema,
-    one: &Record<'a>,
-    model: &'m M,
+    one: &Record<'_>,
+    judge: &J,
 ) -> Result<(), FaultKind>
-    requires { (name : ℕ) × (at : ℕ) × IsLocalFault schema.now (simple_instance name at (plain_record one.now)) None }
-    ensures { (name : ℕ) → (at : ℕ) → IsReferenceAnswer schema.now (M.named model.now) (simple_instance name at (plain_record one.now)) result }
+    requires same { J.table judge.now ≡ schema.now }
+    requires local { (name : ℕ) × (at : ℕ) × IsLocalFault schema.now (simple_instance name at (plain_record one.now)) None }
+    ensures { (name : ℕ) → (at : ℕ) → IsReferenceAnswer schema.now (J.named judge.now) (simple_instance name at (plain_record one.now)) result }
 {
     schema.fits();
     let Some(own) = schema.entity(one.keyword) else {
         return Ok(());
     };
-    entry(schema, &EntitySet::Simple(own), false, 0, one, model)
+    entry(schema, &EntitySet::Simple(own), false, own, 0, one, judge)
 }
 
 /// The first reference at fault of a complex instance, by its records.
-fn complex_references<'m, 'a: 'm, M: TypeOf<'a>>(
+fn complex_references<J: Judge>(
     schema: &Schema,
-    records: &[Record<'a>],
-    model: &'m M,
+    records: &[Record<'_>],
+    judge: &J,
 ) -> Result<(), FaultKind>
-    requires { (name : ℕ) × (at : ℕ) × IsLocalFault schema.now (complex_instance name at records.now) None }
-    ensures { (name : ℕ) → (at : ℕ) → IsReferenceAnswer schema.now (M.named model.now) (complex_instance name at records.now) result }
+    requires same { J.table judge.now ≡ schema.now }
+    requires local { (name : ℕ) × (at : ℕ) × IsLocalFault schema.now (complex_instance name at records.now) None }
+    ensures { (name : ℕ) → (at : ℕ) → IsReferenceAnswer schema.now (J.named judge.now) (complex_instance name at records.now) result }
 {
     schema.fits();
     let set = EntitySet::Complex(records);
     for (rec, record) in records.iter().enumerate() {
-        if let Err(kind) = entry(schema, &set, true, rec as u64, record, model) {
+        let Some(own) = schema.entity(record.keyword) else {
+            return Ok(());
+        };
+        if let Err(kind) = entry(schema, &set, true, own, rec as u64, record, judge) {
             return Err(kind);
         }
     }
     Ok(())
 }
 
-/// Looks for the first reference at fault in a record, which has this place.
-fn entry<'m, 'a: 'm, M: TypeOf<'a>>(
+/// Looks for the first reference at fault in a record, which is of this entity and has this place.
+fn entry<J: Judge>(
     schema: &Schema,
     set: &EntitySet<'_, '_>,
     complex: bool,
+    entity: EntityId,
     rec: u64,
-    one: &Record<'a>,
-    model: &'m M,
+    one: &Record<'_>,
+    judge: &J,
 ) -> Result<(), FaultKind>
+    requires same { J.table judge.now ≡ schema.now }
     requires set { IsSetOf schema.now set.now }
-    requires known { ¬ (¬ (IsEntity schema.now one.now.keyword.now)) }
-    requires count { (os : List Origin) → AreAttributes schema.now complex one.now.keyword.now os → length one.now.params.items ≡ length os }
+    requires entity { IsEntityOf schema.now entity }
+    requires named { entity_name schema.now entity ≡ one.now.keyword.now }
+    requires count { (os : List Origin) → AreAttributes schema.now complex one.now.keyword.now os → length one.now.params ≡ length os }
     ensures attributes { OnErr result ((os : List Origin) × AreAttributes schema.now complex one.now.keyword.now os) }
-    ensures found { (os : List Origin) → AreAttributes schema.now complex one.now.keyword.now os → FindsInRecord schema.now (M.named model.now) (HasEntity schema.now set.now) os (plain_all one.now.params.items) rec result }
+    ensures found { (os : List Origin) → AreAttributes schema.now complex one.now.keyword.now os → FindsInRecord schema.now (J.named judge.now) (HasEntity schema.now set.now) os (plain_all one.now.params) rec result }
 {
-    let Some(entity) = schema.entity(one.keyword) else {
-        return Ok(());
-    };
     // There are attributes, as many as parameters.
     let _count = attribute_count(schema, complex, entity);
-    for (attr, param) in one.params.iter().enumerate() {
+    for (attr, param) in one.params.as_slice().iter().enumerate() {
         let attribute = attribute(schema, complex, entity, attr);
-        if let Err(bad) = parameter(schema, set, attribute, param, model) {
+        if let Err(bad) = parameter(schema, set, attribute, param, judge) {
             return Err(bad.at(rec, attr as u64));
         }
     }
@@ -117,28 +161,27 @@ fn entry<'m, 'a: 'm, M: TypeOf<'a>>(
 }
 
 /// Looks for the first reference at fault in a parameter for an attribute.
-fn parameter<'m, 'a: 'm, M: TypeOf<'a>>(
+fn parameter<J: Judge>(
     schema: &Schema,
     set: &EntitySet<'_, '_>,
     attribute: AttrId,
-    param: &Param<'a>,
-    model: &'m M,
+    param: &Param<'_>,
+    judge: &J,
 ) -> Result<(), Bad>
+    requires same { J.table judge.now ≡ schema.now }
     requires set { IsSetOf schema.now set.now }
     requires attribute { IsAttributeOf schema.now attribute }
-    ensures { FindsFirst schema.now (M.named model.now) (AskedBy schema.now (HasEntity schema.now set.now) (attribute_at schema.now attribute) (plain param.now)) result }
+    ensures { FindsFirst schema.now (J.named judge.now) (AskedBy schema.now (HasEntity schema.now set.now) (attribute_at schema.now attribute) (plain param.now)) result }
 {
+    if !may_refer(param) {
+        return Ok(());
+    }
     let declarations = schema.declarations(attribute);
-    let answers = Answers {
-        schema,
-        model,
-        texts: PhantomData,
-    };
     let mut first = Ok(());
     let mut wanted = Wanted::Nothing;
     for declaration in declarations {
         let other = asked_by(schema, set, declarations, declaration);
-        if let Err(found) = walk(schema, &answers, wanted, other, param) {
+        if let Err(found) = walk(schema, judge, wanted, other, param) {
             if found.second {
                 wanted = other;
             }

@@ -1,10 +1,10 @@
 //! Whether a parameter may be given for an attribute.
 
-ghost use Rattle.std.specs.Prelude.{◌≡◌, ◌↔◌, List, IsTrue};
-ghost use Rattle.p21_express.specs.WellFormed.{IsAncestor};
+ghost use Rattle.std.specs.Prelude.{◌≡◌, ◌↔◌, List, [], ◌∷◌, IsTrue};
+ghost use Rattle.p21_express.specs.WellFormed.{IsAncestor, Origin};
 ghost use Rattle.p21_tree.specs.Plain.{plain};
 ghost use Rattle.p21_tree.specs.Bodies.{HasBodies};
-ghost use Rattle.p21_schema.specs.Declaration.{Declaration as Declared, Form as DeclaredForm, AreResolvedIn, IsResolvedDeclaration, IsResolvedForm};
+ghost use Rattle.p21_schema.specs.Declaration.{Declaration as Declared, Form as DeclaredForm, AreDeclarations, AreResolvedIn, IsResolvedDeclaration, IsResolvedForm};
 ghost use Rattle.p21_schema.specs.Place.{IsEntityOf, entity_name};
 ghost use Rattle.p21_schema.specs.Row.{IsAttributeOf, attribute_at};
 ghost use Rattle.p21_check.specs.Slot.{FitsSlot};
@@ -30,10 +30,36 @@ pub(crate) fn fits_slot(
     ensures { IsTrue result ↔ FitsSlot schema.now (HasEntity schema.now set.now) (attribute_at schema.now attribute) (plain param.now) }
 {
     let declarations = schema.declarations(attribute);
+    // Nearly all attributes are declared once.
+    if let [only] = declarations {
+        return fits_only(schema, set, only, param);
+    }
     if is_derived(schema, set, declarations) {
         simple::is_derived(param)
     } else {
         fits_each(schema, set, declarations, param)
+    }
+}
+
+/// Whether a parameter may be given for an attribute that has one declaration, which nothing declares again.
+fn fits_only(
+    schema: &Schema,
+    set: &EntitySet<'_, '_>,
+    only: &Declaration,
+    param: &Param<'_>,
+) -> bool
+    requires set { IsSetOf schema.now set.now }
+    requires only { (d : Declared) × IsResolvedDeclaration schema.now only.now d }
+    requires bodies { HasBodies (plain param.now) }
+    ensures { (o : Origin) → (d : Declared) → AreDeclarations schema.now o (d ∷ []) → IsResolvedDeclaration schema.now only.now d → (IsTrue result ↔ FitsSlot schema.now (HasEntity schema.now set.now) o (plain param.now)) }
+{
+    schema.fits();
+    if !is_in_set(schema, set, only.entity) {
+        return true;
+    }
+    match &only.form {
+        Form::Derived => simple::is_derived(param),
+        Form::Explicit { optional, texpr } => is_element(schema, texpr, *optional, param),
     }
 }
 

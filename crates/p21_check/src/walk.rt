@@ -1,10 +1,11 @@
 //! The references in a parameter, from the left.
 
-ghost use Rattle.std.specs.Prelude.{◌≡◌, ℕ, Option};
-ghost use Rattle.p21_express.specs.Schema.{Schema};
+ghost use Rattle.std.specs.Prelude.{◌≡◌, ℕ, false, Option};
+ghost use Rattle.p21_express.specs.Schema.{Schema as Declared};
 ghost use Rattle.p21_tree.specs.Plain.{plain};
 ghost use Rattle.p21_tree.specs.Sentence.{Instance};
 ghost use Rattle.p21_tree.specs.Tree.{reference};
+ghost use Rattle.p21_check.specs.References.{name_count};
 ghost use Rattle.p21_check.specs.Wanted.{Asks, IsAsked};
 ghost use Rattle.p21_check.specs.Walk.{FindsBad};
 
@@ -43,17 +44,24 @@ pub(crate) struct FirstBad {
     pub(crate) second: bool,
 }
 
-/// What judges an instance name.
+/// What judges an instance name. `walk` calls itself, so its bound names no lifetime.
 pub(crate) trait Judge {
-    ghost table: { Self → Schema };
+    ghost table: { Self → Declared };
 
     ghost named: { Self → ℕ → Option Instance };
 
     /// Whether the name is answered as two types ask.
-    fn judge(&self, first: Wanted<'_>, second: Wanted<'_>, name: u64) -> Result<(), FirstBad>
-        requires first { IsAsked (table self.now) first }
-        requires second { IsAsked (table self.now) second }
-        ensures { FindsBad (table self.now) (named self.now) (Asks (table self.now) first.entry (reference name)) (Asks (table self.now) second.entry (reference name)) result };
+    fn judge(
+        &self,
+        schema: &Schema,
+        first: Wanted<'_>,
+        second: Wanted<'_>,
+        name: u64,
+    ) -> Result<(), FirstBad>
+        requires table { table self.now ≡ schema.now }
+        requires first { IsAsked schema.now first }
+        requires second { IsAsked schema.now second }
+        ensures { FindsBad schema.now (named self.now) (Asks schema.now first.entry (reference name)) (Asks schema.now second.entry (reference name)) result };
 }
 
 /// Looks for the first reference in a parameter that is at fault against one of two types.
@@ -69,11 +77,18 @@ pub(crate) fn walk<'s, J: Judge>(
     requires second { IsAsked schema.now second }
     ensures { FindsBad schema.entry.now (J.named judge.now) (Asks schema.entry.now first.entry (plain param.now)) (Asks schema.entry.now second.entry (plain param.now)) result }
 {
+    if first.is_nothing() && second.is_nothing() {
+        return Ok(());
+    }
     match param {
-        Param::Ref(name) => judge.judge(first, second, *name),
+        Param::Ref(name) => judge.judge(schema, first, second, *name),
         Param::Items(items) => {
             let of_first = first.elements(schema);
             let of_second = second.elements(schema);
+            // Lists of numbers are many and long.
+            if of_first.is_nothing() && of_second.is_nothing() {
+                return Ok(());
+            }
             for item in items {
                 if let Err(found) = walk(schema, judge, of_first, of_second, item) {
                     return Err(found);
@@ -88,4 +103,11 @@ pub(crate) fn walk<'s, J: Judge>(
         }
         _ => Ok(()),
     }
+}
+
+/// Whether an instance name may stand in the parameter.
+pub(crate) fn may_refer(param: &Param<'_>) -> bool
+    ensures { result ≡ false → name_count (plain param.now) ≡ 0 }
+{
+    matches!(param, Param::Ref(_) | Param::Items(_) | Param::Typed(_, _))
 }

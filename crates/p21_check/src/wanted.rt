@@ -1,11 +1,14 @@
 //! What a type asks of the references in a parameter.
 
-ghost use Rattle.std.specs.Prelude.{◌≡◌, ◌↔◌, List, ℕ, Some, IsTrue, map};
+ghost use Rattle.std.specs.Prelude.{◌≡◌, ◌↔◌, true, List, ℕ, Some, IsTrue, map};
 ghost use Rattle.p21_express.specs.Schema.{Schema, Expr, named};
+ghost use Rattle.p21_tree.specs.Sentence.{Instance};
 ghost use Rattle.p21_tree.specs.Views.{plain_instance, plain_record};
 ghost use Rattle.p21_schema.specs.Place.{IsEntityOf, IsTypeOf, type_name};
+ghost use Rattle.p21_check.specs.EntityOf.{IsKnownAs};
 ghost use Rattle.p21_check.specs.Wanted.{by_names, is_name, IsAsked, IsAskedBy, IsAskedOfElements, IsAskedInside, Admits, IsNamed, IsMetBy, IsMetFrom};
 
+use crate::entity_of::Named;
 use p21_schema::{EntityId, Resolved, ResolvedExpr, Schema, Target, TypeId};
 use p21_tree::{RawInstance, Record};
 
@@ -64,6 +67,8 @@ fn plainly_wanted(texpr: &ResolvedExpr) -> Wanted<'_>
 }
 
 impl<'s> Wanted<'s> {
+    ghost use Rattle.p21_check.specs.declared.wanted.Wanted.TheVariants as asked;
+
     /// What is asked of the elements of a list.
     pub(crate) fn elements(self, schema: &'s Schema) -> Wanted<'s>
         requires { IsAsked schema.now self }
@@ -89,26 +94,51 @@ impl<'s> Wanted<'s> {
         }
     }
 
+    /// Whether nothing is asked for.
+    #[inline]
+    pub(crate) fn is_nothing(self) -> bool
+        ensures { IsTrue result ↔ (self.entry ≡ asked.Nothing) }
+    {
+        matches!(self, Wanted::Nothing)
+    }
+
     /// Whether an instance name is asked for.
+    #[inline]
     pub(crate) fn is_name(self) -> bool
         ensures { result ≡ is_name self.entry }
     {
         matches!(self, Wanted::Entity(_) | Wanted::Select(_))
     }
 
-    /// Whether the instance is of an entity that is wanted. None is wanted where no instance name is asked for.
-    pub(crate) fn admits(self, schema: &Schema, instance: &RawInstance<'_>) -> bool
-        requires { IsAsked schema.now self }
-        ensures { IsTrue result ↔ Admits schema.now self.entry (plain_instance instance.now) }
+    /// Whether the instance of a name is of an entity that is wanted. None is wanted where no instance name is asked for.
+    pub(crate) fn admits(self, schema: &Schema, named: Named<'_, '_>) -> bool
+        requires asked { IsAsked schema.now self }
+        requires known { (i : Instance) × IsKnownAs schema.now (Some i) named }
+        ensures { (i : Instance) → IsKnownAs schema.now (Some i) named.entry → (IsTrue result ↔ Admits schema.now self.entry i) }
     {
         if !self.is_name() {
             return true;
         }
         schema.fits();
-        if instance.complex {
-            return self.is_named(schema, &instance.records);
+        match named {
+            Named::Missing => false,
+            Named::Simple(own) => self.is_met_from(schema, own),
+            Named::Other(instance) => self.admits_records(schema, instance),
         }
-        match schema.entity(instance.records[0].keyword) {
+    }
+
+    /// Whether the instance is of an entity that is wanted, by its records.
+    fn admits_records(self, schema: &Schema, instance: &RawInstance<'_>) -> bool
+        requires asked { IsAsked schema.now self }
+        requires name { is_name self ≡ true }
+        ensures { IsTrue result ↔ Admits schema.now self.entry (plain_instance instance.now) }
+    {
+        schema.fits();
+        let records = instance.records.as_slice();
+        if instance.complex {
+            return self.is_named(schema, records);
+        }
+        match schema.entity(records[0].keyword) {
             Some(own) => self.is_met_from(schema, own),
             None => false,
         }

@@ -26,8 +26,8 @@ returns-then-attribute_count-len-clause-wrong c = λ name at.
     let among : IsIn rs x = subst (IsIn rs) (sym c.index-records-k.is) (at_index rs k x less) in
     let count = c.attribute_count.ensures in
     let are : AreAttributes c.args.schema.now true x.keyword.now count.0 = subst (λ n. AreAttributes c.args.schema.now true n count.0) c.known-entity.ensures.1 count.1.0 in
-    let long : c.len.result ≡ length x.params.items = c.len.ensures ∙ x.params.ok.0 in
-    let differ : length x.params.items ≢ length count.0 = λ e. c.if-attribute_count-len.true (count.1.1 ∙ sym e ∙ sym long) in
+    let long : c.len.result ≡ length x.params = c.len.ensures in
+    let differ : length x.params ≢ length count.0 = λ e. c.if-attribute_count-len.true (count.1.1 ∙ sym e ∙ sym long) in
     (wrong_here c.args.schema.now c.fits.ensures name at rs k x less c.index-records-k.is count.0 are differ, c.loop-k.invariant.none name at)
 
 pub loop-k-preserved : goal.loop-k-preserved
@@ -39,8 +39,8 @@ loop-k-preserved c =
     let among : IsIn rs x = subst (IsIn rs) (sym c.index-records-k.is) (at_index rs k x less) in
     let count = c.attribute_count.ensures in
     let are : AreAttributes c.args.schema.now true x.keyword.now count.0 = subst (λ n. AreAttributes c.args.schema.now true n count.0) c.known-entity.ensures.1 count.1.0 in
-    let long : c.len.result ≡ length x.params.items = c.len.ensures ∙ x.params.ok.0 in
-    let same : length x.params.items ≡ length count.0 = sym long ∙ sym c.if-attribute_count-len.false ∙ count.1.1 in
+    let long : c.len.result ≡ length x.params = c.len.ensures in
+    let same : length x.params ≡ length count.0 = sym long ∙ sym c.if-attribute_count-len.false ∙ count.1.1 in
     record {
       none = λ name at. none_more (HasWrongCount c.args.schema.now (complex_instance name at rs)) k (c.loop-k.invariant.none name at) (right_here c.args.schema.now c.fits.ensures name at rs k x less c.index-records-k.is count.0 are same);
       right = each_further (HasRightCount c.args.schema.now) rs k x less (subst (HasRightCount c.args.schema.now) c.index-records-k.is (count.0, (are, same))) c.loop-k.invariant.right;

@@ -40,9 +40,9 @@ returns-then-attribute_count-len c = λ name at.
     let whole = simple_whole s name at e in
     let count = c.attribute_count.ensures in
     let are : AreAttributes s false e.keyword count.0 = subst (λ n. AreAttributes s false n count.0) found.1 count.1.0 in
-    let long : c.len.result ≡ length c.args.entry.now.params.items = c.len.ensures ∙ c.args.entry.now.params.ok.0 in
-    let differ : length c.args.entry.now.params.items ≢ length count.0 = λ f. c.if-attribute_count-len.true (count.1.1 ∙ sym f ∙ sym long) in
-    wrong_count s i known concrete whole 0 (wrong_at s c.fits.ensures i 0 e refl count.0 are (λ f. differ (sym (count_all c.args.entry.now.params.items) ∙ f))) (λ q h. absurd (omega arith))
+    let long : c.len.result ≡ length c.args.entry.now.params = c.len.ensures in
+    let differ : length c.args.entry.now.params ≢ length count.0 = λ f. c.if-attribute_count-len.true (count.1.1 ∙ sym f ∙ sym long) in
+    wrong_count s i known concrete whole 0 (wrong_at s c.fits.ensures i 0 e refl count.0 are (λ f. differ (sym (count_all c.args.entry.now.params) ∙ f))) (λ q h. absurd (omega arith))
 
 pub returns-in-Some-first_unfit : goal.returns-in-Some-first_unfit
 returns-in-Some-first_unfit c = λ name at.
@@ -57,13 +57,13 @@ returns-in-Some-first_unfit c = λ name at.
     let whole = simple_whole s name at e in
     let count = c.attribute_count.ensures in
     let are : AreAttributes s false e.keyword count.0 = subst (λ n. AreAttributes s false n count.0) found.1 count.1.0 in
-    let long : c.len.result ≡ length c.args.entry.now.params.items = c.len.ensures ∙ c.args.entry.now.params.ok.0 in
-    let same : length c.args.entry.now.params.items ≡ length count.0 = sym long ∙ sym c.if-attribute_count-len.false ∙ count.1.1 in
-    let counted = simple_counted s name at e (not_wrong_at s c.fits.ensures i 0 e refl count.0 are (count_all c.args.entry.now.params.items ∙ same)) in
+    let long : c.len.result ≡ length c.args.entry.now.params = c.len.ensures in
+    let same : length c.args.entry.now.params ≡ length count.0 = sym long ∙ sym c.if-attribute_count-len.false ∙ count.1.1 in
+    let counted = simple_counted s name at e (not_wrong_at s c.fits.ensures i 0 e refl count.0 are (count_all c.args.entry.now.params ∙ same)) in
     let S = HasEntity s (set.Simple id) in
     let there = simple_set s name at e id found.0 found.1 in
     let a = c.in-Some-first_unfit.attr in
-    let unfit = subst (λ (l : List Param). IsFirstUnfit s S count.0 (plain_all l) (Some a)) c.deref.ensures.value (c.in-Some-first_unfit.ensures count.0 count.1.0) in
+    let unfit = subst (λ (l : List Param). IsFirstUnfit s S count.0 (plain_all l) (Some a)) c.as_slice.ensures (c.in-Some-first_unfit.ensures count.0 count.1.0) in
     bad_attribute s i known concrete whole counted 0 a
     (bad_at s c.fits.ensures i 0 e refl count.0 are a (unfit_along s S (IsInSet s i) count.0 e.params a there unfit.0))
     (λ q b h. absurd (omega arith))
@@ -82,10 +82,10 @@ returns-in-None c = λ name at.
     let whole = simple_whole s name at e in
     let count = c.attribute_count.ensures in
     let are : AreAttributes s false e.keyword count.0 = subst (λ n. AreAttributes s false n count.0) found.1 count.1.0 in
-    let long : c.len.result ≡ length c.args.entry.now.params.items = c.len.ensures ∙ c.args.entry.now.params.ok.0 in
-    let same : length c.args.entry.now.params.items ≡ length count.0 = sym long ∙ sym c.if-attribute_count-len.false ∙ count.1.1 in
-    let counted = simple_counted s name at e (not_wrong_at s c.fits.ensures i 0 e refl count.0 are (count_all c.args.entry.now.params.items ∙ same)) in
+    let long : c.len.result ≡ length c.args.entry.now.params = c.len.ensures in
+    let same : length c.args.entry.now.params ≡ length count.0 = sym long ∙ sym c.if-attribute_count-len.false ∙ count.1.1 in
+    let counted = simple_counted s name at e (not_wrong_at s c.fits.ensures i 0 e refl count.0 are (count_all c.args.entry.now.params ∙ same)) in
     let S = HasEntity s (set.Simple id) in
     let there = simple_set s name at e id found.0 found.1 in
-    let fit = subst (λ (l : List Param). IsFirstUnfit s S count.0 (plain_all l) None) c.deref.ensures.value (c.in-None.ensures count.0 count.1.0) in
+    let fit = subst (λ (l : List Param). IsFirstUnfit s S count.0 (plain_all l) None) c.as_slice.ensures (c.in-None.ensures count.0 count.1.0) in
     no_fault s i known concrete whole counted (simple_fit s name at e (λ b bad. fit b (unfit_along s (IsInSet s i) S count.0 e.params b (λ n. ((there n).1, (there n).0)) (unfit_at s c.fits.ensures i 0 e refl count.0 are b bad))))

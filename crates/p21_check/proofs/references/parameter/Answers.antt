@@ -5,7 +5,7 @@ use Rattle.p21_schema.specs.Row.{attribute_at}
 use Rattle.p21_check.specs.Asked.{RefersCounting}
 use Rattle.p21_check.specs.Sets.{HasEntity}
 use Rattle.p21_check.specs.Wanted.{Asks}
-use Rattle.p21_check.proofs.AskedLemmas.{AskedUpTo, resolved_at, place_below, stepped, after_first, after_second, best_same, at_last, no_declaration}
+use Rattle.p21_check.proofs.AskedLemmas.{AskedUpTo, resolved_at, place_below, no_names_asked, stepped, after_first, after_second, best_same, at_last, no_declaration}
 use Rattle.p21_check.proofs.references.parameter.Goals as goal
 use Rattle.p21_check.proofs.references.parameter.Goals.{in-Err+then-found, in-Err+else-found, in_default}
 
@@ -23,7 +23,7 @@ walk-requires-clause-second g c =
 pub loop-declaration-preserved : goal.loop-declaration-preserved
 loop-declaration-preserved g c =
     let s = c.args.schema.now in
-    let named = g.M.TypeOf.named c.args.model.now in
+    let named = g.J.Judge.named c.args.judge.now in
     let set = HasEntity s c.args.set.now in
     let cs = c.declarations-declarations.result.now in
     let i = c.loop-declaration.declaration-index in
@@ -59,4 +59,7 @@ returns g c =
     let s = c.args.schema.now in
     let ds = c.declarations-declarations.ensures in
     let p = plain c.args.param.now in
-    at_last s (g.M.TypeOf.named c.args.model.now) (HasEntity s c.args.set.now) (attribute_at s c.args.attribute) c.declarations-declarations.result.now ds.0 c.loop-declaration.declaration-index p (Asks s c.loop-declaration.wanted p) c.loop-declaration.first ds.1.0 ds.1.1 c.loop-declaration-test.false (c.loop-declaration.invariant.1 ds.0 ds.1.1)
+    at_last s (g.J.Judge.named c.args.judge.now) (HasEntity s c.args.set.now) (attribute_at s c.args.attribute) c.declarations-declarations.result.now ds.0 c.loop-declaration.declaration-index p (Asks s c.loop-declaration.wanted p) c.loop-declaration.first ds.1.0 ds.1.1 c.loop-declaration-test.false (c.loop-declaration.invariant.1 ds.0 ds.1.1)
+
+pub returns-then-not-may_refer : goal.returns-then-not-may_refer
+returns-then-not-may_refer g c = no_names_asked c.args.schema.now (g.J.Judge.named c.args.judge.now) (HasEntity c.args.schema.now c.args.set.now) (attribute_at c.args.schema.now c.args.attribute) (plain c.args.param.now) (c.may_refer.ensures c.if-not-may_refer.true)

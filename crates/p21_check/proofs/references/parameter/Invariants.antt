@@ -10,4 +10,4 @@ use Rattle.p21_check.proofs.references.parameter.Given as goal
 abbrev pub invariant-loop-declaration : goal.invariant-loop-declaration
 invariant-loop-declaration g l =
     IsAsked l.schema l.wanted
-    × ((ds : List Declaration) → AreResolvedIn l.schema l.declarations ds → Best l.schema (g.M.TypeOf.named l.model) (AskedUpTo l.schema (HasEntity l.schema l.set) ds l.declaration-index (plain l.param)) (Asks l.schema l.wanted (plain l.param)) l.first)
+    × ((ds : List Declaration) → AreResolvedIn l.schema l.declarations ds → Best l.schema (g.J.Judge.named l.judge) (AskedUpTo l.schema (HasEntity l.schema l.set) ds l.declaration-index (plain l.param)) (Asks l.schema l.wanted (plain l.param)) l.first)

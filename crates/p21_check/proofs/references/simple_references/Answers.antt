@@ -9,18 +9,17 @@ use Rattle.p21_check.proofs.RecordLemmas.{record_known, record_counted, last_ans
 use Rattle.p21_check.proofs.references.simple_references.Goals as goal
 
 pub returns-in_default : goal.returns-in_default
-returns-in_default g c name at = absurd (record_known c.args.schema.now (simple_instance c.requires.0 c.requires.1 (plain_record c.args.one.now)) 0 (plain_record c.args.one.now) c.requires.2 refl c.in_default.ensures)
+returns-in_default g c name at = absurd (record_known c.args.schema.now (simple_instance c.requires.local.0 c.requires.local.1 (plain_record c.args.one.now)) 0 (plain_record c.args.one.now) c.requires.local.2 refl c.in_default.ensures)
 
-pub entry-requires : goal.entry-requires
-entry-requires g c κs =
-    let s = c.args.schema.now in
+pub entry-requires-clause-count : goal.entry-requires-clause-count
+entry-requires-clause-count g c os are =
+    let local = c.requires.local in
     let e = plain_record c.args.one.now in
-    let i = simple_instance c.requires.0 c.requires.1 e in
-    ((refl, (refl, tt)), (c.in-Some.ensures.0, (record_known s i 0 e c.requires.2 refl, λ os are. sym (count_all c.args.one.now.params.items) ∙ record_counted s i 0 e c.requires.2 refl os are)))
+    sym (count_all c.args.one.now.params) ∙ record_counted c.args.schema.now (simple_instance local.0 local.1 e) 0 e local.2 refl os are
 
 pub returns : goal.returns
 returns g c name at =
     let s = c.args.schema.now in
     let e = plain_record c.args.one.now in
     let own = c.in-Some.own in
-    last_answer s c.fits.ensures (g.M.TypeOf.named c.args.model.now) (simple_instance name at e) (HasEntity s (set.Simple own)) (simple_set s name at e own c.in-Some.ensures.0 c.in-Some.ensures.1) 0 e refl (omega arith) (λ r a p f less. absurd (omega (arith, less))) c.entry.result c.entry.ensures.attributes c.entry.ensures.found
+    last_answer s c.fits.ensures (g.J.Judge.named c.args.judge.now) (simple_instance name at e) (HasEntity s (set.Simple own)) (simple_set s name at e own c.in-Some.ensures.0 c.in-Some.ensures.1) 0 e refl (omega arith) (λ r a p f less. absurd (omega (arith, less))) c.entry.result c.entry.ensures.attributes c.entry.ensures.found

@@ -1,0 +1,100 @@
+//! References among instances whose entities are known, by example.
+
+ghost use Rattle.p21_schema.specs.Place.{IsEntityOf};
+
+use crate::{EntityOf, Named, check_local, check_references_among};
+use p21_express::read_declarations;
+use p21_schema::{EntityId, Schema};
+use p21_tree::{FaultKind, Piece, RawInstance, read_piece};
+use std::alloc::Global;
+use std::test::Fail;
+
+const TOY: &[u8] = b"SCHEMA Toy;\n\
+ENTITY Item; END_ENTITY;\n\
+ENTITY Special SUBTYPE OF (Item); END_ENTITY;\n\
+ENTITY Owner; Owns : Special; END_ENTITY;\n\
+ENTITY Group; Members : LIST OF Item; Sizes : LIST OF REAL; END_ENTITY;\n\
+END_SCHEMA;";
+
+/// Two instances: `#2`, a simple one of an entity, and `#3`.
+#[derive(Drop)]
+struct Two<'a> {
+    schema: Schema,
+    entity: EntityId,
+    other: RawInstance<'a>,
+    ghost known: { IsEntityOf schema entity },
+}
+
+impl<'a> EntityOf<'a> for Two<'a> {
+    ghost use Rattle.p21_check.specs.AmongTests.{named_two};
+
+    ghost table = { λ two. two.schema };
+
+    ghost named = { λ two. named_two two.schema two.entity two.other };
+
+    fn entity_of(&self, name: u64) -> Named<'_, 'a> {
+        if name == 2 {
+            return Named::Simple(self.entity);
+        }
+        if name == 3 {
+            return Named::Other(&self.other);
+        }
+        Named::Missing
+    }
+}
+
+/// The table of a schema's text.
+fn table(alloc: Global, text: &[u8]) -> Option<Schema> {
+    let declarations = read_declarations(alloc, text).ok()?;
+    Schema::build(alloc, declarations).ok()
+}
+
+fn instance(alloc: Global, text: &[u8]) -> Option<RawInstance<'_>> {
+    let piece = Piece {
+        number: 0,
+        at: 0,
+        bytes: text,
+    };
+    read_piece(alloc, piece).ok()
+}
+
+/// The reference fault of an instance among two.
+fn fault(instance: &RawInstance<'_>, two: &Two<'_>) -> Result<Option<FaultKind>, Fail> {
+    match check_local(&two.schema, instance) {
+        Ok(()) => Ok(check_references_among(&two.schema, instance, two).err()),
+        Err(kind) => Err(Fail::from(kind)),
+    }
+}
+
+/// `#2` of this entity, and `#3` a complex one.
+fn with_entity(alloc: Global, entity: &[u8]) -> Option<Two<'static>> {
+    let schema = table(alloc, TOY)?;
+    let entity = schema.entity(entity)?;
+    let other = instance(alloc, b"#3=(ITEM()SPECIAL());")?;
+    Some(Two {
+        schema,
+        entity,
+        other,
+    })
+}
+
+#[test]
+fn references_among_two(rt: HostRuntime) -> Result<(), Fail> {
+    let alloc = rt.alloc();
+    let wrong = |attr, name| Some(FaultKind::WrongReference { rec: 0, attr, name });
+    let missing = |attr, name| Some(FaultKind::MissingReference { rec: 0, attr, name });
+    let rows: [(&[u8], &[u8], Option<FaultKind>); 6] = [
+        (b"SPECIAL", b"#1=OWNER(#2);", None),
+        (b"ITEM", b"#1=OWNER(#2);", wrong(0, 2)),
+        (b"ITEM", b"#1=OWNER(#3);", None),
+        (b"ITEM", b"#1=OWNER(#4);", missing(0, 4)),
+        (b"SPECIAL", b"#1=GROUP((#2,#3),(1.,2.));", None),
+        (b"OWNER", b"#1=GROUP((#3,#2,#4),());", wrong(0, 2)),
+    ];
+    for (entity, text, want) in rows {
+        let two = with_entity(alloc, entity).ok_or("two instances")?;
+        let one = instance(alloc, text).ok_or("an instance")?;
+        assert_eq!(rt; fault(&one, &two)?, want);
+    }
+    Ok(())
+}

@@ -1,0 +1,54 @@
+//! What is known of the instances that have names.
+
+ghost use Rattle.std.specs.Prelude.{ℕ, Option, option_map};
+ghost use Rattle.p21_express.specs.Schema.{Schema};
+ghost use Rattle.p21_tree.specs.Sentence.{Instance};
+ghost use Rattle.p21_tree.specs.Views.{plain_instance};
+ghost use Rattle.p21_check.specs.EntityOf.{IsKnownAs};
+
+use p21_schema::{EntityId, Schema};
+use p21_tree::RawInstance;
+
+/// What is known of the instance of a name.
+#[derive(Clone, Copy)]
+pub enum Named<'m, 'a> {
+    /// No instance has the name.
+    Missing,
+    /// A simple instance of this entity.
+    Simple(EntityId),
+    /// An instance, by its records: a complex one, or one whose keyword may name no entity.
+    Other(&'m RawInstance<'a>),
+}
+
+/// Instances by their names, with their entities by a schema.
+pub trait EntityOf<'a> {
+    /// The schema of the entities.
+    ghost table: { Self → Schema };
+
+    /// The instance that has a name.
+    ghost named: { Self → ℕ → Option Instance };
+
+    /// What is known of the instance of this name.
+    fn entity_of(&self, name: u64) -> Named<'_, 'a>
+        ensures { IsKnownAs (table self.now) (named self.now name) result };
+}
+
+/// What is known of an instance that was found, or not, by its records.
+pub(crate) fn by_keyword<'m, 'a>(
+    schema: &Schema,
+    found: Option<&'m RawInstance<'a>>,
+) -> Named<'m, 'a>
+    ensures { IsKnownAs schema.now (option_map (λ i. plain_instance i.now) found.entry) result }
+{
+    let Some(instance) = found else {
+        return Named::Missing;
+    };
+    if instance.complex {
+        return Named::Other(instance);
+    }
+    let records = instance.records.as_slice();
+    match schema.entity(records[0].keyword) {
+        Some(entity) => Named::Simple(entity),
+        None => Named::Other(instance),
+    }
+}
