@@ -17,7 +17,7 @@ differs m n h = elim (cases_Bool (nat_eq m n)) [ inl e ↦ absurd (h (grind (ari
 same : (m n : ℕ) → m ≡ n → nat_eq m n ≡ true
 same m n h = elim (cases_Bool (nat_eq m n)) [ inl e ↦ e | inr e ↦ absurd (let k = h in let f = e in grind (arith, nat_tests, k, f)) ]
 
-none_named : (is : List RawInstance) (n : ℕ) → All (λ (i : RawInstance). i.name ≢ n) is → named_in (plain_instances is) n ≡ None
+pub none_named : (is : List RawInstance) (n : ℕ) → All (λ (i : RawInstance). i.name ≢ n) is → named_in (plain_instances is) n ≡ None
 none_named [] n h = refl
 none_named (x ∷ is) n h =
     let e : nat_eq x.name n ≡ false = differs x.name n (All-head (λ (i : RawInstance). i.name ≢ n) x is h) in
@@ -26,7 +26,7 @@ none_named (x ∷ is) n h =
 others_own : (x : RawInstance) (is : List RawInstance) → HaveOwnNames (x ∷ is) → HaveOwnNames is
 others_own x is h j k d less within = h (suc j) (suc k) d (omega arith) (omega arith)
 
-some_named : (is : List RawInstance) (n k : ℕ) (i : RawInstance) → HaveOwnNames is → k < length is → get_or is k i ≡ i → i.name ≡ n → named_in (plain_instances is) n ≡ Some (plain_instance i)
+pub some_named : (is : List RawInstance) (n k : ℕ) (i : RawInstance) → HaveOwnNames is → k < length is → get_or is k i ≡ i → i.name ≡ n → named_in (plain_instances is) n ≡ Some (plain_instance i)
 some_named [] n k i own less there e = absurd (omega arith)
 some_named (x ∷ is) n zero i own less there e =
     let f : nat_eq x.name n ≡ true = same x.name n (ap (λ y. y.name) there ∙ e) in

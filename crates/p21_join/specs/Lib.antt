@@ -1,3 +1,5 @@
 pub mod Names
 pub mod Model
 pub mod Joined
+pub mod Entities
+pub mod Answered

@@ -4,16 +4,17 @@ ghost use Rattle.std.specs.Prelude.{◌≡◌, []};
 ghost use Rattle.p21_join.specs.Names.{AreNamesOf, HaveOwnNames};
 
 use crate::model::Model;
-use indexmap::IndexSet;
+use crate::names::NameSet;
 use p21_tree::RawInstance;
 use std::alloc::Global;
+use std::hash::BuildHasherDefault;
 
 /// Instances that are joined one by one.
 #[derive(Drop)]
 pub struct Joiner<'a> {
     instances: Vec<RawInstance<'a>>,
     /// The name of each instance, at its place.
-    names: IndexSet<u64>,
+    names: NameSet,
     ghost named: { AreNamesOf names.keys instances.items },
     ghost own_names: { HaveOwnNames instances.items },
 }
@@ -37,7 +38,7 @@ impl<'a> Joiner<'a> {
     {
         Joiner {
             instances: Vec::new(alloc),
-            names: IndexSet::new(alloc),
+            names: NameSet::with_hasher(alloc, BuildHasherDefault::new()),
         }
     }
 
@@ -47,18 +48,17 @@ impl<'a> Joiner<'a> {
         ensures { Joins (joined self.old) instance.entry result (joined self.new) }
     {
         let name = instance.name;
-        if self.names.contains(&name) {
-            return Err(JoinError::Duplicate(instance));
-        }
-        if self.names.reserve(1).is_err() {
-            return Err(JoinError::Memory(instance));
+        match self.names.insert(name) {
+            Ok(true) => {}
+            Ok(false) => return Err(JoinError::Duplicate(instance)),
+            Err(_) => return Err(JoinError::Memory(instance)),
         }
         match self.instances.push(instance) {
-            Ok(()) => {
-                let _ = self.names.insert(name);
-                Ok(())
+            Ok(()) => Ok(()),
+            Err(refused) => {
+                let _ = self.names.pop();
+                Err(JoinError::Memory(refused.value))
             }
-            Err(refused) => Err(JoinError::Memory(refused.value)),
         }
     }
 

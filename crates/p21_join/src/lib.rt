@@ -1,10 +1,13 @@
 //! Joining instances into a model: in file order, each name once.
 #![tactic(auto)]
 
+mod entities;
 mod joiner;
 mod model;
+mod names;
 #[cfg(test)]
 mod tests;
 
+pub use entities::ModelEntities;
 pub use joiner::{JoinError, Joiner};
 pub use model::Model;

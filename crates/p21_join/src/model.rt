@@ -3,7 +3,7 @@
 ghost use Rattle.std.specs.Prelude.{◌≡◌, ◌<◌, ◌↔◌, IsTrue, length, get_or};
 ghost use Rattle.p21_join.specs.Names.{AreNamesOf, HaveOwnNames};
 
-use indexmap::IndexSet;
+use crate::names::NameSet;
 use p21_check::TypeOf;
 use p21_tree::RawInstance;
 
@@ -12,16 +12,16 @@ use p21_tree::RawInstance;
 pub struct Model<'a> {
     instances: Vec<RawInstance<'a>>,
     /// The name of each instance, at its place.
-    names: IndexSet<u64>,
+    names: NameSet,
     ghost named: { AreNamesOf names.keys instances.items },
     /// No two instances have one name.
     pub ghost own_names: { HaveOwnNames instances.items },
 }
 
 impl<'a> Model<'a> {
-    ghost use Rattle.p21_join.specs.Model.{instances_of, Finds};
+    ghost use Rattle.p21_join.specs.Model.{instances_of, Finds, IsPosition};
 
-    pub(crate) fn of(instances: Vec<RawInstance<'a>>, names: IndexSet<u64>) -> Model<'a>
+    pub(crate) fn of(instances: Vec<RawInstance<'a>>, names: NameSet) -> Model<'a>
         requires named { AreNamesOf names.keys instances.items }
         requires own_names { HaveOwnNames instances.items }
         ensures { instances_of result ≡ instances.entry.items }
@@ -62,8 +62,15 @@ impl<'a> Model<'a> {
     pub fn find(&self, name: u64) -> Option<&RawInstance<'a>>
         ensures { Finds (instances_of self.now) name result }
     {
-        let place = self.names.get_index_of(&name)?;
+        let place = self.position(name)?;
         Some(&self.instances[place])
+    }
+
+    /// The place of the instance of a name.
+    pub fn position(&self, name: u64) -> Option<usize>
+        ensures { IsPosition (instances_of self.now) name result }
+    {
+        self.names.get_index_of(&name)
     }
 }
 

@@ -1,6 +1,9 @@
 //! Joining by example.
 
-use crate::{JoinError, Joiner};
+use crate::{JoinError, Joiner, ModelEntities};
+use p21_check::{EntityOf, Named};
+use p21_express::read_declarations;
+use p21_schema::{EntityId, Schema};
 use p21_tree::{Piece, RawInstance, TreeError, read_piece};
 use std::alloc::Global;
 use std::test::Fail;
@@ -55,5 +58,58 @@ fn joins_each_name_once(rt: HostRuntime) -> Result<(), Fail> {
     assert_eq!(rt; model.find(7).map(|instance| instance.name), Some(7));
     assert_eq!(rt; model.find(3).map(|instance| instance.name), Some(3));
     assert!(rt; model.find(8).is_none());
+    assert_eq!(rt; model.position(3), Some(1));
+    assert_eq!(rt; model.position(8), None);
+    Ok(())
+}
+
+/// The table of a schema's text.
+fn table(alloc: Global, text: &[u8]) -> Option<Schema> {
+    let declarations = read_declarations(alloc, text).ok()?;
+    Schema::build(alloc, declarations).ok()
+}
+
+/// What is known of the instance of a name.
+#[derive(Clone, Copy, Debug, PartialEq, Eq)]
+enum Known {
+    Missing,
+    Simple(EntityId),
+    Other(u64),
+}
+
+fn answer_of<'m, 'a: 'm, M: EntityOf<'a>>(among: &'m M, name: u64) -> Known {
+    match among.entity_of(name) {
+        Named::Missing => Known::Missing,
+        Named::Simple(entity) => Known::Simple(entity),
+        Named::Other(instance) => Known::Other(instance.name),
+    }
+}
+
+#[test]
+fn knows_the_entities_of_simple_instances(rt: HostRuntime) -> Result<(), Fail> {
+    let alloc = rt.alloc();
+    let text = b"SCHEMA Toy; ENTITY Item; END_ENTITY; ENTITY Mark; END_ENTITY; END_SCHEMA;";
+    let schema = table(alloc, text).ok_or("a schema")?;
+    let item = schema.entity(b"ITEM").ok_or("an entity")?;
+    let mark = schema.entity(b"MARK").ok_or("an entity")?;
+    let mut joiner = Joiner::new(alloc);
+    for text in [
+        b"#70=MARK();".as_slice(),
+        b"#3=(ITEM()MARK());".as_slice(),
+        b"#1000=NONE();".as_slice(),
+        b"#4=ITEM();".as_slice(),
+    ] {
+        let Ok(instance) = instance_of(alloc, text) else {
+            panic!(rt; "a row is no instance");
+        };
+        assert_eq!(rt; add(&mut joiner, instance), Answer::Joined);
+    }
+    let model = joiner.into_model();
+    let entities = ModelEntities::new(alloc, &schema, &model)?;
+    assert_eq!(rt; answer_of(&entities, 70), Known::Simple(mark));
+    assert_eq!(rt; answer_of(&entities, 3), Known::Other(3));
+    assert_eq!(rt; answer_of(&entities, 1000), Known::Other(1000));
+    assert_eq!(rt; answer_of(&entities, 4), Known::Simple(item));
+    assert_eq!(rt; answer_of(&entities, 5), Known::Missing);
     Ok(())
 }
