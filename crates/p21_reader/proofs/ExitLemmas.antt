@@ -9,6 +9,11 @@ use Rattle.p21_reader.specs.declared.stop.Stop.{Stop}
 use Rattle.p21_reader.specs.declared.stop.Stop.TheVariants as stop
 use Rattle.p21_reader.specs.Steps.{IsStopOf, OnFault}
 
+-- what a fact for a fault gives of it
+pub fault_gives : (P Q : Fault → Type 0) (e : Stop) → ((f : Fault) → P f → Q f) → OnFault e P → OnFault e Q
+fault_gives P Q (stop.Fault f) g h = g f h
+fault_gives P Q stop.Memory g h = tt
+
 module _ {T : Type 0} (Q : Fault → Type 0) where
   -- a stop, given back as it is
   pub exit_stop : (r : Result T Stop) (e : Stop) → IsErrAnd r (λ y. y ≡ e) → OnFault e Q → IfErr r (λ y. OnFault y Q)

@@ -16,7 +16,7 @@ use p21_cut::{Cut, Cutter, first_tokens_of_file};
 use p21_join::{JoinError, Joiner, Model};
 use p21_schema::Schema;
 use p21_tree::{
-    Fault, FaultKind, Piece, Preface, parts_up_to_fault, read_piece, read_preface, read_tail,
+    Fault, FaultKind, InstanceReader, Piece, Preface, parts_up_to_fault, read_preface, read_tail,
 };
 use std::alloc::Global;
 
@@ -71,10 +71,11 @@ fn join_pieces<'a>(
     first_tokens_of_file();
     parts_up_to_fault();
     let mut cutter = Cutter::new(file, preface.data_at as usize);
+    let mut reader = InstanceReader::new(alloc);
     let mut joiner = Joiner::new(alloc);
     loop {
         match cutter.next() {
-            Cut::Piece(piece) => join_piece(alloc, schema, &mut joiner, piece)?,
+            Cut::Piece(piece) => join_piece(&mut reader, schema, &mut joiner, piece)?,
             Cut::Tail(at) => return Ok((joiner, at as usize)),
         }
     }
@@ -82,14 +83,14 @@ fn join_pieces<'a>(
 
 /// Joins the instance that a piece is, where it has no fault.
 fn join_piece<'a>(
-    alloc: Global,
+    reader: &mut InstanceReader<'a>,
     schema: &Schema,
     joiner: &mut Joiner<'a>,
     piece: Piece<'a>,
 ) -> Result<(), Stop>
     ensures { JoinsPiece schema.now (joined joiner.old) piece.entry result (joined joiner.new) }
 {
-    let instance = read_piece(alloc, piece)?;
+    let instance = reader.read(piece)?;
     let at = instance.at;
     let checked = check_local(schema, &instance);
     match joiner.add(instance) {

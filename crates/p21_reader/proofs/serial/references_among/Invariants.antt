@@ -2,7 +2,7 @@ use Rattle.std.proofs.Common.{ℕ, ◌<◌, None, get_or}
 use Rattle.p21_tree.specs.Sentence.{Instance}
 use Rattle.p21_check.specs.References.{IsReferenceFault, named_in}
 use Rattle.p21_join.specs.Model.{instances_of, plain_instances}
-use Rattle.p21_reader.proofs.serial.references.Given as goal
+use Rattle.p21_reader.proofs.serial.references_among.Given as goal
 
 -- the instances before this one are answered
 abbrev pub invariant-loop-instance : goal.invariant-loop-instance
