@@ -5,19 +5,21 @@ use Rattle.std.specs.Int.{from_bool}
 use Rattle.p21_tree.specs.declared.instances.Record.{Record}
 use Rattle.p21_tree.specs.Views.{plain_record}
 use Rattle.p21_tree.specs.Grammar.{Entry}
-use Rattle.std.specs.List.{flat_map, AllByRecursion}
-use Rattle.std.specs.List.Sorted.{IsStrictlySortedBy}
-use Rattle.std.specs.BTreeMap.{BTreeMap, get, IsOrdered}
-use Rattle.std.specs.Cmp.Lexicographic.{slice_cmp, nat_list_cmp_total}
-use Rattle.std.specs.Cmp.{on_total}
-use Rattle.std.specs.Ordering.{nat_cmp, is_eq}
+use Rattle.std.specs.List.{flat_map, AllByRecursion, IsDistinct, dedup_from}
+use Rattle.std.proofs.lemmas.List.Elements.{recursion_from_All}
+use Rattle.std.proofs.lemmas.Option.{slice_get-get_or}
+use Rattle.std.specs.List.Sorted.{IsSorted, IsStrictlySortedBy}
+use Rattle.indexmap.specs.IndexMap.{IndexMap, get, keys, IsUnique}
+use Rattle.std.specs.Cmp.Lexicographic.{slice_cmp, bytes_decides, lists_ties, nat_list_cmp_total, nat_list_eq_equiv}
+use Rattle.std.specs.Cmp.{IsEquivalence, IsTotalOrder, on_equiv, on_total, unsigned_ties}
+use Rattle.std.specs.Ordering.{nat_cmp}
 use Rattle.std.specs.declared.cmp.Ordering.TheVariants.{Less}
-use Rattle.std.proofs.lemmas.Map.Entries.{place_from_lookup, btree_map_get_place}
+use Rattle.std.proofs.lemmas.Map.Entries.{place_from_lookup, hash_map_get_place}
+use Rattle.std.proofs.lemmas.List.Kept.{IsStrictlySortedBy-dedup}
 use Rattle.p21_tree.specs.Sentence.{Instance}
 use Rattle.p21_report.specs.Counts.{capped, complex_count, count_line, keyword_count, keywords_of, record_references, reference_count, AreIncreasing, IsCounts}
-use Rattle.p21_report.specs.Tally.{CountsOf, IsTallyOf, entry_lines, kept, key_cmp}
+use Rattle.p21_report.specs.Tally.{CountsOf, IsTallyOf, entry_lines, kept, key_cmp, key_eq}
 use Rattle.p21_report.specs.declared.tally.Tally.{Tally}
-use Rattle.p21_report.proofs.TallyLemmas.{cmp_same, same_list}
 
 complex_push : (is : List Instance) (i : Instance) → complex_count (is ++ i ∷ []) ≡ complex_count is + cond i.complex 1 0
 complex_push [] i = omega arith
@@ -79,11 +81,34 @@ pub plain_words : (rs : List Record) → map (λ r. r.keyword.now) rs ≡ map (�
 plain_words [] = refl
 plain_words (r ∷ rs) = ap (λ l. r.keyword.now ∷ l) (plain_words rs)
 
+-- keys are equal by their words
+key_equiv : IsEquivalence key_eq
+key_equiv = on_equiv (λ (b : Bor (List ℕ)). b.now) nat_list_eq_equiv
+
+key_total : IsTotalOrder key_cmp
+key_total = on_total (λ (b : Bor (List ℕ)). b.now) nat_list_cmp_total
+
 -- each entry's value is its count
-values_are : (m : BTreeMap (Bor (List ℕ)) ℕ) (ks : List (List ℕ)) (es : List (Bor (List ℕ) × ℕ)) → CountsOf m ks → AllByRecursion (λ e. get key_cmp m e.0 ≡ Some e.1) es
-    → AllByRecursion (λ e. e.1 ≡ capped (keyword_count e.0.now ks)) es
-values_are m ks [] counts h = tt
-values_are m ks (e ∷ es) counts h = (kept_value (keyword_count e.0.now ks) e.1 (sym (counts e.0) ∙ h.0), values_are m ks es counts h.1)
+values_are : {S : Type 0} (m : IndexMap (Bor (List ℕ)) ℕ S) (ks : List (List ℕ)) → CountsOf m ks → IsUnique key_eq m → All (λ e. e.1 ≡ capped (keyword_count e.0.now ks)) m.entries
+values_are m ks counts unique i d less =
+    let e = get_or m.entries i d in
+    let found : get key_eq m e.0 ≡ Some e.1 = hash_map_get_place key_equiv m i e.0 e.1 unique (slice_get-get_or m.entries i d less) in
+    kept_value (keyword_count e.0.now ks) e.1 (sym (counts e.0) ∙ found)
+
+-- keys that differ are all kept where equal neighbours are dropped
+all_kept : (x : Bor (List ℕ)) (xs : List (Bor (List ℕ))) → IsDistinct key_eq (x ∷ xs) → dedup_from key_eq x xs ≡ x ∷ xs
+unfolding IsDistinct
+all_kept x [] apart = refl
+all_kept x (y ∷ ys) apart =
+    let differ : key_eq y x ≡ false = key_equiv.symm y x ∙ apart.0.0 in
+    ap (λ b. cond b (dedup_from key_eq x ys) (x ∷ dedup_from key_eq y ys)) differ ∙ ap (λ l. x ∷ l) (all_kept y ys apart.1)
+
+-- keys that are sorted and differ increase
+keys_increase : (xs : List (Bor (List ℕ))) → IsSorted key_cmp xs → IsDistinct key_eq xs → IsStrictlySortedBy key_cmp xs
+unfolding IsStrictlySortedBy
+keys_increase [] sorted apart = tt
+keys_increase (x ∷ xs) sorted apart =
+    subst (IsStrictlySortedBy key_cmp) (all_kept x xs apart) (IsStrictlySortedBy-dedup key_total (λ a b. lists_ties nat_cmp unsigned_ties a.now b.now) (x ∷ xs) sorted)
 
 -- the words increase with the keys
 words_above : (k : Bor (List ℕ)) (es : List (Bor (List ℕ) × ℕ)) → AllByRecursion (λ y. key_cmp k y ≡ Less) (map (λ e. e.0) es) → AllByRecursion (λ w. slice_cmp nat_cmp k.now w ≡ Less) (words es)
@@ -122,43 +147,39 @@ count_some zero h = absurd (omega arith)
 count_some (suc n) h = (capped (suc n), refl)
 
 -- a word that the map keeps is counted, and one that is counted is kept
-each_word : (m : BTreeMap (Bor (List ℕ)) ℕ) (ks : List (List ℕ)) → CountsOf m ks → IsOrdered key_cmp m → (k : List ℕ) → Contains (words m.entries) k ↔ (0 < keyword_count k ks)
+each_word : {S : Type 0} (m : IndexMap (Bor (List ℕ)) ℕ S) (ks : List (List ℕ)) → CountsOf m ks → IsUnique key_eq m → (k : List ℕ) → Contains (words m.entries) k ↔ (0 < keyword_count k ks)
 unfolding key_of
-each_word m ks counts ordered k = (forth, back) where
+each_word m ks counts unique k = (forth, back) where
   forth : Contains (words m.entries) k → 0 < keyword_count k ks
   forth h =
       let at = word_at m.entries h.0 k h.1 in
       let e = at.0 in
-      let found : get key_cmp m e.0 ≡ Some e.1 = btree_map_get_place (on_total (λ (b : Bor (List ℕ)). b.now) nat_list_cmp_total) m h.0 e.0 e.1 ordered at.1 in
+      let found : get key_eq m e.0 ≡ Some e.1 = hash_map_get_place key_equiv m h.0 e.0 e.1 unique at.1 in
       let same : k ≡ e.0.now = sym h.2 ∙ at.2 in
       subst (λ w. 0 < keyword_count w ks) (sym same) (some_count (keyword_count e.0.now ks) e.1 (sym (counts e.0) ∙ found))
 
   back : 0 < keyword_count k ks → Contains (words m.entries) k
   back h =
       let kept_is = count_some (keyword_count k ks) h in
-      let place = place_from_lookup (λ b. is_eq (key_cmp (key_of k) b)) m.entries kept_is.0 (counts (key_of k) ∙ kept_is.1) in
-      let same : k ≡ place.1.now = same_list k place.1.now (sym (cmp_same k place.1.now) ∙ place.3) in
+      let place = place_from_lookup (key_eq (key_of k)) m.entries kept_is.0 (counts (key_of k) ∙ kept_is.1) in
+      let same : k ≡ place.1.now = (bytes_decides k place.1.now).0 place.3 in
       let at = place_word m.entries place.0 (place.1, kept_is.0) k place.2 in
       (place.0, at.0, at.1 ∙ sym same)
 
-all_along : {X : Type 0} (P : X → Type 0) (xs : List X) → All P xs → AllByRecursion P xs
-all_along P [] h = tt
-all_along P (x ∷ xs) h = (h 0 x (omega arith), all_along P xs (λ k d lt. h (suc k) d (omega arith)))
-
 -- the report text of what is counted
-pub report_text : (t : Tally) (is : List Instance) (n : ℕ) (text : List ℕ) → IsTallyOf t is → IsOrdered key_cmp t.keywords → All (λ e. get key_cmp t.keywords e.0 ≡ Some e.1) t.keywords.entries → n ≡ length is
+pub report_text : (t : Tally) (is : List Instance) (n : ℕ) (text : List ℕ) → IsTallyOf t is → IsSorted key_cmp (keys t.keywords) → IsUnique key_eq t.keywords → n ≡ length is
     → text ≡ ((count_line (codes "instances") n ++ count_line (codes "complex") t.complex) ++ count_line (codes "references") t.references) ++ entry_lines t.keywords.entries → IsCounts is text
-report_text t is n text h ordered each e spelled =
+report_text t is n text h sorted unique e spelled =
     let ks = keywords_of is in
     let a = count_line (codes "instances") n in
     let b = count_line (codes "complex") t.complex in
     let c = count_line (codes "references") t.references in
     let d = entry_lines t.keywords.entries in
-    let lines : d ≡ flat_map (λ k. count_line k (keyword_count k ks)) (words t.keywords.entries) = lines_are t.keywords.entries ks (values_are t.keywords ks t.keywords.entries h.keywords (all_along (λ e. get key_cmp t.keywords e.0 ≡ Some e.1) t.keywords.entries each)) in
+    let lines : d ≡ flat_map (λ k. count_line k (keyword_count k ks)) (words t.keywords.entries) = lines_are t.keywords.entries ks (recursion_from_All (λ e. e.1 ≡ capped (keyword_count e.0.now ks)) t.keywords.entries (values_are t.keywords ks h.keywords unique)) in
     record {
       keywords = words t.keywords.entries;
-      increasing = words_increase t.keywords.entries ordered;
-      each = each_word t.keywords ks h.keywords ordered;
+      increasing = words_increase t.keywords.entries (keys_increase (keys t.keywords) sorted unique);
+      each = each_word t.keywords ks h.keywords unique;
       spelled =
           spelled ∙ append_assoc (a ++ b) c d ∙ append_assoc a b (c ++ d)
           ∙ ap (λ l. l ++ (b ++ (c ++ d))) (ap (count_line (codes "instances")) e)

@@ -4,33 +4,14 @@ use Rattle.std.specs.List.{flat_map}
 use Rattle.std.specs.List.Sorted.{IsStrictlySortedBy}
 use Rattle.std.specs.Ordering.{nat_cmp}
 use Rattle.std.specs.Cmp.Lexicographic.{slice_cmp, pointwise}
-use Rattle.p21_tree.specs.Tree.{Tree, Trees, absent, derived, int, real, str, enumeration, binary, reference, items, typed, nil, cons}
 use Rattle.p21_tree.specs.Grammar.{Entry}
 use Rattle.p21_tree.specs.Sentence.{Instance}
+use Rattle.p21_check.specs.References.{names_count}
 
-abbrev mutual
-  -- how many instance names are written in a parameter
-  pub tree_references : Tree → ℕ
-  tree_references absent = 0
-  tree_references derived = 0
-  tree_references (int s) = 0
-  tree_references (real s) = 0
-  tree_references (str s) = 0
-  tree_references (enumeration s) = 0
-  tree_references (binary s) = 0
-  tree_references (reference n) = 1
-  tree_references (items ts) = list_references ts
-  tree_references (typed k t) = tree_references t
-
-  -- the same of a list of parameters
-  pub list_references : Trees → ℕ
-  list_references nil = 0
-  list_references (cons t ts) = tree_references t + list_references ts
-
--- the same of some records
+-- how many instance names are written in some records
 abbrev pub record_references : List Entry → ℕ
 record_references [] = 0
-record_references (r ∷ rs) = list_references r.params + record_references rs
+record_references (r ∷ rs) = names_count r.params + record_references rs
 
 -- how many instance names are written as parameters
 abbrev pub reference_count : List Instance → ℕ

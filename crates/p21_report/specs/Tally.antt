@@ -1,8 +1,8 @@
 -- What the code keeps of the records that it has counted.
-use Rattle.std.specs.Prelude.{◌≡◌, ℕ, zero, suc, List, [], ◌∷◌, ◌++◌, Option, None, Some}
+use Rattle.std.specs.Prelude.{◌≡◌, ℕ, zero, suc, Bool, List, [], ◌∷◌, ◌++◌, Option, None, Some, nat_eq}
 use Rattle.std.specs.Borrow.{Bor}
-use Rattle.std.specs.BTreeMap.{BTreeMap, get}
-use Rattle.std.specs.Cmp.Lexicographic.{slice_cmp}
+use Rattle.indexmap.specs.IndexMap.{IndexMap, get}
+use Rattle.std.specs.Cmp.Lexicographic.{slice_cmp, pointwise}
 use Rattle.std.specs.Ordering.{nat_cmp}
 use Rattle.std.specs.declared.cmp.Ordering.{Ordering}
 use Rattle.p21_report.specs.Counts.{capped, count_line, complex_count, keyword_count, keywords_of, reference_count}
@@ -14,13 +14,17 @@ abbrev pub kept : ℕ → Option ℕ
 kept zero = None
 kept (suc n) = Some (capped (suc n))
 
--- the order of the map's keys
+-- which keys are one
+abbrev pub key_eq : Bor (List ℕ) → Bor (List ℕ) → Bool
+key_eq a b = pointwise nat_eq a.now b.now
+
+-- the order of the keys
 abbrev pub key_cmp : Bor (List ℕ) → Bor (List ℕ) → Ordering
 key_cmp a b = slice_cmp nat_cmp a.now b.now
 
 -- the map has the count of each keyword among these
-abbrev pub CountsOf : BTreeMap (Bor (List ℕ)) ℕ → List (List ℕ) → Type 0
-CountsOf m ks = (k : Bor (List ℕ)) → get key_cmp m k ≡ kept (keyword_count k.now ks)
+abbrev pub CountsOf : {S : Type 0} → IndexMap (Bor (List ℕ)) ℕ S → List (List ℕ) → Type 0
+CountsOf m ks = (k : Bor (List ℕ)) → get key_eq m k ≡ kept (keyword_count k.now ks)
 
 -- what is counted of these instances
 pub record IsTallyOf (t : Tally) (is : List Instance) : Type 0 where

@@ -1,9 +1,9 @@
 //! The report of some instances.
 
-ghost use Rattle.std.specs.Prelude.{◌≡◌, ◌++◌, map, All, IfOk, OnOk, Some};
+ghost use Rattle.std.specs.Prelude.{◌≡◌, ◌++◌, map, IfOk, OnOk};
 ghost use Rattle.p21_report.specs.Counts.{IsCounts, count_line};
-ghost use Rattle.p21_report.specs.Tally.{IsTallyOf, entry_lines, key_cmp};
-ghost use Rattle.std.specs.BTreeMap.{IsOrdered, get};
+ghost use Rattle.p21_report.specs.Tally.{IsTallyOf, entry_lines, key_cmp, key_eq};
+ghost use Rattle.indexmap.specs.IndexMap.{keys, IsUnique};
 ghost use Rattle.p21_tree.specs.Views.{plain_instance};
 
 use crate::tally::{Keywords, Tally, add_instance, empty_tally};
@@ -17,7 +17,8 @@ use std::alloc::{AllocError, Global};
 pub fn counts(alloc: Global, instances: &[RawInstance<'_>]) -> Result<Vec<u8>, AllocError>
     ensures { IfOk result (λ text. IsCounts (map plain_instance instances.now) text.items) }
 {
-    let tally = tally_of(alloc, instances)?;
+    let mut tally = tally_of(alloc, instances)?;
+    tally.keywords.sort_keys()?;
     let mut text = Vec::new(alloc);
     push_count(&mut text, b"instances", instances.len() as u64)?;
     push_count(&mut text, b"complex", tally.complex)?;
@@ -40,8 +41,7 @@ fn tally_of<'a>(alloc: Global, instances: &[RawInstance<'a>]) -> Result<Tally<'a
 /// Adds the lines of the keywords.
 fn push_keywords(text: &mut Vec<u8>, keywords: &Keywords<'_>) -> Result<(), AllocError>
     ensures lines { OnOk result (text.new.items ≡ text.old.items ++ entry_lines keywords.now.entries) }
-    ensures ordered { IsOrdered key_cmp keywords.now }
-    ensures each { All (λ e. get key_cmp keywords.now e.0 ≡ Some e.1) keywords.now.entries }
+    ensures unique { IsUnique key_eq keywords.now }
 {
     for (keyword, count) in keywords {
         push_count(text, keyword, *count)?;

@@ -6,12 +6,14 @@ ghost use Rattle.p21_tree.specs.Sentence.{Instance};
 ghost use Rattle.p21_tree.specs.Views.{plain_instance};
 
 use crate::references::in_instance;
+use indexmap::IndexMap;
+use p21_hash::KeywordHasher;
 use p21_tree::{RawInstance, Record};
 use std::alloc::{AllocError, Global};
-use std::collections::BTreeMap;
+use std::hash::BuildHasherDefault;
 
 /// How many records have each keyword.
-pub(crate) type Keywords<'a> = BTreeMap<&'a [u8], u64>;
+pub(crate) type Keywords<'a> = IndexMap<&'a [u8], u64, BuildHasherDefault<KeywordHasher>>;
 
 /// What is counted of some instances: each number is at most 2^64 - 1.
 #[derive(Drop)]
@@ -28,7 +30,7 @@ pub(crate) fn empty_tally<'a>(alloc: Global) -> Tally<'a>
     Tally {
         complex: 0,
         references: 0,
-        keywords: BTreeMap::new(alloc),
+        keywords: IndexMap::with_hasher(alloc, BuildHasherDefault::new()),
     }
 }
 

@@ -54,13 +54,17 @@ impl<'a> Bytes<'a> {
     }
 }
 
-/// What a call does where so many calls are left before those that do this; one call fewer is left then.
-fn next_turn(calls: &mut u64, then: Turn) -> Turn {
-    if *calls == 0 {
-        return then;
+/// Whether a call moves bytes where so many calls are left before those that do this; one call fewer is left then.
+fn take_turn(calls: &mut u64, then: Turn) -> Result<(), IoFault> {
+    if *calls > 0 {
+        *calls -= 1;
+        return Ok(());
     }
-    *calls -= 1;
-    Turn::Moves
+    match then {
+        Turn::Moves => Ok(()),
+        Turn::IsInterrupted => Err(IoFault::Interrupted),
+        Turn::Fails => Err(IoFault::Failed),
+    }
 }
 
 impl Source for Bytes<'_> {
@@ -69,16 +73,9 @@ impl Source for Bytes<'_> {
     ghost remaining = { λ s. Some s.left.now };
 
     fn read(&mut self, into: &mut [u8]) -> Result<usize, IoFault> {
-        match next_turn(&mut self.calls, self.then) {
-            Turn::Moves => {}
-            Turn::IsInterrupted => {
-                self.marked = true;
-                return Err(IoFault::Interrupted);
-            }
-            Turn::Fails => {
-                self.marked = true;
-                return Err(IoFault::Failed);
-            }
+        if let Err(fault) = take_turn(&mut self.calls, self.then) {
+            self.marked = true;
+            return Err(fault);
         }
         let count = into.len().min(self.left.len()).min(self.most.max(1));
         into[..count].copy_from_slice(&self.left[..count]);
@@ -127,16 +124,9 @@ impl Sink for Text {
     ghost taken = { λ s. Some s.bytes.items };
 
     fn write(&mut self, from: &[u8]) -> Result<usize, IoFault> {
-        match next_turn(&mut self.calls, self.then) {
-            Turn::Moves => {}
-            Turn::IsInterrupted => {
-                self.marked = true;
-                return Err(IoFault::Interrupted);
-            }
-            Turn::Fails => {
-                self.marked = true;
-                return Err(IoFault::Failed);
-            }
+        if let Err(fault) = take_turn(&mut self.calls, self.then) {
+            self.marked = true;
+            return Err(fault);
         }
         let count = from.len().min(self.most);
         if self.bytes.extend_from_slice(&from[..count]).is_err() {

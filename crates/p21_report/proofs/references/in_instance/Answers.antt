@@ -5,5 +5,5 @@ use Rattle.p21_report.proofs.references.in_instance.Goals as goal
 
 pub returns : goal.returns
 returns c =
-    sym (records_all c.deref-record-items.result.now c.loop-record.record-index c.loop-record.sum (omega arith) c.loop-record.invariant.0) ∙ c.loop-record.invariant.1
-    ∙ ap (λ rs. capped (left_of rs 0)) c.deref-record-items.ensures.value
+    sym (records_all c.as_slice-record-items.result.now c.loop-record.record-index c.loop-record.sum (omega arith) c.loop-record.invariant.0) ∙ c.loop-record.invariant.1
+    ∙ ap (λ rs. capped (left_of rs 0)) c.as_slice-record-items.ensures

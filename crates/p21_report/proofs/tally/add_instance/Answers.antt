@@ -13,7 +13,7 @@ returns c = λ is h.
     let u : Tally = record { complex = c.saturating_add-tally.result; references = c.saturating_add-tally-2.result; keywords = c.add_records.new.keywords } in
     let ws = keywords_of is ++ map (λ (r : Record). r.keyword.now) c.as_slice.result.now in
     let same : ws ≡ keywords_of is ++ map (λ r. r.keyword) i.records =
-    ap (λ rs. keywords_of is ++ map (λ (r : Record). r.keyword.now) rs) c.as_slice.ensures.value ∙ ap (λ l. keywords_of is ++ l) (plain_words c.args.instance.now.records.items) in
+    ap (λ rs. keywords_of is ++ map (λ (r : Record). r.keyword.now) rs) c.as_slice.ensures ∙ ap (λ l. keywords_of is ++ l) (plain_words c.args.instance.now.records) in
     on_ok c.add_records.result (CountsOf c.add_records.new.keywords ws) (IsTallyOf u (is ++ i ∷ []))
     (λ k. tally_more c.args.tally.now u is i c.from.result c.in_instance.result h (bool_number c.args.instance.now.complex c.from.result c.from.ensures) c.saturating_add-tally.ensures c.in_instance.ensures c.saturating_add-tally-2.ensures (subst (CountsOf u.keywords) same k))
     (c.add_records.ensures (keywords_of is) h.keywords)
