@@ -3,7 +3,7 @@
 ghost use Rattle.std.specs.Prelude.{◌≡◌, ◌≤◌, length};
 
 use crate::parts::piece_end;
-use p21_text::next_token;
+use p21_text::separators_len;
 use p21_tree::Piece;
 
 /// A file's data section on its way into pieces.
@@ -54,7 +54,7 @@ impl<'a> Cutter<'a> {
         ensures ends { LeavesLess self.old result self.new }
         ensures file { file_of self.new ≡ file_of self.old }
     {
-        let start = next_token(self.file, self.at).start;
+        let start = self.at + separators_len(&self.file[self.at..]);
         if start >= self.file.len() || self.file[start] != b'#' {
             return Cut::Tail(start as u64);
         }

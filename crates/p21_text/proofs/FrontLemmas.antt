@@ -1,22 +1,66 @@
 -- The token at the front of a text, where it is one byte, or none begins, or the text is empty.
-use Rattle.std.proofs.Common.{◌≡◌, ℕ, zero-le, ◌<◌, ◌≤◌, List, [], ◌∷◌, length, take, drop, sym, ap, subst, arith}
+use Rattle.std.proofs.Common.{◌≡◌, ◌≢◌, ℕ, zero-le, ◌<◌, ◌≤◌, inl, inr, List, [], ◌∷◌, ◌++◌, length, take, drop, sym, ap, ◌∙◌, subst, arith}
 use Rattle.std.proofs.lemmas.List.{nil_from_length, length-take-le}
 use Rattle.p21_text.specs.Spelling.{Symbol, Spells, IsUpper}
 use Rattle.p21_text.specs.Spelling as token
 use Rattle.p21_text.specs.Contents.{IsContent}
-use Rattle.p21_text.specs.Tokens.{Front, IsLast}
+use Rattle.p21_text.specs.Separators.{IsWhite}
+use Rattle.p21_text.specs.Gaps.{HasNoUnit}
+use Rattle.p21_text.specs.Gaps as unit
+use Rattle.p21_text.specs.Tokens.{Front, IsLast, Passes}
 use Rattle.p21_text.specs.Tokens as tokens
 use Rattle.p21_text.specs.Runs.{IsNumberByte, FirstIs}
 use Rattle.p21_text.proofs.Shapes.{IsSingle, Shape, word, number, single, name, string, enumeration, binary, user, shape, front_by, none_by}
 use Rattle.p21_text.proofs.Groups.{BeginsNothing, only_single, only_nothing}
+use Rattle.p21_text.proofs.SeparatorLemmas.{passes_none}
 
 pub end_front : (text : List ℕ) → length text ≡ 0 → Front text 0 token.end
 end_front text e = rw (nil_from_length text e) tokens.ended
+
+-- no separator stands in an empty text
+no_unit_in_none : HasNoUnit []
+no_unit_in_none _ behind e (unit.white w) = absurd cc
+no_unit_in_none front behind e (unit.comment c) =
+    let same : [] ≡ 47 ∷ ((42 ∷ (c.body ++ 42 ∷ 47 ∷ [])) ++ behind) = e ∙ ap (λ t. t ++ behind) c.spelled in
+    absurd cc
 
 -- the byte c is a whole token
 pub single_front : (text tail : List ℕ) (b c : ℕ) (t : Symbol) → text ≡ b ∷ tail → b ≡ c → IsSingle c → Spells (c ∷ []) tail t → Front text 1 t
 single_front text tail b c t e f k s =
     rw (e, f) (front_by (c ∷ tail) 1 t (omega arith) s (λ front behind g h. subst (λ n. n ≤ 1) (sym (only_single c tail front behind g k h)) (omega arith)))
+
+-- a byte that is a whole token is none that a separator begins with
+single_range : (b : ℕ) → IsSingle b → (32 < b) × (b ≢ 47)
+single_range b (inl e) = (omega arith, λ h. omega arith)
+single_range b (inr (inl e)) = (omega arith, λ h. omega arith)
+single_range b (inr (inr (inl e))) = (omega arith, λ h. omega arith)
+single_range b (inr (inr (inr (inl e)))) = (omega arith, λ h. omega arith)
+single_range b (inr (inr (inr (inr (inl e))))) = (omega arith, λ h. omega arith)
+single_range b (inr (inr (inr (inr (inr (inl e)))))) = (omega arith, λ h. omega arith)
+single_range b (inr (inr (inr (inr (inr (inr e)))))) = (omega arith, λ h. omega arith)
+
+white_low : (b : ℕ) → IsWhite b → b ≤ 32
+white_low b (inl h) = (let low = h.1 in omega arith)
+white_low b (inr e) = omega arith
+
+-- no separator begins with such a byte
+single_unit : (b : ℕ) (tail : List ℕ) → IsSingle b → HasNoUnit (b ∷ tail)
+single_unit b tail k _ behind e (unit.white {b = w} white) =
+    let same : b ≡ w = cc in
+    let low = white_low w white in
+    let high = (single_range b k).0 in
+    absurd (omega arith)
+single_unit b tail k front behind e (unit.comment c) =
+    let same : b ∷ tail ≡ 47 ∷ ((42 ∷ (c.body ++ 42 ∷ 47 ∷ [])) ++ behind) = e ∙ ap (λ t. t ++ behind) c.spelled in
+    absurd ((single_range b k).1 cc)
+
+-- a byte that is a whole token, with no separators before it
+pub single_mark : (text tail : List ℕ) (b c : ℕ) (t : Symbol) → text ≡ b ∷ tail → b ≡ c → IsSingle c → Spells (c ∷ []) tail t → Passes text 0 × Front text 1 t
+single_mark text tail b c t e f k s = (rw (e, f) (passes_none (c ∷ tail) (single_unit c tail k)), single_front text tail b c t e f k s)
+
+-- the end of a text, with no separators before it
+pub end_mark : (text : List ℕ) → length text ≡ 0 → Passes text 0 × Front text 0 token.end
+end_mark text e = (rw (nil_from_length text e) (passes_none [] no_unit_in_none), end_front text e)
 
 pub bad_front : (text tail : List ℕ) (b : ℕ) → text ≡ b ∷ tail → BeginsNothing b → Front text 0 token.bad
 bad_front text tail b e none = rw e (none_by (b ∷ tail) (λ h. cc) (λ front behind g h. only_nothing b tail front behind g none h))

@@ -25,5 +25,6 @@ pub use body::{items, string_items, string_len};
 pub use laws::{items_are_unique, one_first, one_list, one_string, tokens_are_unique};
 pub use meaning::StrItem;
 pub use next::next_token;
+pub use separators::separators_len;
 pub use str_items::StrItems;
 pub use token::{Lexed, Token};

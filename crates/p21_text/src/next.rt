@@ -5,8 +5,8 @@ ghost use Rattle.p21_text.specs.Spelling.{symbol};
 ghost use Rattle.p21_text.specs.Contents.{IsContent};
 ghost use Rattle.p21_text.specs.Tokens.{First, IsLast, placed};
 
-use crate::front::front;
-use crate::separators::gap;
+use crate::front::{front, single_byte_token};
+use crate::separators::separators_len;
 use crate::token::Lexed;
 
 /// The first token of a text from a place on, with where it starts and ends.
@@ -14,7 +14,7 @@ use crate::token::Lexed;
 /// White bytes and comments are passed first. Where several spellings begin there, the longest is the token. At the
 /// end of the text it is `End`; where none begins it is `Bad`, and stands at the first byte that is no separator.
 /// Places are bytes from the text's first byte; `at` is at most the text's length.
-#[inline]
+#[inline(always)]
 pub fn next_token(text: &[u8], at: usize) -> Lexed<'_>
     requires { at ≤ length text.now }
     ensures first { First text.now at (placed result) }
@@ -27,7 +27,41 @@ pub fn next_token(text: &[u8], at: usize) -> Lexed<'_>
     ensures content { IsContent (symbol result.token) }
 {
     let rest = &text[at..];
-    let gap = gap(rest);
+    // Most tokens are of one byte, and stand right there. The others are taken apart, so that these stay in registers.
+    match single_byte_token(rest) {
+        Some((token, len)) => Lexed {
+            start: at,
+            after: at + len,
+            token,
+        },
+        None => {
+            let Lexed {
+                start,
+                after,
+                token,
+            } = behind_separators(text, at);
+            Lexed {
+                start,
+                after,
+                token,
+            }
+        }
+    }
+}
+
+/// The same, where separators may come first.
+#[inline(never)]
+fn behind_separators(text: &[u8], at: usize) -> Lexed<'_>
+    requires { at ≤ length text.now }
+    ensures first { First text.now at (placed result) }
+    ensures behind { at ≤ result.start }
+    ensures ordered { result.start ≤ result.after }
+    ensures within { result.after ≤ length text.now }
+    ensures advances { ¬ (IsLast (symbol result.token)) → result.start < result.after }
+    ensures content { IsContent (symbol result.token) }
+{
+    let rest = &text[at..];
+    let gap = separators_len(rest);
     let start = at + gap;
     let (token, len) = front(&rest[gap..]);
     Lexed {

@@ -10,7 +10,7 @@ use crate::bytes::digit_run;
 use crate::token::Token;
 
 /// The integer or real that a text begins with.
-#[inline]
+#[inline(always)]
 pub(crate) fn number(text: &[u8]) -> (Token<'_>, usize)
     requires { FirstIs IsNumberByte text.now }
     ensures { Front text.now result.1 (symbol result.0) }

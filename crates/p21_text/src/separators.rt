@@ -7,9 +7,9 @@ ghost use Rattle.p21_text.specs.Gaps.{HasNoUnit, UnitIs};
 
 use memchr::memmem;
 
-/// How many bytes of white bytes and comments a text begins with.
+/// How many bytes of white bytes and comments a text begins with, as many as there are. A comment that is not closed is none.
 #[inline]
-pub(crate) fn gap(text: &[u8]) -> usize
+pub fn separators_len(text: &[u8]) -> usize
     ensures { Passes text.now result }
 {
     let mut at = 0;

@@ -15,6 +15,7 @@ use crate::terminals::{Terminal, as_terminal};
 use p21_text::{Lexed, Token, next_token};
 
 /// The next token of a source.
+#[inline(always)]
 pub fn token<'a>(source: Source<'a>, at: usize) -> Lexed<'a>
     requires { at ≤ length source.text.now }
     ensures first { First source.entry.text.now at (placed result) }
@@ -77,6 +78,7 @@ pub fn is(token: Token<'_>, wanted: Terminal) -> bool
 }
 
 /// The next token, which has to be this one.
+#[inline(always)]
 pub fn expect<'a>(source: Source<'a>, at: usize, wanted: Terminal) -> Result<Lexed<'a>, Fault>
     requires { at ≤ length source.text.now }
     ensures first { IfOk result (λ r. First source.entry.text.now at (placed r)) }

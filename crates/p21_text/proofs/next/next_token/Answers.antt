@@ -5,24 +5,20 @@ use Rattle.p21_text.proofs.FrontLemmas.{front_within, front_some, front_content}
 use Rattle.p21_text.proofs.next.next_token.Goals as goal
 
 -- the token's bytes are bytes of the text
-within : (c : goal.After-token-1) → c.args.at + c.gap-gap.result + c.front-len.result.1 ≤ length c.args.text.now
+within : (c : goal.In-Some) → c.args.at + c.in-Some.len ≤ length c.args.text.now
 within c =
-    let text = c.args.text.now in
-    let at = c.args.at in
-    let gap = c.gap-gap.result in
-    let passed : gap ≤ length (drop at text) = simp take_rest at c.gap-gap.ensures.fits in
-    let inside : c.front-len.result.1 ≤ length (drop gap (drop at text))
-    = simp take_rest at (front_within _ c.front-len.result.1 (symbol c.front-len.result.0) c.front-len.ensures) in
-    omega (arith, c.requires, length-drop at text, length-drop gap (drop at text))
+    let inside : c.in-Some.len ≤ length (drop c.args.at c.args.text.now)
+    = simp take_rest at (front_within _ c.in-Some.len (symbol c.in-Some.token) c.in-Some.ensures.1) in
+    omega (arith, c.requires, length-drop c.args.at c.args.text.now)
 
 pub overflow_add-result : goal.overflow_add-result
 overflow_add-result c = let inside = within c in omega arith
 
-pub returns-clause-within : goal.returns-clause-within
-returns-clause-within c = within c
+pub returns-in-Some-clause-within : goal.returns-in-Some-clause-within
+returns-in-Some-clause-within c = within c
 
-pub returns-clause-advances : goal.returns-clause-advances
-returns-clause-advances c = λ more. let some = front_some _ c.front-len.result.1 (symbol c.front-len.result.0) c.front-len.ensures more in omega arith
+pub returns-in-Some-clause-advances : goal.returns-in-Some-clause-advances
+returns-in-Some-clause-advances c = λ more. let some = front_some _ c.in-Some.len (symbol c.in-Some.token) c.in-Some.ensures.1 more in omega arith
 
-pub returns-clause-content : goal.returns-clause-content
-returns-clause-content c = front_content _ c.front-len.result.1 (symbol c.front-len.result.0) c.front-len.ensures
+pub returns-in-Some-clause-content : goal.returns-in-Some-clause-content
+returns-in-Some-clause-content c = front_content _ c.in-Some.len (symbol c.in-Some.token) c.in-Some.ensures.1

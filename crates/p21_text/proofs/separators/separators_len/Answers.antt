@@ -2,7 +2,7 @@ use Rattle.std.proofs.Common.{◌+◌, drop, arith, add-zero, add_assoc}
 use Rattle.std.proofs.lemmas.List.{take_rest, length-drop, drop-drop}
 use Rattle.p21_text.specs.Gaps.{UnitIs, HasNoUnit}
 use Rattle.p21_text.proofs.SeparatorLemmas.{passes_none, passes_more}
-use Rattle.p21_text.proofs.separators.gap.Goals as goal
+use Rattle.p21_text.proofs.separators.separators_len.Goals as goal
 
 pub loop-len-preserved : goal.loop-len-preserved
 loop-len-preserved c =

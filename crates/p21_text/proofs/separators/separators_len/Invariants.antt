@@ -1,6 +1,6 @@
 use Rattle.std.proofs.Common.{ℕ, ◌+◌, ◌-◌, ◌≤◌, length, drop}
 use Rattle.p21_text.specs.Tokens.{Passes}
-use Rattle.p21_text.proofs.separators.gap.Given as goal
+use Rattle.p21_text.proofs.separators.separators_len.Given as goal
 
 -- what the rest of the text passes, the text passes behind what was passed so far
 abbrev pub invariant-loop-len : goal.invariant-loop-len
