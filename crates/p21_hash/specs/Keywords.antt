@@ -11,6 +11,10 @@ abbrev pub added : KeywordHasher → List ℕ → KeywordHasher
 added h (byte ∷ []) = record { sum = with_byte h.sum byte }
 added h _ = h
 
+-- odd, and 2^64 over the golden ratio
+abbrev pub spread_multiplier : ℕ
+spread_multiplier = 0x9e37_79b9_7f4a_7c15
+
 -- the number, its bits spread upward
 abbrev pub spread : KeywordHasher → ℕ
-spread h = (h.sum * 0x9e37_79b9_7f4a_7c15) % 2 ^ 64
+spread h = (h.sum * spread_multiplier) % 2 ^ 64

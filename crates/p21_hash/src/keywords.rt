@@ -4,6 +4,10 @@ ghost use Rattle.std.specs.Prelude.{◌≡◌};
 
 use std::hash::Hasher;
 
+/// Spreads the bits of a hash upward. It is odd, so that no two numbers have one product, and 2^64 over the golden ratio, whose
+/// multiples lie well apart.
+const SPREAD_MULTIPLIER: u64 = 0x9e37_79b9_7f4a_7c15;
+
 /// Hashes keywords, which come byte by byte. What comes in longer pieces, as their length does, is passed over.
 #[derive(Clone, Copy)]
 pub struct KeywordHasher {
@@ -27,7 +31,7 @@ impl Hasher for KeywordHasher {
 
     #[inline(always)]
     fn finish(&self) -> u64 {
-        self.sum.wrapping_mul(0x9e37_79b9_7f4a_7c15)
+        self.sum.wrapping_mul(SPREAD_MULTIPLIER)
     }
 
     #[inline(always)]

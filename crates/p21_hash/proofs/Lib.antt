@@ -1,0 +1,2 @@
+mod InstanceNameLemmas
+mod Examples
