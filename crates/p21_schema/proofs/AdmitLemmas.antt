@@ -1,49 +1,61 @@
--- What a SELECT reaches among an entity and its ancestors.
-use Rattle.std.proofs.Common.{◌≡◌, ◌↔◌, ℕ, zero, suc, ◌∷◌, ◌<◌, ◌≤◌, ⊎_elim, inl, inr, Bool, true, false, List, [], length, get_or, map, refl, sym, ap, subst, ◌∙◌, arith}
-use Rattle.std.specs.Prelude.{IsTrue}
-use Rattle.std.proofs.lemmas.Bool.{false≢true}
+-- What SELECTs reach an entity or an ancestor of it.
+use Rattle.std.proofs.Common.{◌≡◌, ℕ, ◌<◌, ◌≤◌, Bool, List, [], map, length, get_or, refl, sym, subst, ◌∙◌, ⊎_elim, arith}
+use Rattle.std.proofs.lemmas.Bool.{cases_lt}
+use Rattle.std.proofs.lemmas.List.{get_or_past}
 use Rattle.p21_express.specs.Schema.{Schema, Entity}
-use Rattle.p21_express.specs.WellFormed.{IsIn, IsEntity, IsAncestor, HasNoUnknown}
+use Rattle.p21_express.specs.WellFormed.{IsIn, IsEntity, IsWellFormed, IsSupertype, IsAncestor}
 use Rattle.p21_express.specs.WellFormed as way
-use Rattle.p21_schema.specs.Ancestry.{IsAncestorTable}
-use Rattle.p21_schema.specs.Select.{SelectReaches, ReachesA}
-use Rattle.p21_schema.specs.Select as reach
-use Rattle.p21_schema.specs.SelectTable.{IsSelectTable, entity_named, type_named}
-use Rattle.p21_schema.proofs.Members.{place_of}
-use Rattle.p21_schema.proofs.AncestryLemmas.{all_names, name_count, name_at, supertypes_known}
+use Rattle.p21_schema.specs.Ancestry.{AreSupertypesNamed}
+use Rattle.p21_schema.specs.Graph.{Reaches, here, through, IsReachTable, IsTransposed}
+use Rattle.p21_schema.specs.Select.{SelectReaches, ReachesA, itself, above}
+use Rattle.p21_schema.specs.SelectTable.{IsSelectTable, IsAdmitTable, entity_named, type_named}
+use Rattle.p21_schema.proofs.AncestryLemmas.{name_count, edge_names, names_edge, distinct_entities}
 use Rattle.p21_schema.proofs.SelectLemmas.{entity_reached}
 
-known : (s : Schema) → HasNoUnknown s → (a b : List ℕ) → IsAncestor s a b → IsIn (map (λ (e : Entity). e.name) s.entities) b
-known s h a b (way.one step) = supertypes_known s h step.entity b step.declared step.named
-known s h a b (way.more {b = m} step rest) = known s h m b rest
+-- what reaches a supertype or an ancestor of it reaches an ancestor
+risen : (s : Schema) (n : List ℕ) {a b : List ℕ} → IsSupertype s a b → ReachesA s n b → ReachesA s n a
+risen s n step (itself r) = above (way.one step) r
+risen s n step (above up r) = above (way.more step up) r
 
-marked_below : (row : List Bool) (k : ℕ) → get_or row k false ≡ true → k < length row
-marked_below [] k h = absurd (false≢true h)
-marked_below (b ∷ row) zero h = omega arith
-marked_below (b ∷ row) (suc k) h = let less = marked_below row k h in omega arith
+module _ (s : Schema) (formed : IsWellFormed s) (graph : List (List ℕ)) (h : AreSupertypesNamed (map (λ (e : Entity). e.name) s.entities) graph s.entities) (reached : List (List Bool)) (t : IsSelectTable s (IsEntity s) (length s.entities) (entity_named s) reached) (direct : List (List ℕ)) (d : IsTransposed reached (length s.entities) direct) where
+  -- an edge from an entity leads to a type that reaches it
+  direct_at : (e i : ℕ) → IsIn (get_or direct e []) i → e < length s.entities
+  direct_at e i edge =
+      let count : length direct ≡ length s.entities = d.count in
+      ⊎_elim
+      (λ (l : e < length s.entities). l)
+      (λ (g : length s.entities ≤ e). absurd (subst (λ (u : List ℕ). IsIn u i) (get_or_past direct e [] (omega arith)) edge))
+      (cases_lt e (length s.entities))
 
--- a mark in both rows is an ancestor that the SELECT reaches
-pub in_common : (s : Schema) (above reached : List (List Bool)) (e i : ℕ) (row marks : List Bool) → HasNoUnknown s → IsAncestorTable s above → IsSelectTable s (IsEntity s) (length s.entities) (entity_named s) reached → e < length s.entities → i < length s.types →
-    get_or above e [] ≡ row → get_or reached i [] ≡ marks →
-    ((k : ℕ) × (get_or row k false ≡ true) × (get_or marks k false ≡ true)) ↔ ((a : List ℕ) × IsAncestor s (entity_named s e) a × SelectReaches s (type_named s i) a)
-in_common s above reached e i row marks h t u le li f g = (there, back) where
-  there : (k : ℕ) × (get_or row k false ≡ true) × (get_or marks k false ≡ true) → (a : List ℕ) × IsAncestor s (entity_named s e) a × SelectReaches s (type_named s i) a
-  there m =
-      let k = m.0 in
-      let lk : k < length s.entities = subst (λ n. k < n) (ap length (sym f) ∙ t.columns e le) (marked_below row k m.1) in
-      (entity_named s k, (t.ancestors e k le lk).0 (ap (λ xs. get_or xs k false) f ∙ m.1), (entity_reached s reached i k u li lk).0 (ap (λ xs. get_or xs k false) g ∙ m.2))
+  admitted : {e i : ℕ} → i < length s.types → Reaches direct graph e i → ReachesA s (type_named s i) (entity_named s e)
+  admitted {e} {i} li (here edge) =
+      let le = direct_at e i edge in
+      itself ((entity_reached s reached i e t li le).0 ((d.rows e le i).0 edge))
+  admitted {e} li (through {b = w} edge l) = risen s _ (edge_names s graph h e w edge) (admitted li l)
 
-  back : (a : List ℕ) × IsAncestor s (entity_named s e) a × SelectReaches s (type_named s i) a → (k : ℕ) × (get_or row k false ≡ true) × (get_or marks k false ≡ true)
-  back m =
-      let place = place_of (map (λ (x : Entity). x.name) s.entities) m.0 (known s h (entity_named s e) m.0 m.1) in
-      let k = place.0 in
-      let lk : k < length s.entities = subst (λ n. k < n) (name_count s) place.1.0 in
-      let is : entity_named s k ≡ m.0 = sym (name_at s k) ∙ place.1.1 [] in
-      (k, ap (λ xs. get_or xs k false) (sym f) ∙ (t.ancestors e k le lk).1 (subst (IsAncestor s (entity_named s e)) (sym is) m.1), ap (λ xs. get_or xs k false) (sym g) ∙ (entity_reached s reached i k u li lk).1 (subst (SelectReaches s (type_named s i)) (sym is) m.2))
+  reaches_direct : (e i : ℕ) → e < length s.entities → i < length s.types → SelectReaches s (type_named s i) (entity_named s e) → Reaches direct graph e i
+  reaches_direct e i le li r = here ((d.rows e le i).1 ((entity_reached s reached i e t li le).1 r))
 
--- the entity itself, or an ancestor
-pub admits : (s : Schema) (n e : List ℕ) (b d : Bool) → IsTrue b ↔ SelectReaches s n e → IsTrue d ↔ ((a : List ℕ) × IsAncestor s e a × SelectReaches s n a) → b ≡ false → IsTrue d ↔ ReachesA s n e
-admits s n e b d f g no_ = ((λ h. (let m = g.0 h in reach.above m.1 m.2)), back) where
-  back : ReachesA s n e → IsTrue d
-  back (reach.itself r) = absurd (false≢true (sym no_ ∙ f.1 r))
-  back (reach.above {a = a} up r) = g.1 (a, up, r)
+  -- the supertype of a name, by its place
+  climbed : {x a : List ℕ} → IsAncestor s x a → (e i : ℕ) → e < length s.entities → i < length s.types → x ≡ entity_named s e → SelectReaches s (type_named s i) a → Reaches direct graph e i
+  climbed {x} {a} (way.one step) e i le li is r =
+      let w = names_edge s graph h (distinct_entities s formed.repeated) e a le (subst (λ u. IsSupertype s u a) is step) in
+      let lw : w.0 < length s.entities = subst (λ u. w.0 < u) (name_count s) ((h.rows e le).below w.0 w.1.0) in
+      through w.1.0 (reaches_direct w.0 i lw li (subst (SelectReaches s (type_named s i)) (sym w.1.1) r))
+  climbed {x} {a} (way.more {b = m} step up) e i le li is r =
+      let w = names_edge s graph h (distinct_entities s formed.repeated) e m le (subst (λ u. IsSupertype s u m) is step) in
+      let lw : w.0 < length s.entities = subst (λ u. w.0 < u) (name_count s) ((h.rows e le).below w.0 w.1.0) in
+      through w.1.0 (climbed up w.0 i lw li (sym w.1.1) r)
+
+  found : (e i : ℕ) → e < length s.entities → i < length s.types → ReachesA s (type_named s i) (entity_named s e) → Reaches direct graph e i
+  found e i le li (itself r) = reaches_direct e i le li r
+  found e i le li (above up r) = climbed up e i le li refl r
+
+  pub admit_table : (table : List (List Bool)) → IsReachTable direct graph (length reached) table → IsAdmitTable s table
+  admit_table table r = record {
+    count = r.count ∙ h.count;
+    columns = λ e le. (r.rows e (subst (λ u. e < u) (sym h.count) le)).count ∙ t.count;
+    marks = λ e i le li.
+        let row = (r.rows e (subst (λ u. e < u) (sym h.count) le)).reached i in
+        (λ m. admitted li (row.0 m), λ a. row.1 (found e i le li a));
+  }

@@ -66,7 +66,7 @@ module _ (s : Schema) (graph : List (List ℕ)) (h : AreSupertypesNamed (map (λ
   name_of i = entity_name s (entity_id i)
 
   -- an edge has both its ends among the entities
-  edge_at : (a b : ℕ) → HasEdge graph a b → a < length s.entities
+  pub edge_at : (a b : ℕ) → HasEdge graph a b → a < length s.entities
   edge_at a b e = ⊎_elim
       (λ (l : a < length graph). subst (λ u. a < u) h.count l)
       (λ (g : length graph ≤ a). absurd (subst (λ (u : List ℕ). IsIn u b) (get_or_past graph a [] g) e))
@@ -75,7 +75,7 @@ module _ (s : Schema) (graph : List (List ℕ)) (h : AreSupertypesNamed (map (λ
   pub edges_below : AreEdgesBelow graph (length graph)
   edges_below a b e = subst (λ u. b < u) (name_count s ∙ sym h.count) ((h.rows a (edge_at a b e)).below b e)
 
-  edge_names : (a b : ℕ) → HasEdge graph a b → IsSupertype s (name_of a) (name_of b)
+  pub edge_names : (a b : ℕ) → HasEdge graph a b → IsSupertype s (name_of a) (name_of b)
   edge_names a b e =
       let at = edge_at a b e in
       record {
@@ -98,7 +98,7 @@ module _ (s : Schema) (graph : List (List ℕ)) (h : AreSupertypesNamed (map (λ
 
   module _ (distinct : AreDistinct (all_names s)) where
     -- a supertype by name is one by place
-    names_edge : (a : ℕ) (n : List ℕ) → a < length s.entities → IsSupertype s (name_of a) n → (w : ℕ) × (HasEdge graph a w × (name_of w ≡ n))
+    pub names_edge : (a : ℕ) (n : List ℕ) → a < length s.entities → IsSupertype s (name_of a) n → (w : ℕ) × (HasEdge graph a w × (name_of w ≡ n))
     names_edge a n la st =
         let p = place_of s.entities st.entity st.declared in
         let at : get_or s.entities p.0 no_entity ≡ st.entity = p.1.1 no_entity in

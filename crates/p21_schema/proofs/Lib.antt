@@ -2,6 +2,7 @@ pub mod Members
 pub mod NameLemmas
 pub mod GraphLemmas
 pub mod ReachLemmas
+pub mod TransposeLemmas
 pub mod AncestryLemmas
 pub mod RowLemmas
 pub mod UnderLemmas

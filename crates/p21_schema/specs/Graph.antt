@@ -46,3 +46,12 @@ pub record IsReachRow (direct graph : List (List ℕ)) (size v : ℕ) (row : Lis
 pub record IsReachTable (direct graph : List (List ℕ)) (size : ℕ) (table : List (List Bool)) : Type 0 where
   pub count : length table ≡ length graph
   pub rows : (v : ℕ) → v < length graph → IsReachRow direct graph size v (get_or table v [])
+
+-- these are the rows of a table that mark the place
+abbrev pub AreMarking : List (List Bool) → ℕ → List ℕ → Type 0
+AreMarking table place rows = (k : ℕ) → IsIn rows k ↔ IsMarked (get_or table k []) place
+
+-- from each place that a row has edges lead to the rows that mark it
+pub record IsTransposed (table : List (List Bool)) (size : ℕ) (graph : List (List ℕ)) : Type 0 where
+  pub count : length graph ≡ size
+  pub rows : (place : ℕ) → place < size → AreMarking table place (get_or graph place [])

@@ -5,7 +5,7 @@ use Rattle.p21_express.specs.WellFormed.{IsEntity, IsSelect}
 use Rattle.p21_schema.specs.declared.selects.Selects.{Selects}
 use Rattle.p21_schema.specs.Graph.{rows_of, IsMarked}
 use Rattle.p21_schema.specs.Place.{no_entity, no_type}
-use Rattle.p21_schema.specs.Select.{SelectReaches, ReachesEntity}
+use Rattle.p21_schema.specs.Select.{SelectReaches, ReachesEntity, ReachesA}
 
 abbrev pub entity_named : Schema → ℕ → List ℕ
 entity_named s i = (get_or s.entities i no_entity).name
@@ -23,6 +23,12 @@ pub record IsSelectTable (s : Schema) (Wanted : List ℕ → Type 0) (size : ℕ
 pub record AreEntityMarks (s : Schema) (marks : List Bool) : Type 0 where
   pub count : length marks ≡ length s.types
   pub rows : (i : ℕ) → i < length s.types → IsMarked marks i ↔ ReachesEntity s (type_named s i)
+
+-- a row for each entity, which marks the types that reach it or an ancestor of it
+pub record IsAdmitTable (s : Schema) (table : List (List Bool)) : Type 0 where
+  pub count : length table ≡ length s.entities
+  pub columns : (e : ℕ) → e < length s.entities → length (get_or table e []) ≡ length s.types
+  pub marks : (e i : ℕ) → e < length s.entities → i < length s.types → IsMarked (get_or table e []) i ↔ ReachesA s (type_named s i) (entity_named s e)
 
 pub record AreSelectTables (s : Schema) (tables : Selects) : Type 0 where
   pub entities : IsSelectTable s (IsEntity s) (length s.entities) (entity_named s) (rows_of tables.entities)

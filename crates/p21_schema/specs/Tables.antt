@@ -9,7 +9,7 @@ use Rattle.p21_schema.specs.Under.{AreEnds, AreResolved}
 use Rattle.p21_schema.specs.Ancestry.{IsSupertypeTable, IsAncestorTable}
 use Rattle.p21_schema.specs.Declaration.{written}
 use Rattle.p21_schema.specs.DeclarationTable.{IsDeclarationTable}
-use Rattle.p21_schema.specs.SelectTable.{AreSelectTables}
+use Rattle.p21_schema.specs.SelectTable.{AreSelectTables, IsAdmitTable}
 
 pub record AreTables (a : Inside) : Type 0 where
   pub well_formed : IsWellFormed (plain_schema a.declarations)
@@ -23,3 +23,4 @@ pub record AreTables (a : Inside) : Type 0 where
   pub ends : AreEnds (plain_schema a.declarations) a.ends.items
   pub resolved : AreResolved (map (λ e. e.name) (plain_schema a.declarations).entities) (map (λ t. t.name) (plain_schema a.declarations).types) a.unders.items (plain_schema a.declarations).types
   pub selects : AreSelectTables (plain_schema a.declarations) a.selects
+  pub admitting : IsAdmitTable (plain_schema a.declarations) (rows_of a.admitting)

@@ -1,9 +1,9 @@
-//! Graphs by lists of neighbors: an order in which the neighbors of each vertex stand before it, and what each vertex
-//! reaches.
+//! Graphs by lists of neighbors: an order in which the neighbors of each vertex stand before it, what each vertex reaches,
+//! and the marks of a table transposed into edges.
 
 ghost use Rattle.std.specs.Prelude.{◌≡◌, ◌<◌, ◌≤◌, ◌↔◌, ◌⊎◌, true, false, ℕ, [], length, get_or, replicate, OnOk, IfOk, IsTrue, slice_index};
 ghost use Rattle.p21_express.specs.WellFormed.{IsIn, HasNoCycle};
-ghost use Rattle.p21_schema.specs.Graph.{plain_graph, HasEdge, AreEdgesBelow, IsOrder, IsPlacedIn, IsMarked, AreMarked, rows_of, IsReachTable};
+ghost use Rattle.p21_schema.specs.Graph.{plain_graph, HasEdge, AreEdgesBelow, IsOrder, IsPlacedIn, IsMarked, AreMarked, rows_of, IsReachTable, AreMarking, IsTransposed};
 
 use std::alloc::{AllocError, Global};
 
@@ -134,4 +134,34 @@ pub(crate) fn reached(
         table[*vertex] = row;
     }
     Ok(table)
+}
+
+/// The rows that mark a place.
+fn marking(alloc: Global, table: &Vec<Vec<bool>>, place: usize) -> Result<Vec<usize>, AllocError>
+    requires { (k : ℕ) → k < length (rows_of table.now) → place < length (get_or (rows_of table.now) k []) }
+    ensures { IfOk result (λ rows. AreMarking (rows_of table.now) place rows.items) }
+{
+    let mut rows = Vec::new(alloc);
+    for (k, row) in table.iter().enumerate() {
+        if row[place] {
+            rows.push(k)?;
+        }
+    }
+    Ok(rows)
+}
+
+/// For each place the rows that mark it, where a row has so many places.
+pub(crate) fn transposed(
+    alloc: Global,
+    table: &Vec<Vec<bool>>,
+    count: usize,
+) -> Result<Graph, AllocError>
+    requires { (k : ℕ) → k < length (rows_of table.now) → length (get_or (rows_of table.now) k []) ≡ count }
+    ensures { IfOk result (λ graph. IsTransposed (rows_of table.now) count (plain_graph graph)) }
+{
+    let mut graph = Vec::with_capacity(alloc, count)?;
+    for place in 0..count {
+        graph.push(marking(alloc, table, place)?)?;
+    }
+    Ok(graph)
 }

@@ -1,6 +1,6 @@
 //! A schema as a table.
 
-ghost use Rattle.std.specs.Prelude.{ℕ, get_or, true, false, ◌≡◌, ◌<◌, ◌↔◌, List, Some, length, slice_get, IfOk, IsTrue, MatchOption};
+ghost use Rattle.std.specs.Prelude.{◌≡◌, ◌<◌, ◌↔◌, List, Some, length, slice_get, IfOk, IsTrue, MatchOption};
 
 use crate::ancestry::{supertype_ids, supertypes};
 use crate::declarations::{Declaration, Known, all_declarations};
@@ -9,7 +9,7 @@ use crate::ids::{AttrId, EntityId, TypeId};
 use crate::names::{Names, entity_names, type_names};
 use crate::resolved::Resolved;
 use crate::rows::{Own, own_attributes, rows};
-use crate::selects::{Selects, select_tables};
+use crate::selects::{Selects, admitting, select_tables};
 use crate::under::{resolved, type_ends};
 use p21_express::Declarations;
 use std::alloc::{AllocError, Global};
@@ -32,6 +32,8 @@ pub struct Schema {
     ends: Vec<usize>,
     unders: Vec<Resolved>,
     selects: Selects,
+    /// For each entity which types reach it or an ancestor of it.
+    admitting: Vec<Vec<bool>>,
 }
 
 impl Model for Schema {
@@ -87,6 +89,7 @@ impl Schema {
         };
         let attributes = all_declarations(alloc, &known, lists)?;
         let selects = select_tables(alloc, &unders, declarations.entities.len())?;
+        let admitting = admitting(alloc, &selects.entities, &graph, &order)?;
         Ok(Schema {
             declarations,
             entity_names,
@@ -99,6 +102,7 @@ impl Schema {
             ends,
             unders,
             selects,
+            admitting,
         })
     }
 
@@ -245,9 +249,7 @@ impl Schema {
         requires entity { IsEntityOf self.now entity }
         ensures { IsTrue result ↔ ReachesA self.now (type_name self.now select) (entity_name self.now entity) }
     {
-        let above = &self.ancestors[entity.index];
-        let reached = &self.selects.entities[select.index];
-        self.select_reaches(select, entity) || have_one_in_common(above, reached)
+        self.admitting[entity.index][select.index]
     }
 
     /// Whether the SELECT reaches an entity.
@@ -257,17 +259,4 @@ impl Schema {
     {
         self.selects.any_entity[select.index]
     }
-}
-
-/// Whether some place is marked in both.
-fn have_one_in_common(some: &[bool], others: &[bool]) -> bool
-    requires { length some.now ≡ length others.now }
-    ensures { IsTrue result ↔ ((k : ℕ) × (get_or some.now k false ≡ true) × (get_or others.now k false ≡ true)) }
-{
-    for k in 0..some.len() {
-        if some[k] && others[k] {
-            return true;
-        }
-    }
-    false
 }

@@ -2,13 +2,14 @@
 
 ghost use Rattle.std.specs.Prelude.{◌≡◌, ◌<◌, ◌↔◌, ℕ, List, [], length, get_or, map, IfOk};
 ghost use Rattle.p21_express.specs.Schema.{Schema};
-ghost use Rattle.p21_express.specs.WellFormed.{IsWellFormed};
-ghost use Rattle.p21_schema.specs.Graph.{plain_graph, rows_of, IsMarked};
+ghost use Rattle.p21_express.specs.WellFormed.{IsEntity, IsIn, IsWellFormed};
+ghost use Rattle.p21_schema.specs.Ancestry.{AreSupertypesNamed};
+ghost use Rattle.p21_schema.specs.Graph.{plain_graph, rows_of, IsMarked, IsOrder};
 ghost use Rattle.p21_schema.specs.Under.{AreResolved};
 ghost use Rattle.p21_schema.specs.SelectItems.{kind_of, place_of, targets_of, IsItemRow, IsItemGraph};
-ghost use Rattle.p21_schema.specs.SelectTable.{AreSelectTables};
+ghost use Rattle.p21_schema.specs.SelectTable.{entity_named, IsSelectTable, IsAdmitTable, AreSelectTables};
 
-use crate::graph::{Graph, order, reached};
+use crate::graph::{Graph, order, reached, transposed};
 use crate::resolved::{Resolved, Target};
 use std::alloc::{AllocError, Global};
 
@@ -131,4 +132,20 @@ pub(crate) fn select_tables(
         types,
         any_entity,
     })
+}
+
+/// For each entity which types reach it or an ancestor of it, by what each type reaches and the supertypes of the entities.
+pub(crate) fn admitting(
+    alloc: Global,
+    entities: &Vec<Vec<bool>>,
+    supertypes: &Graph,
+    order: &[usize],
+) -> Result<Vec<Vec<bool>>, AllocError>
+    requires columns { (i : ℕ) → i < length (rows_of entities.now) → length (get_or (rows_of entities.now) i []) ≡ length (plain_graph supertypes.now) }
+    requires order { IsOrder (plain_graph supertypes.now) order.now }
+    requires all { (v : ℕ) → v < length (plain_graph supertypes.now) → IsIn order.now v }
+    ensures { IfOk result (λ table. (s : Schema) → IsWellFormed s → AreSupertypesNamed (map (λ e. e.name) s.entities) (plain_graph supertypes.now) s.entities → IsSelectTable s (IsEntity s) (length s.entities) (entity_named s) (rows_of entities.now) → IsAdmitTable s (rows_of table)) }
+{
+    let direct = transposed(alloc, entities, supertypes.len())?;
+    reached(alloc, &direct, supertypes, order, entities.len())
 }

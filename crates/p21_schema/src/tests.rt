@@ -360,6 +360,43 @@ fn selects_of_selects(rt: HostRuntime) -> Result<(), Fail> {
     Ok(())
 }
 
+/// Whether the SELECT that is the type of an entity's first own attribute reaches the entity of this name or an ancestor of it.
+fn admits(schema: &Schema, owner: &[u8], name: &[u8]) -> Result<bool, Fail> {
+    let select = type_of(schema, owner)?;
+    let entity = schema.entity(name).ok_or("an entity")?;
+    Ok(schema.select_admits(select, entity))
+}
+
+#[test]
+fn admitted_entities(rt: HostRuntime) -> Result<(), Fail> {
+    let toy = table(rt.alloc(), TOY).ok_or("the schema is read and built")?;
+    let rows: [(&[u8], bool); 6] = [
+        (b"ITEM", true),
+        (b"SPECIAL", true),
+        (b"EXTRA", true),
+        (b"CHAIN", true),
+        (b"ROOT", false),
+        (b"OWNER", false),
+    ];
+    for (name, expected) in rows {
+        assert_eq!(rt; admits(&toy, b"PROP", name)?, expected);
+    }
+    let schema = table(rt.alloc(), SELECTS).ok_or("the schema is read and built")?;
+    let rows: [(&[u8], &[u8], bool); 7] = [
+        (b"A", b"A", true),
+        (b"A", b"B", true),
+        (b"A", b"C", false),
+        (b"B", b"A", false),
+        (b"B", b"B", false),
+        (b"C", b"C", true),
+        (b"C", b"B", false),
+    ];
+    for (owner, name, expected) in rows {
+        assert_eq!(rt; admits(&schema, owner, name)?, expected);
+    }
+    Ok(())
+}
+
 /// Its answer is right also where a request for memory is refused, which `tests/refused_memory` does in turn.
 #[test]
 fn memory_or_the_answer(rt: HostRuntime) -> Result<(), Fail> {
@@ -372,6 +409,7 @@ fn memory_or_the_answer(rt: HostRuntime) -> Result<(), Fail> {
     };
     if let Ok(schema) = Schema::build(rt.alloc(), declarations) {
         assert_eq!(rt; reach(&schema, b"A", b"E")?, (true, false, true));
+        assert!(rt; admits(&schema, b"A", b"B")?);
         assert!(rt; has_row(&schema, b"B", &[(b"A", 0), (b"B", 0)])?);
     }
     Ok(())

@@ -1,9 +1,10 @@
-use Rattle.std.proofs.Common.{◌≡◌, sym, List, [], map, length, get_or, ap, ◌∙◌}
+use Rattle.std.proofs.Common.{◌≡◌, ◌<◌, ℕ, sym, subst, List, [], map, length, get_or, ap, ◌∙◌}
 use Rattle.std.proofs.lemmas.List.{length-map}
 use Rattle.p21_express.specs.Schema.{Entity, Defined}
 use Rattle.p21_express.specs.Plain.{plain_schema, plain_entity, plain_type}
 use Rattle.p21_schema.specs.Graph.{plain_graph, IsReachTable, rows_of}
 use Rattle.p21_schema.specs.Ancestry.{AreSupertypesNamed}
+use Rattle.p21_schema.specs.SelectTable.{AreSelectTables}
 use Rattle.p21_schema.specs.Under.{AreResolved}
 use Rattle.p21_schema.proofs.GraphLemmas.{row_count}
 use Rattle.p21_schema.proofs.AncestryLemmas.{named_by, distinct_entities, supertypes_known, edges_below, no_cycle, ancestor_table, supertype_table}
@@ -38,10 +39,12 @@ invariant_of-result c =
     let names_are : c.in_ok-entity_names.entity_names ≡ map (λ (e : Entity). e.name) s.entities = c.in_ok-entity_names.ensures ∙ ap (λ (es : List _). map (λ (e : Entity). e.name) (map plain_entity es)) c.deref.ensures.value in
     let types_are : c.in_ok-type_names.type_names ≡ map (λ (t : Defined). t.name) s.types = c.in_ok-type_names.ensures ∙ ap (λ (ts : List _). map (λ (t : Defined). t.name) (map plain_type ts)) c.deref-6.ensures.value in
     let found : AreResolved (map (λ (e : Entity). e.name) s.entities) (map (λ (t : Defined). t.name) s.types) c.in_ok-unders.unders.items s.types = rw (← names_are, ← types_are, ← c.deref-8.ensures.value) c.in_ok-unders.ensures in
+    let selects : AreSelectTables s c.in_ok-selects.selects = c.in_ok-selects.ensures s c.requires (rw c.deref-10.ensures.value found) (c.len-2.ensures ∙ c.args.declarations.entities.ok.0 ∙ sym (length-map c.args.declarations.entities.items plain_entity)) in
     record {
       types = types_are;
       attributes = c.in_ok-attributes.ensures;
-      selects = c.in_ok-selects.ensures s c.requires (rw c.deref-10.ensures.value found) (c.len-2.ensures ∙ c.args.declarations.entities.ok.0 ∙ sym (length-map c.args.declarations.entities.items plain_entity));
+      selects = selects;
+      admitting = c.in_ok-admitting.ensures s c.requires h selects.entities;
       ends = c.in_ok-ends.ensures s (ap (λ (ts : List _). map plain_type ts) (sym c.deref-7.ensures.value));
       resolved = found;
       own = c.in_ok-own.ensures.own;
@@ -88,3 +91,13 @@ select_tables-requires c =
     let types_are : c.in_ok-type_names.type_names ≡ map (λ (t : Defined). t.name) s.types = c.in_ok-type_names.ensures ∙ ap (λ (ts : List _). map (λ (t : Defined). t.name) (map plain_type ts)) c.deref-6.ensures.value in
     let found : AreResolved (map (λ (e : Entity). e.name) s.entities) (map (λ (t : Defined). t.name) s.types) c.in_ok-unders.unders.items s.types = rw (← names_are, ← types_are, ← c.deref-8.ensures.value) c.in_ok-unders.ensures in
     (s, (c.requires, (rw c.deref-10.ensures.value found, c.len-2.ensures ∙ c.args.declarations.entities.ok.0 ∙ sym (length-map c.args.declarations.entities.items plain_entity))))
+
+pub admitting-requires-clause-columns : goal.admitting-requires-clause-columns
+admitting-requires-clause-columns c =
+    let s = plain_schema c.args.declarations in
+    let h : AreSupertypesNamed (map (λ (e : Entity). e.name) s.entities) (plain_graph c.in_ok-graph.graph) s.entities = named_by plain_entity c.in_ok-entity_names.entity_names (plain_graph c.in_ok-graph.graph) c.deref.result.now c.deref-2.result.now c.args.declarations.entities.items c.in_ok-entity_names.ensures c.deref.ensures.value c.deref-2.ensures.value c.in_ok-graph.ensures in
+    let names_are : c.in_ok-entity_names.entity_names ≡ map (λ (e : Entity). e.name) s.entities = c.in_ok-entity_names.ensures ∙ ap (λ (es : List _). map (λ (e : Entity). e.name) (map plain_entity es)) c.deref.ensures.value in
+    let types_are : c.in_ok-type_names.type_names ≡ map (λ (t : Defined). t.name) s.types = c.in_ok-type_names.ensures ∙ ap (λ (ts : List _). map (λ (t : Defined). t.name) (map plain_type ts)) c.deref-6.ensures.value in
+    let found : AreResolved (map (λ (e : Entity). e.name) s.entities) (map (λ (t : Defined). t.name) s.types) c.in_ok-unders.unders.items s.types = rw (← names_are, ← types_are, ← c.deref-8.ensures.value) c.in_ok-unders.ensures in
+    let selects : AreSelectTables s c.in_ok-selects.selects = c.in_ok-selects.ensures s c.requires (rw c.deref-10.ensures.value found) (c.len-2.ensures ∙ c.args.declarations.entities.ok.0 ∙ sym (length-map c.args.declarations.entities.items plain_entity)) in
+    λ i less. selects.entities.columns i (subst (λ (n : ℕ). i < n) selects.entities.count less) ∙ sym h.count
