@@ -1,14 +1,11 @@
 -- Instances that are asked for.
-use Rattle.std.proofs.Common.{◌≡◌, ◌↔◌, ℕ, ◌⊎◌, inl, inr, Bool, true, false, Some, List, [], ◌∷◌, length, get_or, map, refl, sym, ap, subst, ◌∙◌}
+use Rattle.std.proofs.Common.{◌≡◌, ◌↔◌, ℕ, ◌⊎◌, inl, inr, Bool, true, false, Some, List, [], ◌∷◌, refl, sym, subst, ◌∙◌}
 use Rattle.std.specs.Prelude.{IsTrue}
 use Rattle.std.proofs.lemmas.Bool.{false≢true}
 use Rattle.p21_express.specs.Schema.{Schema, Entity}
 use Rattle.p21_express.specs.WellFormed.{IsIn, IsEntity, IsSelect, IsAncestor, IsWellFormed, Leads, IsSupertype}
 use Rattle.p21_express.specs.WellFormed as way
-use Rattle.p21_tree.specs.Grammar.{Entry}
 use Rattle.p21_tree.specs.Sentence.{Instance}
-use Rattle.p21_tree.specs.Views.{plain_record}
-use Rattle.p21_tree.specs.declared.instances.Record.{Record}
 use Rattle.p21_schema.specs.declared.ids.EntityId.{EntityId}
 use Rattle.p21_schema.specs.Place.{entity_name, IsEntityOf, type_name}
 use Rattle.p21_schema.specs.Select.{ReachesA}
@@ -54,11 +51,6 @@ complex_admits s well i (asked.Select t) c n a = (there, back) where
   back (wanted_is.reached {e = m} selects r set) = (let k = complex_in s i m c set in record { name = m; among = k.0; meets = (k.1, r) })
 
 -- the set of a simple instance
-
-pub one_keyword : (rs : List Record) (d : Record) → length rs ≡ 1 → d ≡ get_or rs 0 d → map (λ (e : Entry). e.keyword) (map plain_record rs) ≡ d.keyword.now ∷ []
-one_keyword [] d h e = cc
-one_keyword (r ∷ []) d h e = ap (λ (x : Record). x.keyword.now ∷ []) (sym e)
-one_keyword (r ∷ q ∷ rs) d h e = cc
 
 one_in : (k n : List ℕ) → IsIn (k ∷ []) n → k ≡ n
 one_in k n (inl e) = e

@@ -5,7 +5,7 @@ use Rattle.std.proofs.lemmas.Bool.{cases_lt}
 use Rattle.p21_tree.specs.Tree.{Tree}
 use Rattle.p21_tree.specs.Sentence.{Instance}
 use Rattle.p21_express.specs.Schema.{Schema, Expr}
-use Rattle.p21_express.specs.WellFormed.{IsIn, Origin}
+use Rattle.p21_express.specs.WellFormed.{IsIn, IsWellFormed, Origin}
 use Rattle.p21_schema.specs.declared.declarations.Form.TheVariants as coded
 use Rattle.p21_schema.specs.declared.resolved.ResolvedExpr.{ResolvedExpr}
 use Rattle.std.proofs.lemmas.List.{take_all}
@@ -20,30 +20,47 @@ use Rattle.p21_check.specs.declared.walk.FirstBad.{FirstBad}
 use Rattle.p21_check.specs.References.{Reference, Refers, name_count}
 use Rattle.p21_check.specs.Sets.{CountsAmong}
 use Rattle.p21_check.specs.Wanted.{Asks, IsAskedBy, by_names}
-use Rattle.p21_check.specs.Walk.{FindsBad, IsAnswered, AreAnswered, IsBad}
+use Rattle.p21_check.specs.Walk.{FindsBad, IsAnswered, AreAnswered, IsBad, chosen}
 use Rattle.p21_check.proofs.WalkLemmas.{refers_below}
 use Rattle.p21_check.proofs.AnyLemmas.{zip_at, zip_length}
-use Rattle.p21_check.proofs.SlotLemmas.{counts_there, counts_among}
-use Rattle.p21_check.specs.Asked.{AskedBy, AsksAsCounted, RefersCounting, FindsFirst, IsFirst}
+use Rattle.p21_check.proofs.SlotLemmas.{counts_there, counts_among, explicit_no_derived, in_only, only_counts}
+use Rattle.p21_check.specs.Asked.{AskedBy, AsksAsCounted, AsksByForm, RefersByForm, RefersCounting, FindsFirst, IsFirst}
 
 -- the type of an explicit declaration
 pub explicit_type : (s : Schema) (f : Form) (o : Bool) (e : ResolvedExpr) → IsResolvedForm s (coded.Explicit o e) f → (p : Bool) × ((x : Expr) × ((f ≡ form.explicit p x) × (by_names s e ≡ Some x)))
 explicit_type s form.derived o e h = elim h [ ]
 explicit_type s (form.explicit p x) o e h = (p, (x, (refl, h.1.0)))
 
--- a declaration that counts asks what its type asks
-pub counted : (s : Schema) (InSet : List ℕ → Type 0) (ds : List Declaration) (d : Declaration) (p : Bool) (x : Expr) (w : Wanted) → d.form ≡ form.explicit p x → CountsAmong s InSet ds d → IsAskedBy s x w → AsksAsCounted s InSet ds d w
-counted s InSet ds d p x w e c a = record {
+-- an explicit form asks what its type asks
+pub explicit_asks : (s : Schema) (f : Form) (p : Bool) (x : Expr) (w : Wanted) → f ≡ form.explicit p x → IsAskedBy s x w → AsksByForm s f w
+explicit_asks s f p x w e a = record {
   asked_ = a.asked_;
-  same = λ t k r. (there t k r, λ h. record { optional = p; texpr = x; counts = c; explicit = e; refers = (a.same t k r).1 h });
+  same = λ t k r. (there t k r, λ h. record { optional = p; texpr = x; explicit = e; refers = (a.same t k r).1 h });
 } where
-  there : (t : Tree) (k : ℕ) (r : Reference) → RefersCounting s InSet ds d t k r → Asks s w t k r
+  there : (t : Tree) (k : ℕ) (r : Reference) → RefersByForm s f t k r → Asks s w t k r
   there t k r h =
       let y = h.texpr in
       let q = h.optional in
-      let f : d.form ≡ form.explicit q y = h.explicit in
+      let g : f ≡ form.explicit q y = h.explicit in
       let same : y ≡ x = cc in
       (a.same t k r).0 (subst (λ (z : Expr). Refers s z t k r) same h.refers)
+
+-- a declaration that counts asks what its form asks
+pub counted : (s : Schema) (InSet : List ℕ → Type 0) (ds : List Declaration) (d : Declaration) (w : Wanted) → CountsAmong s InSet ds d → AsksByForm s d.form w → AsksAsCounted s InSet ds d w
+counted s InSet ds d w c a = record {
+  asked_ = a.asked_;
+  same = λ t k r. (λ h. (a.same t k r).0 h.refers, λ h. record { counts = c; refers = (a.same t k r).1 h });
+}
+
+-- the only declaration asks what its form asks, where it is by an entity of the set
+pub only_asks : (s : Schema) → IsWellFormed s → (InSet : List ℕ → Type 0) (d : Declaration) (w : Wanted) → InSet d.entity → AsksByForm s d.form w → AsksAsCounted s InSet (d ∷ []) d w
+only_asks s well InSet d w by a = record {
+  asked_ = a.asked_;
+  same = λ t k r. (
+    λ h. (a.same t k r).0 h.refers,
+    λ h. let f = (a.same t k r).1 h in record { counts = only_counts s well InSet d by (explicit_no_derived d.form f.explicit); refers = f },
+  );
+}
 
 -- the best of some that ask, as the loop keeps it
 abbrev pub BestOf : Schema → (ℕ → Option Instance) → (ℕ → Reference → Type 0) → (ℕ → Reference → Type 0) → Result (Unit {0}) Bad → Type 0
@@ -193,14 +210,42 @@ at_last s named InSet o cs ds i p W first are all h b = finish first (best_iff s
 
   same : (k : ℕ) (r : Reference) → AskedUpTo s InSet ds i p k r ↔ AskedBy s InSet o p k r
   same k r = (
-    (λ a. let f = a.1.1 in record { declaration = a.0; optional = f.optional; texpr = f.texpr; counts = counts_there s InSet o ds are (subst (λ (xs : List Declaration). IsIn xs a.0) whole a.1.0) f.counts; explicit = f.explicit; refers = f.refers }),
-    (λ a. let f = counts_among s InSet o ds are a.counts in (a.declaration, (subst (λ (xs : List Declaration). IsIn xs a.declaration) (sym whole) f.0, record { optional = a.optional; texpr = a.texpr; counts = f.1; explicit = a.explicit; refers = a.refers }))),
+    (λ a. let f = a.1.1 in record { declaration = a.0; counts = counts_there s InSet o ds are (subst (λ (xs : List Declaration). IsIn xs a.0) whole a.1.0) f.counts; refers = f.refers }),
+    (λ a. let f = counts_among s InSet o ds are a.counts in (a.declaration, (subst (λ (xs : List Declaration). IsIn xs a.declaration) (sym whole) f.0, record { counts = f.1; refers = a.refers }))),
   )
 
   finish : (first : Result (Unit {0}) Bad) → Best s named (AskedBy s InSet o p) W first → FindsFirst s named (AskedBy s InSet o p) first
   finish (Ok u) b = b.finds
   finish (Err e) b = b.finds.0
 
+-- the only declaration
+asked_only : (s : Schema) (InSet : List ℕ → Type 0) (o : Origin) (d : Declaration) (p : Tree) (w : Wanted) → AreDeclarations s o (d ∷ []) → AsksAsCounted s InSet (d ∷ []) d w → (k : ℕ) (r : Reference) → AskedBy s InSet o p k r ↔ Asks s w p k r
+asked_only s InSet o d p w are a k r = (there, back) where
+  there : AskedBy s InSet o p k r → Asks s w p k r
+  there h =
+      let f = counts_among s InSet o (d ∷ []) are h.counts in
+      (a.same p k r).0 (subst (λ (x : Declaration). RefersCounting s InSet (d ∷ []) x p k r) (sym (in_only f.0)) (record { counts = f.1; refers = h.refers }))
+
+  back : Asks s w p k r → AskedBy s InSet o p k r
+  back h =
+      let f = (a.same p k r).1 h in
+      record { declaration = d; counts = counts_there s InSet o (d ∷ []) are (inl refl) f.counts; refers = f.refers }
+
+pub only_answered : (s : Schema) (named : ℕ → Option Instance) (InSet : List ℕ → Type 0) (o : Origin) (d : Declaration) (p : Tree) (w : Wanted) → AreDeclarations s o (d ∷ []) → AsksAsCounted s InSet (d ∷ []) d w → AreAnswered s named (Asks s w p) → AreAnswered s named (AskedBy s InSet o p)
+only_answered s named InSet o d p w are a h k r x = h k r ((asked_only s InSet o d p w are a k r).0 x)
+
+pub only_first : (s : Schema) (named : ℕ → Option Instance) (InSet : List ℕ → Type 0) (o : Origin) (d : Declaration) (p : Tree) (w : Wanted) (f : FirstBad) → AreDeclarations s o (d ∷ []) → AsksAsCounted s InSet (d ∷ []) d w → FindsBad s named (Asks s asked.Nothing p) (Asks s w p) (Err f) → IsFirst s named (AskedBy s InSet o p) f.bad
+only_first s named InSet o d p w f are a h = record {
+  place = h.place;
+  reference = h.reference;
+  asked_ = (asked_only s InSet o d p w are a h.place h.reference).1 (second f.second h.asked_);
+  bad_ = h.bad_;
+  before = λ j r less x. h.before_other j r less ((asked_only s InSet o d p w are a j r).0 x);
+} where
+  second : (b : Bool) → chosen b (Asks s asked.Nothing p) (Asks s w p) h.place h.reference → Asks s w p h.place h.reference
+  second false x = elim x [ ]
+  second true x = x
+
 -- where no instance name stands, nothing is asked
 pub no_names_asked : (s : Schema) (named : ℕ → Option Instance) (InSet : List ℕ → Type 0) (o : Origin) (p : Tree) → name_count p ≡ 0 → AreAnswered s named (AskedBy s InSet o p)
-no_names_asked s named InSet o p none k r a = let below = refers_below a.refers in absurd (omega (arith, none, below))
+no_names_asked s named InSet o p none k r a = let below = refers_below a.refers.refers in absurd (omega (arith, none, below))

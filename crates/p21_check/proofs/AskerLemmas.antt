@@ -6,38 +6,24 @@ use Rattle.p21_express.specs.WellFormed.{Origin}
 use Rattle.p21_tree.specs.Tree.{Tree}
 use Rattle.p21_tree.specs.Grammar.{Entry}
 use Rattle.p21_tree.specs.Sentence.{Instance}
-use Rattle.p21_schema.specs.Declaration.{Declaration}
 use Rattle.p21_check.specs.declared.walk.Bad.{Bad}
 use Rattle.p21_check.specs.declared.walk.Bad.TheVariants as bad
 use Rattle.p21_check.specs.EntitySet.{IsInSet}
 use Rattle.p21_check.specs.Attributes.{AreAttributes}
 use Rattle.p21_check.specs.LocalFault.{tree_get}
-use Rattle.p21_check.specs.Slot.{DeclaresIn, Counts}
 use Rattle.p21_check.specs.References.{Reference, HasReference, IsAtFault, HasFaultAt, IsFirstFault, IsBefore}
 use Rattle.p21_check.specs.References as refers
 use Rattle.p21_tree.specs.declared.faults.FaultKind.{FaultKind}
 use Rattle.p21_check.specs.Walk.{IsAnswered, IsBad}
 use Rattle.p21_check.specs.Asked.{AskedBy, AreFaultless, IsRecordFault, kind_at}
-
-declares_same : (s : Schema) (S T : List ℕ → Type 0) (o : Origin) (d : Declaration) → ((n : List ℕ) → S n → T n) → DeclaresIn s S o d → DeclaresIn s T o d
-declares_same s S T o d f h = record { all = h.all; are = h.are; among = h.among; by = f d.entity h.by }
-
--- the same set in other words
-pub counts_same : (s : Schema) (S T : List ℕ → Type 0) (o : Origin) (d : Declaration) → ((n : List ℕ) → S n ↔ T n) → Counts s S o d → Counts s T o d
-counts_same s S T o d f h = record {
-  declares = declares_same s S T o d (λ n. (f n).0) h.declares;
-  last = λ other k. h.last other (declares_same s T S o other (λ n. (f n).1) k);
-}
+use Rattle.p21_check.proofs.SlotLemmas.{counts_same}
 
 -- a reference of the instance is asked for by a declaration that counts
 pub reference_asked : (s : Schema) (i : Instance) (S : List ℕ → Type 0) (q a k : ℕ) (r : Reference) → ((n : List ℕ) → IsInSet s i n ↔ S n) → (h : HasReference s i q a k r) → AskedBy s S h.attribute h.parameter k r
 reference_asked s i S q a k r f h = record {
   declaration = h.declaration;
-  optional = h.optional;
-  texpr = h.texpr;
   counts = counts_same s (IsInSet s i) S h.attribute h.declaration f h.counts;
-  explicit = h.explicit;
-  refers = h.refers;
+  refers = record { optional = h.optional; texpr = h.texpr; explicit = h.explicit; refers = h.refers };
 }
 
 pub asked_reference : (s : Schema) (i : Instance) (S : List ℕ → Type 0) (q a k : ℕ) (r : Reference) (e : Entry) (os : List Origin) (o : Origin) (t : Tree) → ((n : List ℕ) → IsInSet s i n ↔ S n) → slice_get i.records q ≡ Some e → AreAttributes s i.complex e.keyword os → slice_get os a ≡ Some o → tree_get e.params a ≡ Some t → AskedBy s S o t k r → HasReference s i q a k r
@@ -47,15 +33,15 @@ asked_reference s i S q a k r e os o t f there are for_ given h = record {
   attribute = o;
   parameter = t;
   declaration = h.declaration;
-  optional = h.optional;
-  texpr = h.texpr;
+  optional = h.refers.optional;
+  texpr = h.refers.texpr;
   there = there;
   are = are;
   for_ = for_;
   given = given;
   counts = counts_same s S (IsInSet s i) o h.declaration (λ n. ((f n).1, (f n).0)) h.counts;
-  explicit = h.explicit;
-  refers = h.refers;
+  explicit = h.refers.explicit;
+  refers = h.refers.refers;
 }
 
 -- what is answered is not at fault

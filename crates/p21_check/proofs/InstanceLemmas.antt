@@ -14,41 +14,32 @@ use Rattle.p21_check.specs.EntitySet.{IsInSet, keywords}
 use Rattle.p21_check.specs.EntitySet as sets
 use Rattle.p21_check.specs.Conforms.{tree_count}
 use Rattle.p21_check.specs.Attributes.{AreAttributes}
-use Rattle.p21_check.specs.Slot.{FitsSlot, IsDerived, Counts, DeclaresIn}
+use Rattle.p21_check.specs.Slot.{FitsSlot, IsDerived, Counts}
 use Rattle.p21_check.specs.Slot as slot
 use Rattle.p21_check.specs.LocalFault.{HasUnknownEntity, HasAbstractEntity, IsBadComplex, IsAbstract, HasWrongCount, HasBadAttribute, tree_get}
 use Rattle.p21_check.specs.declared.entity_set.EntitySet.TheVariants as set
 use Rattle.p21_check.specs.Sets.{HasEntity}
 use Rattle.p21_check.specs.Instances.{simple_instance, IsUnfitAt}
 use Rattle.p21_check.proofs.SetLemmas.{is_entity}
+use Rattle.p21_check.proofs.SlotLemmas.{derived_same, counts_same}
 use Rattle.p21_check.proofs.AttributeLemmas.{one_list, one_entity, entity_there}
 
 -- ---- two sets with the same entities
 
-module _ (s : Schema) (A B : List ℕ → Type 0) (o : Origin) (h : (n : List ℕ) → A n ↔ B n) where
-  fits_along : {t : Tree} → FitsSlot s A o t → FitsSlot s B o t
-  fits_along (slot.derived d) = slot.derived (record { declaration = d.declaration; declares = record { all = d.declares.all; are = d.declares.are; among = d.declares.among; by = (h d.declaration.entity).0 d.declares.by }; derives = d.derives })
-  fits_along (slot.absent d k) = slot.absent (λ e. d (back e)) (λ x c. k x (counts x c)) where
-    back : IsDerived s B o → IsDerived s A o
-    back d = record { declaration = d.declaration; declares = record { all = d.declares.all; are = d.declares.are; among = d.declares.among; by = (h d.declaration.entity).1 d.declares.by }; derives = d.derives }
-
-    there : (x : Declaration) → DeclaresIn s A o x → DeclaresIn s B o x
-    there x d = record { all = d.all; are = d.are; among = d.among; by = (h x.entity).0 d.by }
-
-    counts : (x : Declaration) → Counts s B o x → Counts s A o x
-    counts x c = record { declares = record { all = c.declares.all; are = c.declares.are; among = c.declares.among; by = (h x.entity).1 c.declares.by }; last = λ other d. c.last other (there other d) }
-  fits_along (slot.given d k) = slot.given (λ e. d (back e)) (λ x c. k x (counts x c)) where
-    back : IsDerived s B o → IsDerived s A o
-    back d = record { declaration = d.declaration; declares = record { all = d.declares.all; are = d.declares.are; among = d.declares.among; by = (h d.declaration.entity).1 d.declares.by }; derives = d.derives }
-
-    there : (x : Declaration) → DeclaresIn s A o x → DeclaresIn s B o x
-    there x d = record { all = d.all; are = d.are; among = d.among; by = (h x.entity).0 d.by }
-
-    counts : (x : Declaration) → Counts s B o x → Counts s A o x
-    counts x c = record { declares = record { all = c.declares.all; are = c.declares.are; among = c.declares.among; by = (h x.entity).1 c.declares.by }; last = λ other d. c.last other (there other d) }
-
 turned : {A B : List ℕ → Type 0} → ((n : List ℕ) → A n ↔ B n) → (n : List ℕ) → B n ↔ A n
 turned h n = ((h n).1, (h n).0)
+
+module _ (s : Schema) (A B : List ℕ → Type 0) (o : Origin) (h : (n : List ℕ) → A n ↔ B n) where
+  not_derived_along : ¬ (IsDerived s A o) → ¬ (IsDerived s B o)
+  not_derived_along k d = k (derived_same s B A o (λ n. (h n).1) d)
+
+  counts_back : (d : Declaration) → Counts s B o d → Counts s A o d
+  counts_back d = counts_same s B A o d (turned h)
+
+  fits_along : {t : Tree} → FitsSlot s A o t → FitsSlot s B o t
+  fits_along (slot.derived d) = slot.derived (derived_same s A B o (λ n. (h n).0) d)
+  fits_along (slot.absent k f) = slot.absent (not_derived_along k) (λ d c. f d (counts_back d c))
+  fits_along (slot.given k f) = slot.given (not_derived_along k) (λ d c. f d (counts_back d c))
 
 pub unfit_along : (s : Schema) (A B : List ℕ → Type 0) (os : List Origin) (ts : Trees) (a : ℕ) → ((n : List ℕ) → A n ↔ B n) → IsUnfitAt s A os ts a → IsUnfitAt s B os ts a
 unfit_along s A B os ts a h u = (u.0, u.1, u.2, u.3, λ f. u.4 (fits_along s B A u.0 (turned h) f))

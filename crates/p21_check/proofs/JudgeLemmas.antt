@@ -112,5 +112,5 @@ wrong_second s named v w n i e h = record {
 -- an instance has the name, and is known by the schema
 pub known_one : (s : Schema) (o : Option Instance) (k : Named) → IsKnownAs s o k → ¬ (k ≡ known.Missing) → (i : Instance) × (o ≡ Some i) × IsKnownAs s (Some i) k
 known_one s o known.Missing h there = absurd (there refl)
-known_one s o (known.Other r) h there = (plain_instance r.now, h, refl)
+known_one s o (known.Other r) h there = (plain_instance r.now, h.0, (refl, h.1))
 known_one s o (known.Simple id) h there = (h.0, h.1, (h.0, refl, h.2))

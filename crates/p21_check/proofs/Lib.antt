@@ -15,6 +15,7 @@ pub mod SlotLemmas
 pub mod AttributeLemmas
 pub mod LocalLemmas
 pub mod InstanceLemmas
+pub mod EntityOfLemmas
 pub mod ComplexLemmas
 pub mod HeaderLemmas
 pub mod HeaderParams
@@ -31,3 +32,4 @@ pub mod AskedLemmas
 pub mod EntryLemmas
 pub mod AskerLemmas
 pub mod RecordLemmas
+pub mod UniqueLemmas

@@ -117,6 +117,21 @@ form_conforming : (s : Schema) (t : Tree) (f : Form) → ConformsToForm s t f �
 form_conforming s t form.derived h = h
 form_conforming s t (form.explicit o x) h = inr h
 
+-- two sets with the same entities
+module _ (s : Schema) (S T : List ℕ → Type 0) (o : Origin) where
+  declares_same : (d : Declaration) → ((n : List ℕ) → S n → T n) → DeclaresIn s S o d → DeclaresIn s T o d
+  declares_same d f h = record { all = h.all; are = h.are; among = h.among; by = f d.entity h.by }
+
+  pub derived_same : ((n : List ℕ) → S n → T n) → IsDerived s S o → IsDerived s T o
+  derived_same f h = record { declaration = h.declaration; declares = declares_same h.declaration f h.declares; derives = h.derives }
+
+pub counts_same : (s : Schema) (S T : List ℕ → Type 0) (o : Origin) (d : Declaration) → ((n : List ℕ) → S n ↔ T n) → Counts s S o d → Counts s T o d
+counts_same s S T o d f h = record {
+  declares = declares_same s S T o d (λ n. (f n).0) h.declares;
+  not_derived = λ k. h.not_derived (derived_same s T S o (λ n. (f n).1) k);
+  last = λ other k. h.last other (declares_same s T S o other (λ n. (f n).1) k);
+}
+
 module _ (s : Schema) (S : List ℕ → Type 0) (o : Origin) (ds : List Declaration) (are : AreDeclarations s o ds) where
   among : {d : Declaration} → DeclaresIn s S o d → IsIn ds d
   among {d} h = subst (λ l. IsIn l d) (chosen_once h.are are) h.among
@@ -131,10 +146,10 @@ module _ (s : Schema) (S : List ℕ → Type 0) (o : Origin) (ds : List Declarat
   derived_among h = (h.declaration, among h.declares, (h.declares.by, h.derives))
 
   pub counts_there : {d : Declaration} → IsIn ds d → CountsAmong s S ds d → Counts s S o d
-  counts_there h k = record { declares = declared h k.0; last = λ other j a. k.1 (other, among j, (j.by, a)) }
+  counts_there h k = record { declares = declared h k.0; not_derived = λ x. k.1 (derived_among x); last = λ other j a. k.2 (other, among j, (j.by, a)) }
 
   pub counts_among : {d : Declaration} → Counts s S o d → IsIn ds d × CountsAmong s S ds d
-  counts_among h = (among h.declares, (h.declares.by, λ k. h.last k.0 (declared k.1 k.2.0) k.2.1))
+  counts_among h = (among h.declares, (h.declares.by, λ k. h.not_derived (derived_there k), λ k. h.last k.0 (declared k.1 k.2.0) k.2.1))
 
   -- a derived attribute takes `*` alone
   fits_derived_back : {t : Tree} → IsDerived s S o → FitsSlot s S o t → t ≡ tree.derived
@@ -163,31 +178,39 @@ module _ (s : Schema) (S : List ℕ → Type 0) (o : Origin) (ds : List Declarat
 
 -- ---- an attribute with one declaration
 
-in_only : {d x : Declaration} → IsIn (d ∷ []) x → d ≡ x
+pub in_only : {d x : Declaration} → IsIn (d ∷ []) x → d ≡ x
 in_only (inl e) = e
 in_only (inr h) = elim h [ ]
 
-module _ (s : Schema) (well : IsWellFormed s) (S : List ℕ → Type 0) (o : Origin) (d : Declaration) (are : AreDeclarations s o (d ∷ [])) (t : Tree) where
+module _ (s : Schema) (well : IsWellFormed s) (S : List ℕ → Type 0) (d : Declaration) where
   -- nothing declares it again below
   alone : ¬ (AnyIn (d ∷ []) (IsAgainBelow s S d.entity))
   alone k = well.cycles.entities d.entity (subst (λ (x : Declaration). IsAncestor s x.entity d.entity) (sym (in_only k.1)) k.2.1)
 
-  counting : EachIn (d ∷ []) (FitsCounting s S (d ∷ []) t) ↔ (S d.entity → FitsForm s t d.form)
-  counting = (
-    λ each by. each d (inl refl) (by, alone),
+  not_in_derive : ¬ (d.form ≡ form.derived) → ¬ (AnyIn (d ∷ []) (Derives S))
+  not_in_derive e k = e (ap (λ (x : Declaration). x.form) (in_only k.1) ∙ k.2.1)
+
+  pub only_counts : S d.entity → ¬ (d.form ≡ form.derived) → CountsAmong s S (d ∷ []) d
+  only_counts by e = (by, not_in_derive e, alone)
+
+module _ (s : Schema) (well : IsWellFormed s) (S : List ℕ → Type 0) (o : Origin) (d : Declaration) (are : AreDeclarations s o (d ∷ [])) (t : Tree) where
+  counting : ¬ (AnyIn (d ∷ []) (Derives S)) → EachIn (d ∷ []) (FitsCounting s S (d ∷ []) t) ↔ (S d.entity → FitsForm s t d.form)
+  counting none = (
+    λ each by. each d (inl refl) (by, none, alone s well S d),
     λ fits x among. subst (FitsCounting s S (d ∷ []) t) (in_only among) (λ counts. fits counts.0),
   )
 
+  fits_alone : ¬ (AnyIn (d ∷ []) (Derives S)) → (S d.entity → FitsForm s t d.form) ↔ FitsSlot s S o t
+  fits_alone none =
+      let each = fits_by_each s S o (d ∷ []) are t (λ h. none (derived_among s S o (d ∷ []) are h)) in
+      let one = counting none in
+      ((λ h. each.0 (one.1 h)), (λ h. one.0 (each.1 h)))
+
   pub outside_fits : ¬ (S d.entity) → FitsSlot s S o t
-  outside_fits out =
-      let whole : ¬ (IsDerived s S o) = λ h. let k = derived_among s S o (d ∷ []) are h in out (subst (λ (x : Declaration). S x.entity) (sym (in_only k.1)) k.2.0) in
-      (fits_by_each s S o (d ∷ []) are t whole).0 (counting.1 (λ by. absurd (out by)))
+  outside_fits out = (fits_alone (λ k. out (subst (λ (x : Declaration). S x.entity) (sym (in_only k.1)) k.2.0))).0 (λ by. absurd (out by))
 
   pub derived_fits : S d.entity → d.form ≡ form.derived → (t ≡ tree.derived) ↔ FitsSlot s S o t
   derived_fits by e = fits_derived s S o (d ∷ []) are t (derived_there s S o (d ∷ []) are (d, inl refl, (by, e)))
 
   pub explicit_fits : S d.entity → ¬ (d.form ≡ form.derived) → FitsForm s t d.form ↔ FitsSlot s S o t
-  explicit_fits by e =
-      let whole : ¬ (IsDerived s S o) = λ h. let k = derived_among s S o (d ∷ []) are h in e (ap (λ (x : Declaration). x.form) (in_only k.1) ∙ k.2.1) in
-      let each = fits_by_each s S o (d ∷ []) are t whole in
-      ((λ h. each.0 (counting.1 (λ _. h))), λ h. counting.0 (each.1 h) by)
+  explicit_fits by e = let fits = fits_alone (not_in_derive s well S d e) in ((λ h. fits.0 (λ _. h)), (λ h. fits.1 h by))

@@ -6,7 +6,7 @@ use Rattle.p21_tree.specs.declared.faults.FaultKind.TheVariants as kind
 use Rattle.p21_tree.specs.Sentence.{Instance}
 use Rattle.p21_express.specs.Schema.{Schema, Expr}
 use Rattle.p21_express.specs.WellFormed.{Origin}
-use Rattle.p21_schema.specs.Declaration.{Declaration, AreDeclarations}
+use Rattle.p21_schema.specs.Declaration.{Declaration, Form, AreDeclarations}
 use Rattle.p21_schema.specs.Declaration as form
 use Rattle.p21_check.specs.declared.wanted.Wanted.{Wanted}
 use Rattle.p21_check.specs.declared.walk.Bad.{Bad}
@@ -18,13 +18,22 @@ use Rattle.p21_check.specs.Slot.{Counts}
 use Rattle.p21_check.specs.Wanted.{Asks, IsAsked}
 use Rattle.p21_check.specs.Walk.{IsAnswered, AreAnswered, IsBad}
 
--- the declaration counts, and refers to it
-pub record RefersCounting (s : Schema) (InSet : List ℕ → Type 0) (ds : List Declaration) (d : Declaration) (p : Tree) (place : ℕ) (r : Reference) : Type 0 where
+-- a reference against a declaration of this form, which is explicit
+pub record RefersByForm (s : Schema) (f : Form) (p : Tree) (place : ℕ) (r : Reference) : Type 0 where
   pub optional : Bool
   pub texpr : Expr
-  pub counts : CountsAmong s InSet ds d
-  pub explicit : d.form ≡ form.explicit optional texpr
+  pub explicit : f ≡ form.explicit optional texpr
   pub refers : Refers s texpr p place r
+
+-- this is what a declaration of this form asks
+pub record AsksByForm (s : Schema) (f : Form) (w : Wanted) : Type 0 where
+  pub asked_ : IsAsked s w
+  pub same : (p : Tree) (place : ℕ) (r : Reference) → RefersByForm s f p place r ↔ Asks s w p place r
+
+-- a reference against the declaration, which counts
+pub record RefersCounting (s : Schema) (InSet : List ℕ → Type 0) (ds : List Declaration) (d : Declaration) (p : Tree) (place : ℕ) (r : Reference) : Type 0 where
+  pub counts : CountsAmong s InSet ds d
+  pub refers : RefersByForm s d.form p place r
 
 -- this is what the declaration asks, where it counts
 pub record AsksAsCounted (s : Schema) (InSet : List ℕ → Type 0) (ds : List Declaration) (d : Declaration) (w : Wanted) : Type 0 where
@@ -34,11 +43,8 @@ pub record AsksAsCounted (s : Schema) (InSet : List ℕ → Type 0) (ds : List D
 -- a reference against one of the declarations that count
 pub record AskedBy (s : Schema) (InSet : List ℕ → Type 0) (o : Origin) (p : Tree) (place : ℕ) (r : Reference) : Type 0 where
   pub declaration : Declaration
-  pub optional : Bool
-  pub texpr : Expr
   pub counts : Counts s InSet o declaration
-  pub explicit : declaration.form ≡ form.explicit optional texpr
-  pub refers : Refers s texpr p place r
+  pub refers : RefersByForm s declaration.form p place r
 
 -- the first of what is asked that is at fault
 pub record IsFirst (s : Schema) (named : ℕ → Option Instance) (A : ℕ → Reference → Type 0) (b : Bad) : Type 0 where

@@ -9,6 +9,7 @@ pub mod Instances
 pub mod Header
 pub mod SchemaName
 pub mod References
+pub mod Laws
 pub mod Wanted
 pub mod Walk
 pub mod Asked

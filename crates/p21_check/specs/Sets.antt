@@ -5,7 +5,8 @@ use Rattle.p21_express.specs.WellFormed.{IsIn, IsEntity, IsAncestor}
 use Rattle.p21_tree.specs.Tree.{Tree}
 use Rattle.p21_tree.specs.declared.instances.Record.{Record}
 use Rattle.p21_schema.specs.Place.{IsEntityOf, entity_name}
-use Rattle.p21_schema.specs.Declaration.{Declaration, Form}
+use Rattle.p21_schema.specs.declared.declarations.Declaration.{Declaration as Coded}
+use Rattle.p21_schema.specs.Declaration.{Declaration, Form, AreResolvedIn}
 use Rattle.p21_schema.specs.Declaration as form
 use Rattle.p21_check.specs.declared.entity_set.EntitySet.{EntitySet}
 use Rattle.p21_check.specs.declared.entity_set.EntitySet.TheVariants as set
@@ -33,6 +34,10 @@ AnyIn {X} xs P = (x : X) × IsIn xs x × P x
 abbrev pub Derives : (List ℕ → Type 0) → Declaration → Type 0
 Derives InSet d = InSet d.entity × (d.form ≡ form.derived)
 
+-- no entity of the set declares in DERIVE
+abbrev pub IsNotDerived : Schema → EntitySet → List Coded → Type 0
+IsNotDerived s set cs = (ds : List Declaration) → AreResolvedIn s cs ds → ¬ (AnyIn ds (Derives (HasEntity s set)))
+
 -- an entity of the set declares below this one
 abbrev pub IsAgainBelow : Schema → (List ℕ → Type 0) → List ℕ → Declaration → Type 0
 IsAgainBelow s InSet n d = InSet d.entity × IsAncestor s d.entity n
@@ -42,9 +47,9 @@ abbrev pub FitsForm : Schema → Tree → Form → Type 0
 FitsForm s t form.derived = ⊥
 FitsForm s t (form.explicit o e) = IsElement s o e t
 
--- the declaration is by an entity of the set, and none below it declares again
+-- the declaration is by an entity of the set, of which none declares in DERIVE, and none below this one declares again
 abbrev pub CountsAmong : Schema → (List ℕ → Type 0) → List Declaration → Declaration → Type 0
-CountsAmong s InSet ds d = InSet d.entity × ¬ (AnyIn ds (IsAgainBelow s InSet d.entity))
+CountsAmong s InSet ds d = InSet d.entity × ¬ (AnyIn ds (Derives InSet)) × ¬ (AnyIn ds (IsAgainBelow s InSet d.entity))
 
 -- where it counts, the parameter fits it
 abbrev pub FitsCounting : Schema → (List ℕ → Type 0) → List Declaration → Tree → Declaration → Type 0

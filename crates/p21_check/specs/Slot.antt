@@ -21,9 +21,11 @@ pub record IsDerived (s : Schema) (InSet : List ℕ → Type 0) (o : Origin) : T
   pub declares : DeclaresIn s InSet o declaration
   pub derives : declaration.form ≡ form.derived
 
--- A declaration counts where no entity of the set that has its entity as an ancestor declares the attribute again.
+-- Where the attribute is not derived, a declaration counts where no entity of the set that has its entity as an ancestor
+-- declares the attribute again.
 pub record Counts (s : Schema) (InSet : List ℕ → Type 0) (o : Origin) (d : Declaration) : Type 0 where
   pub declares : DeclaresIn s InSet o d
+  pub not_derived : ¬ (IsDerived s InSet o)
   pub last : (other : Declaration) → DeclaresIn s InSet o other → ¬ (IsAncestor s other.entity d.entity)
 
 abbrev pub IsOptional : Form → Type 0

@@ -1,8 +1,11 @@
 //! References among instances whose entities are known, by example.
 
+ghost use Rattle.std.specs.Prelude.{None};
+ghost use Rattle.p21_tree.specs.Views.{plain_instance};
 ghost use Rattle.p21_schema.specs.Place.{IsEntityOf};
+ghost use Rattle.p21_check.specs.EntityOf.{IsSimpleEntity};
 
-use crate::{EntityOf, Named, check_local, check_references_among};
+use crate::{EntityOf, Named, check_local_entity, check_references_among, simple_entity};
 use p21_express::read_declarations;
 use p21_schema::{EntityId, Schema};
 use p21_tree::{FaultKind, Piece, RawInstance, read_piece};
@@ -13,16 +16,19 @@ const TOY: &[u8] = b"SCHEMA Toy;\n\
 ENTITY Item; END_ENTITY;\n\
 ENTITY Special SUBTYPE OF (Item); END_ENTITY;\n\
 ENTITY Owner; Owns : Special; END_ENTITY;\n\
+ENTITY Lender SUBTYPE OF (Owner); SELF\\Owner.Owns : Item; END_ENTITY;\n\
+ENTITY Heir SUBTYPE OF (Owner); DERIVE SELF\\Owner.Owns : Special := ?; END_ENTITY;\n\
 ENTITY Group; Members : LIST OF Item; Sizes : LIST OF REAL; END_ENTITY;\n\
 END_SCHEMA;";
 
-/// Two instances: `#2`, a simple one of an entity, and `#3`.
+/// Two instances: `#2`, a simple one of an entity, and `#3`, which has no one entity.
 #[derive(Drop)]
 struct Two<'a> {
     schema: Schema,
     entity: EntityId,
     other: RawInstance<'a>,
     ghost known: { IsEntityOf schema entity },
+    ghost other_known: { IsSimpleEntity schema (plain_instance other) None },
 }
 
 impl<'a> EntityOf<'a> for Two<'a> {
@@ -60,8 +66,8 @@ fn instance(alloc: Global, text: &[u8]) -> Option<RawInstance<'_>> {
 
 /// The reference fault of an instance among two.
 fn fault(instance: &RawInstance<'_>, two: &Two<'_>) -> Result<Option<FaultKind>, Fail> {
-    match check_local(&two.schema, instance) {
-        Ok(()) => Ok(check_references_among(&two.schema, instance, two).err()),
+    match check_local_entity(&two.schema, instance) {
+        Ok(own) => Ok(check_references_among(&two.schema, own, instance, two).err()),
         Err(kind) => Err(Fail::from(kind)),
     }
 }
@@ -71,6 +77,9 @@ fn with_entity(alloc: Global, entity: &[u8]) -> Option<Two<'static>> {
     let schema = table(alloc, TOY)?;
     let entity = schema.entity(entity)?;
     let other = instance(alloc, b"#3=(ITEM()SPECIAL());")?;
+    if simple_entity(&schema, &other).is_some() {
+        return None;
+    }
     Some(Two {
         schema,
         entity,
@@ -83,11 +92,14 @@ fn references_among_two(rt: HostRuntime) -> Result<(), Fail> {
     let alloc = rt.alloc();
     let wrong = |attr, name| Some(FaultKind::WrongReference { rec: 0, attr, name });
     let missing = |attr, name| Some(FaultKind::MissingReference { rec: 0, attr, name });
-    let rows: [(&[u8], &[u8], Option<FaultKind>); 6] = [
+    let rows: [(&[u8], &[u8], Option<FaultKind>); 9] = [
         (b"SPECIAL", b"#1=OWNER(#2);", None),
         (b"ITEM", b"#1=OWNER(#2);", wrong(0, 2)),
         (b"ITEM", b"#1=OWNER(#3);", None),
         (b"ITEM", b"#1=OWNER(#4);", missing(0, 4)),
+        (b"ITEM", b"#1=LENDER(#2);", None),
+        (b"ITEM", b"#1=HEIR(*);", None),
+        (b"ITEM", b"#1=(HEIR()LENDER()OWNER(*));", None),
         (b"SPECIAL", b"#1=GROUP((#2,#3),(1.,2.));", None),
         (b"OWNER", b"#1=GROUP((#3,#2,#4),());", wrong(0, 2)),
     ];

@@ -1,10 +1,10 @@
-//! What is known of the instances that have names.
+//! What is known of instances by the entities of a schema.
 
 ghost use Rattle.std.specs.Prelude.{ℕ, Option, option_map};
 ghost use Rattle.p21_express.specs.Schema.{Schema};
 ghost use Rattle.p21_tree.specs.Sentence.{Instance};
 ghost use Rattle.p21_tree.specs.Views.{plain_instance};
-ghost use Rattle.p21_check.specs.EntityOf.{IsKnownAs};
+ghost use Rattle.p21_check.specs.EntityOf.{IsKnownAs, IsSimpleEntity};
 
 use p21_schema::{EntityId, Schema};
 use p21_tree::RawInstance;
@@ -16,7 +16,7 @@ pub enum Named<'m, 'a> {
     Missing,
     /// A simple instance of this entity.
     Simple(EntityId),
-    /// An instance, by its records: a complex one, or one whose keyword may name no entity.
+    /// An instance that has no one entity, by its records: it is complex, or its keyword names no entity.
     Other(&'m RawInstance<'a>),
 }
 
@@ -33,6 +33,18 @@ pub trait EntityOf<'a> {
         ensures { IsKnownAs (table self.now) (named self.now name) result };
 }
 
+/// The entity of a simple instance: that which its keyword names. It is `None` where there is no such entity, and for a complex
+/// instance.
+pub fn simple_entity(schema: &Schema, instance: &RawInstance<'_>) -> Option<EntityId>
+    ensures { IsSimpleEntity schema.now (plain_instance instance.now) result }
+{
+    if instance.complex {
+        return None;
+    }
+    let records = instance.records.as_slice();
+    schema.entity(records[0].keyword)
+}
+
 /// What is known of an instance that was found, or not, by its records.
 pub(crate) fn by_keyword<'m, 'a>(
     schema: &Schema,
@@ -43,11 +55,7 @@ pub(crate) fn by_keyword<'m, 'a>(
     let Some(instance) = found else {
         return Named::Missing;
     };
-    if instance.complex {
-        return Named::Other(instance);
-    }
-    let records = instance.records.as_slice();
-    match schema.entity(records[0].keyword) {
+    match simple_entity(schema, instance) {
         Some(entity) => Named::Simple(entity),
         None => Named::Other(instance),
     }

@@ -13,6 +13,7 @@ mod header;
 #[cfg(test)]
 mod header_tests;
 mod judge;
+mod laws;
 mod local;
 #[cfg(test)]
 mod local_tests;
@@ -24,7 +25,8 @@ mod walk;
 mod wanted;
 mod width;
 
-pub use entity_of::{EntityOf, Named};
+pub use entity_of::{EntityOf, Named, simple_entity};
 pub use header::check_header;
-pub use local::check_local;
+pub use laws::{one_header_fault, one_local_fault, one_reference_fault};
+pub use local::{check_local, check_local_entity};
 pub use references::{TypeOf, check_references, check_references_among};

@@ -1,14 +1,17 @@
 //! The fault that an instance has by itself.
 
-ghost use Rattle.std.specs.Prelude.{◌≡◌, ℕ, Some, None, MatchResult};
+ghost use Rattle.std.specs.Prelude.{◌≡◌, ℕ, Some, None, MatchResult, IfOk};
 ghost use Rattle.p21_tree.specs.Views.{plain_instance, plain_record};
+ghost use Rattle.p21_schema.specs.Place.{IsEntityOf, entity_name};
+ghost use Rattle.p21_check.specs.EntityOf.{IsSimpleEntity};
 ghost use Rattle.p21_check.specs.LocalFault.{IsLocalFault};
 ghost use Rattle.p21_check.specs.Instances.{IsAnswer, simple_instance};
 
 use crate::attributes::{attribute_count, first_unfit};
 use crate::complex::check_complex;
+use crate::entity_of::simple_entity;
 use crate::entity_set::EntitySet;
-use p21_schema::Schema;
+use p21_schema::{EntityId, Schema};
 use p21_tree::{FaultKind, RawInstance, Record};
 
 /// Checks one instance by itself, without what its references name. Its fault is the first that it has of these kinds, each
@@ -21,22 +24,50 @@ use p21_tree::{FaultKind, RawInstance, Record};
 pub fn check_local(schema: &Schema, instance: &RawInstance<'_>) -> Result<(), FaultKind>
     ensures { MatchResult result (λ _. IsLocalFault schema.now (plain_instance instance.now) None) (λ kind. IsLocalFault schema.now (plain_instance instance.now) (Some kind)) }
 {
+    check_local_entity(schema, instance)?;
+    Ok(())
+}
+
+/// Checks one instance by itself as `check_local` does, and answers its entity where it is a simple one without a fault, so
+/// that its keyword is looked up once.
+///
+/// This takes no memory.
+pub fn check_local_entity(
+    schema: &Schema,
+    instance: &RawInstance<'_>,
+) -> Result<Option<EntityId>, FaultKind>
+    ensures fault { MatchResult result (λ _. IsLocalFault schema.now (plain_instance instance.now) None) (λ kind. IsLocalFault schema.now (plain_instance instance.now) (Some kind)) }
+    ensures entity { IfOk result (λ own. IsSimpleEntity schema.now (plain_instance instance.now) own) }
+{
+    let own = simple_entity(schema, instance);
+    check_instance(schema, own, instance)?;
+    Ok(own)
+}
+
+/// Checks an instance by itself, whose entity is known.
+fn check_instance(
+    schema: &Schema,
+    own: Option<EntityId>,
+    instance: &RawInstance<'_>,
+) -> Result<(), FaultKind>
+    requires { IsSimpleEntity schema.now (plain_instance instance.now) own }
+    ensures { IsAnswer schema.now (plain_instance instance.now) result }
+{
     let records = instance.records.as_slice();
-    if instance.complex {
-        check_complex(schema, records)
-    } else {
-        check_simple(schema, &records[0])
+    match own {
+        Some(entity) => check_simple(schema, entity, &records[0]),
+        None if instance.complex => check_complex(schema, records),
+        None => Err(FaultKind::UnknownEntity),
     }
 }
 
-/// Checks a simple instance, by its record.
-fn check_simple(schema: &Schema, entry: &Record<'_>) -> Result<(), FaultKind>
+/// Checks a simple instance, by its record, which is of this entity.
+fn check_simple(schema: &Schema, entity: EntityId, entry: &Record<'_>) -> Result<(), FaultKind>
+    requires entity { IsEntityOf schema.now entity }
+    requires named { entity_name schema.now entity ≡ entry.now.keyword.now }
     ensures { (name : ℕ) → (at : ℕ) → IsAnswer schema.now (simple_instance name at (plain_record entry.now)) result }
 {
     schema.fits();
-    let Some(entity) = schema.entity(entry.keyword) else {
-        return Err(FaultKind::UnknownEntity);
-    };
     if schema.is_abstract(entity) {
         return Err(FaultKind::AbstractEntity);
     }

@@ -1,25 +1,26 @@
 //! The references of an instance.
 
-ghost use Rattle.std.specs.Prelude.{◌≡◌, ℕ, List, Option, Some, None, length, option_map, MatchResult, OnErr};
+ghost use Rattle.std.specs.Prelude.{◌≡◌, ℕ, List, [], ◌∷◌, Option, Some, None, length, option_map, MatchResult, OnErr};
 ghost use Rattle.p21_tree.specs.Sentence.{Instance};
 ghost use Rattle.p21_tree.specs.Views.{plain_instance, plain_record};
 ghost use Rattle.p21_express.specs.WellFormed.{Origin};
 ghost use Rattle.p21_check.specs.Attributes.{AreAttributes};
 ghost use Rattle.p21_tree.specs.Plain.{plain, plain_all};
-ghost use Rattle.p21_schema.specs.Declaration.{Declaration as Declared, AreResolvedIn, IsResolvedDeclaration};
+ghost use Rattle.p21_schema.specs.Declaration.{Declaration as Declared, Form as DeclaredForm, AreDeclarations, AreResolvedIn, IsResolvedDeclaration, IsResolvedForm};
 ghost use Rattle.p21_schema.specs.Place.{IsEntityOf, entity_name};
 ghost use Rattle.p21_schema.specs.Row.{IsAttributeOf, attribute_at};
-ghost use Rattle.p21_check.specs.Sets.{HasEntity, IsSetOf};
-ghost use Rattle.p21_check.specs.Asked.{AsksAsCounted, AskedBy, FindsFirst, FindsInRecord, IsReferenceAnswer};
+ghost use Rattle.p21_check.specs.Sets.{HasEntity, IsNotDerived, IsSetOf};
+ghost use Rattle.p21_check.specs.Asked.{AsksAsCounted, AsksByForm, AskedBy, FindsFirst, FindsInRecord, IsReferenceAnswer};
 ghost use Rattle.p21_check.specs.Instances.{simple_instance, complex_instance};
+ghost use Rattle.p21_check.specs.EntityOf.{IsSimpleEntity};
 ghost use Rattle.p21_check.specs.LocalFault.{IsLocalFault};
 ghost use Rattle.p21_check.specs.References.{IsReferenceFault};
 
 use crate::attributes::{attribute, attribute_count};
-use crate::entity_of::EntityOf;
-use crate::entity_set::EntitySet;
+use crate::entity_of::{EntityOf, simple_entity};
+use crate::entity_set::{EntitySet, is_in_set};
 use crate::judge::{Entities, Keywords};
-use crate::slot::counts;
+use crate::slot::{counts, is_derived};
 use crate::walk::{Bad, Judge, may_refer, walk};
 use crate::wanted::{Wanted, wanted_by};
 use p21_schema::{AttrId, Declaration, EntityId, Form, Schema};
@@ -52,17 +53,20 @@ pub fn check_references<'m, 'a: 'm, M: TypeOf<'a>>(
         model,
         texts: PhantomData,
     };
-    references(schema, instance, &keywords)
+    let own = simple_entity(schema, instance);
+    references(schema, own, instance, &keywords)
 }
 
-/// The first reference of an instance that is at fault, as `check_references` finds it, where the entities of the instances
-/// are known by this very schema. The instance has no fault by itself.
+/// The first reference of an instance that is at fault, as `check_references` finds it, where its own entity (`None` of a complex
+/// instance) and those of the instances that it may name are known by this very schema. The instance has no fault by itself.
 pub fn check_references_among<'m, 'a: 'm, M: EntityOf<'a>>(
     schema: &Schema,
+    own: Option<EntityId>,
     instance: &RawInstance<'_>,
     among: &'m M,
 ) -> Result<(), FaultKind>
     requires same { M.table among.now ≡ schema.now }
+    requires own { IsSimpleEntity schema.now (plain_instance instance.now) own }
     requires local { IsLocalFault schema.now (plain_instance instance.now) None }
     ensures { MatchResult result (λ _. IsReferenceFault schema.now (M.named among.now) (plain_instance instance.now) None) (λ kind. IsReferenceFault schema.now (M.named among.now) (plain_instance instance.now) (Some kind)) }
 {
@@ -70,41 +74,42 @@ pub fn check_references_among<'m, 'a: 'm, M: EntityOf<'a>>(
         among,
         texts: PhantomData,
     };
-    references(schema, instance, &entities)
+    references(schema, own, instance, &entities)
 }
 
-/// The first reference of an instance that is at fault, by what judges instance names.
+/// The first reference of an instance that is at fault, by its own entity and by what judges instance names.
 fn references<J: Judge>(
     schema: &Schema,
+    own: Option<EntityId>,
     instance: &RawInstance<'_>,
     judge: &J,
 ) -> Result<(), FaultKind>
     requires same { J.table judge.now ≡ schema.now }
+    requires own { IsSimpleEntity schema.now (plain_instance instance.now) own }
     requires local { IsLocalFault schema.now (plain_instance instance.now) None }
     ensures { IsReferenceAnswer schema.now (J.named judge.now) (plain_instance instance.now) result }
 {
     let records = instance.records.as_slice();
-    if instance.complex {
-        complex_references(schema, records, judge)
-    } else {
-        simple_references(schema, &records[0], judge)
+    match own {
+        Some(entity) => simple_references(schema, entity, &records[0], judge),
+        None => complex_references(schema, records, judge),
     }
 }
 
-/// The first reference at fault of a simple instance, by its record.
+/// The first reference at fault of a simple instance, by its record, which is of this entity.
 fn simple_references<J: Judge>(
     schema: &Schema,
+    own: EntityId,
     one: &Record<'_>,
     judge: &J,
 ) -> Result<(), FaultKind>
     requires same { J.table judge.now ≡ schema.now }
+    requires entity { IsEntityOf schema.now own }
+    requires named { entity_name schema.now own ≡ one.now.keyword.now }
     requires local { (name : ℕ) × (at : ℕ) × IsLocalFault schema.now (simple_instance name at (plain_record one.now)) None }
     ensures { (name : ℕ) → (at : ℕ) → IsReferenceAnswer schema.now (J.named judge.now) (simple_instance name at (plain_record one.now)) result }
 {
     schema.fits();
-    let Some(own) = schema.entity(one.keyword) else {
-        return Ok(());
-    };
     entry(schema, &EntitySet::Simple(own), false, own, 0, one, judge)
 }
 
@@ -177,6 +182,51 @@ fn parameter<J: Judge>(
         return Ok(());
     }
     let declarations = schema.declarations(attribute);
+    // Nearly all attributes are declared once.
+    if let [only] = declarations {
+        return against_only(schema, set, only, param, judge);
+    }
+    if is_derived(schema, set, declarations) {
+        return Ok(());
+    }
+    against_each(schema, set, declarations, param, judge)
+}
+
+/// Looks for the first reference at fault in a parameter for an attribute that is declared once.
+fn against_only<J: Judge>(
+    schema: &Schema,
+    set: &EntitySet<'_, '_>,
+    only: &Declaration,
+    param: &Param<'_>,
+    judge: &J,
+) -> Result<(), Bad>
+    requires same { J.table judge.now ≡ schema.now }
+    requires set { IsSetOf schema.now set.now }
+    requires only { (d : Declared) × IsResolvedDeclaration schema.now only.now d }
+    ensures { (o : Origin) → (d : Declared) → AreDeclarations schema.now o (d ∷ []) → IsResolvedDeclaration schema.now only.now d → FindsFirst schema.now (J.named judge.now) (AskedBy schema.now (HasEntity schema.now set.now) o (plain param.now)) result }
+{
+    let wanted = asked_by_only(schema, set, only);
+    match walk(schema, judge, Wanted::Nothing, wanted, param) {
+        Ok(()) => Ok(()),
+        Err(found) => Err(found.bad),
+    }
+}
+
+/// Looks for the first reference at fault in a parameter for an attribute that is not derived, against each declaration that
+/// counts.
+fn against_each<J: Judge>(
+    schema: &Schema,
+    set: &EntitySet<'_, '_>,
+    declarations: &[Declaration],
+    param: &Param<'_>,
+    judge: &J,
+) -> Result<(), Bad>
+    requires same { J.table judge.now ≡ schema.now }
+    requires set { IsSetOf schema.now set.now }
+    requires declarations { (ds : List Declared) × AreResolvedIn schema.now declarations.now ds }
+    requires not_derived { IsNotDerived schema.now set.now declarations.now }
+    ensures { (o : Origin) → (ds : List Declared) → AreDeclarations schema.now o ds → AreResolvedIn schema.now declarations.now ds → FindsFirst schema.now (J.named judge.now) (AskedBy schema.now (HasEntity schema.now set.now) o (plain param.now)) result }
+{
     let mut first = Ok(());
     let mut wanted = Wanted::Nothing;
     for declaration in declarations {
@@ -191,7 +241,26 @@ fn parameter<J: Judge>(
     first
 }
 
-/// What a declaration asks of references, where it counts.
+/// What the only declaration of an attribute asks of references: it counts where it is by an entity of the set, and is not in
+/// DERIVE.
+fn asked_by_only<'s>(
+    schema: &'s Schema,
+    set: &EntitySet<'_, '_>,
+    only: &'s Declaration,
+) -> Wanted<'s>
+    requires set { IsSetOf schema.now set.now }
+    requires only { (d : Declared) × IsResolvedDeclaration schema.now only.now d }
+    ensures { (d : Declared) → IsResolvedDeclaration schema.entry.now only.entry.now d → AsksAsCounted schema.entry.now (HasEntity schema.entry.now set.now) (d ∷ []) d result }
+{
+    schema.fits();
+    if is_in_set(schema, set, only.entity) {
+        asked_by_form(schema, &only.form)
+    } else {
+        Wanted::Nothing
+    }
+}
+
+/// What a declaration asks of references, where it counts, of an attribute that is not derived.
 fn asked_by<'s>(
     schema: &'s Schema,
     set: &EntitySet<'_, '_>,
@@ -200,13 +269,23 @@ fn asked_by<'s>(
 ) -> Wanted<'s>
     requires set { IsSetOf schema.now set.now }
     requires declarations { (ds : List Declared) × AreResolvedIn schema.now declarations.now ds }
+    requires not_derived { IsNotDerived schema.now set.now declarations.now }
     requires declaration { (d : Declared) × IsResolvedDeclaration schema.now declaration.now d }
     ensures { (ds : List Declared) → (d : Declared) → AreResolvedIn schema.entry.now declarations.now ds → IsResolvedDeclaration schema.entry.now declaration.entry.now d → AsksAsCounted schema.entry.now (HasEntity schema.entry.now set.now) ds d result }
 {
-    if !counts(schema, set, declarations, declaration.entity) {
-        return Wanted::Nothing;
+    if counts(schema, set, declarations, declaration.entity) {
+        asked_by_form(schema, &declaration.form)
+    } else {
+        Wanted::Nothing
     }
-    match &declaration.form {
+}
+
+/// What a declaration of this form asks of references: nothing in DERIVE.
+fn asked_by_form<'s>(schema: &'s Schema, form: &'s Form) -> Wanted<'s>
+    requires form { (f : DeclaredForm) × IsResolvedForm schema.now form.now f }
+    ensures { (f : DeclaredForm) → IsResolvedForm schema.entry.now form.entry.now f → AsksByForm schema.entry.now f result }
+{
+    match form {
         Form::Derived => Wanted::Nothing,
         Form::Explicit { texpr, .. } => wanted_by(schema, texpr),
     }

@@ -8,7 +8,7 @@ ghost use Rattle.p21_schema.specs.Declaration.{Declaration as Declared, Form as 
 ghost use Rattle.p21_schema.specs.Place.{IsEntityOf, entity_name};
 ghost use Rattle.p21_schema.specs.Row.{IsAttributeOf, attribute_at};
 ghost use Rattle.p21_check.specs.Slot.{FitsSlot};
-ghost use Rattle.p21_check.specs.Sets.{HasEntity, IsSetOf, AnyIn, Derives, IsAgainBelow, FitsForm, CountsAmong, FitsCounting, EachIn};
+ghost use Rattle.p21_check.specs.Sets.{HasEntity, IsSetOf, AnyIn, Derives, IsNotDerived, IsAgainBelow, FitsForm, CountsAmong, FitsCounting, EachIn};
 
 use crate::conform::is_element;
 use crate::entity_set::{EntitySet, is_below, is_in_set};
@@ -64,7 +64,11 @@ fn fits_only(
 }
 
 /// Whether an entity of the set declares the attribute in DERIVE.
-fn is_derived(schema: &Schema, set: &EntitySet<'_, '_>, declarations: &[Declaration]) -> bool
+pub(crate) fn is_derived(
+    schema: &Schema,
+    set: &EntitySet<'_, '_>,
+    declarations: &[Declaration],
+) -> bool
     requires set { IsSetOf schema.now set.now }
     requires declarations { (ds : List Declared) × AreResolvedIn schema.now declarations.now ds }
     ensures { (ds : List Declared) → AreResolvedIn schema.now declarations.now ds → (IsTrue result ↔ AnyIn ds (Derives (HasEntity schema.now set.now))) }
@@ -89,7 +93,7 @@ fn derives(schema: &Schema, set: &EntitySet<'_, '_>, declaration: &Declaration) 
     }
 }
 
-/// Whether the parameter fits each declaration that counts.
+/// Whether the parameter fits each declaration that counts, of an attribute that is not derived.
 fn fits_each(
     schema: &Schema,
     set: &EntitySet<'_, '_>,
@@ -98,6 +102,7 @@ fn fits_each(
 ) -> bool
     requires set { IsSetOf schema.now set.now }
     requires declarations { (ds : List Declared) × AreResolvedIn schema.now declarations.now ds }
+    requires not_derived { IsNotDerived schema.now set.now declarations.now }
     requires bodies { HasBodies (plain param.now) }
     ensures { (ds : List Declared) → AreResolvedIn schema.now declarations.now ds → (IsTrue result ↔ EachIn ds (FitsCounting schema.now (HasEntity schema.now set.now) ds (plain param.now))) }
 {
@@ -109,7 +114,7 @@ fn fits_each(
     true
 }
 
-/// Whether the parameter fits this declaration, where it counts.
+/// Whether the parameter fits this declaration, where it counts, of an attribute that is not derived.
 fn fits_counting(
     schema: &Schema,
     set: &EntitySet<'_, '_>,
@@ -119,6 +124,7 @@ fn fits_counting(
 ) -> bool
     requires set { IsSetOf schema.now set.now }
     requires declarations { (ds : List Declared) × AreResolvedIn schema.now declarations.now ds }
+    requires not_derived { IsNotDerived schema.now set.now declarations.now }
     requires declaration { (d : Declared) × IsResolvedDeclaration schema.now declaration.now d }
     requires bodies { HasBodies (plain param.now) }
     ensures { (ds : List Declared) → (d : Declared) → AreResolvedIn schema.now declarations.now ds → IsResolvedDeclaration schema.now declaration.now d → (IsTrue result ↔ FitsCounting schema.now (HasEntity schema.now set.now) ds (plain param.now) d) }
@@ -127,8 +133,8 @@ fn fits_counting(
         || fits_form(schema, &declaration.form, param)
 }
 
-/// Whether a declaration by this entity counts: it is in the set, and no entity of the set below it declares the attribute
-/// again.
+/// Whether a declaration by this entity counts, of an attribute that is not derived: it is in the set, and no entity of the set
+/// below it declares the attribute again.
 pub(crate) fn counts(
     schema: &Schema,
     set: &EntitySet<'_, '_>,
@@ -137,6 +143,7 @@ pub(crate) fn counts(
 ) -> bool
     requires set { IsSetOf schema.now set.now }
     requires declarations { (ds : List Declared) × AreResolvedIn schema.now declarations.now ds }
+    requires not_derived { IsNotDerived schema.now set.now declarations.now }
     requires entity { IsEntityOf schema.now entity }
     ensures { (ds : List Declared) → (d : Declared) → AreResolvedIn schema.now declarations.now ds → entity_name schema.now entity ≡ d.entity → (IsTrue result ↔ CountsAmong schema.now (HasEntity schema.now set.now) ds d) }
 {

@@ -1,11 +1,11 @@
 //! What a type asks of the references in a parameter.
 
-ghost use Rattle.std.specs.Prelude.{◌≡◌, ◌↔◌, true, List, ℕ, Some, IsTrue, map};
+ghost use Rattle.std.specs.Prelude.{◌≡◌, ◌↔◌, true, List, ℕ, Some, None, IsTrue, map};
 ghost use Rattle.p21_express.specs.Schema.{Schema, Expr, named};
 ghost use Rattle.p21_tree.specs.Sentence.{Instance};
 ghost use Rattle.p21_tree.specs.Views.{plain_instance, plain_record};
 ghost use Rattle.p21_schema.specs.Place.{IsEntityOf, IsTypeOf, type_name};
-ghost use Rattle.p21_check.specs.EntityOf.{IsKnownAs};
+ghost use Rattle.p21_check.specs.EntityOf.{IsKnownAs, IsSimpleEntity};
 ghost use Rattle.p21_check.specs.Wanted.{by_names, is_name, IsAsked, IsAskedBy, IsAskedOfElements, IsAskedInside, Admits, IsNamed, IsMetBy, IsMetFrom};
 
 use crate::entity_of::Named;
@@ -127,21 +127,16 @@ impl<'s> Wanted<'s> {
         }
     }
 
-    /// Whether the instance is of an entity that is wanted, by its records.
+    /// Whether the instance is of an entity that is wanted, by its records: one of a complex instance names it, and the keyword
+    /// of a simple one names no entity.
     fn admits_records(self, schema: &Schema, instance: &RawInstance<'_>) -> bool
         requires asked { IsAsked schema.now self }
         requires name { is_name self ≡ true }
+        requires other { IsSimpleEntity schema.now (plain_instance instance.now) None }
         ensures { IsTrue result ↔ Admits schema.now self.entry (plain_instance instance.now) }
     {
         schema.fits();
-        let records = instance.records.as_slice();
-        if instance.complex {
-            return self.is_named(schema, records);
-        }
-        match schema.entity(records[0].keyword) {
-            Some(own) => self.is_met_from(schema, own),
-            None => false,
-        }
+        instance.complex && self.is_named(schema, instance.records.as_slice())
     }
 
     /// Whether one of the records names an entity that is wanted.

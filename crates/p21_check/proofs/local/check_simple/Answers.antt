@@ -21,49 +21,46 @@ returns-then-is_abstract c = λ name at.
     let s = c.args.schema.now in
     let e = plain_record c.args.entry.now in
     let i = simple_instance name at e in
-    let id = c.in-Some.entity in
-    let found = c.in-Some.ensures in
-    let known = simple_known s name at e (subst (IsEntity s) found.1 (is_entity s id found.0)) in
-    let abstract_ = abstract_by s c.fits.ensures id c.is_abstract.result found.0 c.is_abstract.ensures in
-    abstract_entity s i known (simple_abstract s name at e (subst (IsAbstract s) found.1 (abstract_.0 c.if-is_abstract.true)))
+    let id = c.args.entity in
+    let known = simple_known s name at e (subst (IsEntity s) c.requires.named (is_entity s id c.requires.entity)) in
+    let abstract_ = abstract_by s c.fits.ensures id c.is_abstract.result c.requires.entity c.is_abstract.ensures in
+    abstract_entity s i known (simple_abstract s name at e (subst (IsAbstract s) c.requires.named (abstract_.0 c.if-is_abstract.true)))
 
 pub returns-then-attribute_count-len : goal.returns-then-attribute_count-len
 returns-then-attribute_count-len c = λ name at.
     let s = c.args.schema.now in
     let e = plain_record c.args.entry.now in
     let i = simple_instance name at e in
-    let id = c.in-Some.entity in
-    let found = c.in-Some.ensures in
-    let known = simple_known s name at e (subst (IsEntity s) found.1 (is_entity s id found.0)) in
-    let abstract_ = abstract_by s c.fits.ensures id c.is_abstract.result found.0 c.is_abstract.ensures in
-    let concrete = simple_concrete s name at e (λ h. false≢true (sym c.if-is_abstract.false ∙ abstract_.1 (subst (IsAbstract s) (sym found.1) h))) in
+    let id = c.args.entity in
+    let known = simple_known s name at e (subst (IsEntity s) c.requires.named (is_entity s id c.requires.entity)) in
+    let abstract_ = abstract_by s c.fits.ensures id c.is_abstract.result c.requires.entity c.is_abstract.ensures in
+    let concrete = simple_concrete s name at e (λ h. false≢true (sym c.if-is_abstract.false ∙ abstract_.1 (subst (IsAbstract s) (sym c.requires.named) h))) in
     let whole = simple_whole s name at e in
     let count = c.attribute_count.ensures in
-    let are : AreAttributes s false e.keyword count.0 = subst (λ n. AreAttributes s false n count.0) found.1 count.1.0 in
+    let are : AreAttributes s false e.keyword count.0 = subst (λ n. AreAttributes s false n count.0) c.requires.named count.1.0 in
     let long : c.len.result ≡ length c.args.entry.now.params = c.len.ensures in
     let differ : length c.args.entry.now.params ≢ length count.0 = λ f. c.if-attribute_count-len.true (count.1.1 ∙ sym f ∙ sym long) in
     wrong_count s i known concrete whole 0 (wrong_at s c.fits.ensures i 0 e refl count.0 are (λ f. differ (sym (count_all c.args.entry.now.params) ∙ f))) (λ q h. absurd (omega arith))
 
-pub returns-in-Some-first_unfit : goal.returns-in-Some-first_unfit
-returns-in-Some-first_unfit c = λ name at.
+pub returns-in-Some : goal.returns-in-Some
+returns-in-Some c = λ name at.
     let s = c.args.schema.now in
     let e = plain_record c.args.entry.now in
     let i = simple_instance name at e in
-    let id = c.in-Some.entity in
-    let found = c.in-Some.ensures in
-    let known = simple_known s name at e (subst (IsEntity s) found.1 (is_entity s id found.0)) in
-    let abstract_ = abstract_by s c.fits.ensures id c.is_abstract.result found.0 c.is_abstract.ensures in
-    let concrete = simple_concrete s name at e (λ h. false≢true (sym c.if-is_abstract.false ∙ abstract_.1 (subst (IsAbstract s) (sym found.1) h))) in
+    let id = c.args.entity in
+    let known = simple_known s name at e (subst (IsEntity s) c.requires.named (is_entity s id c.requires.entity)) in
+    let abstract_ = abstract_by s c.fits.ensures id c.is_abstract.result c.requires.entity c.is_abstract.ensures in
+    let concrete = simple_concrete s name at e (λ h. false≢true (sym c.if-is_abstract.false ∙ abstract_.1 (subst (IsAbstract s) (sym c.requires.named) h))) in
     let whole = simple_whole s name at e in
     let count = c.attribute_count.ensures in
-    let are : AreAttributes s false e.keyword count.0 = subst (λ n. AreAttributes s false n count.0) found.1 count.1.0 in
+    let are : AreAttributes s false e.keyword count.0 = subst (λ n. AreAttributes s false n count.0) c.requires.named count.1.0 in
     let long : c.len.result ≡ length c.args.entry.now.params = c.len.ensures in
     let same : length c.args.entry.now.params ≡ length count.0 = sym long ∙ sym c.if-attribute_count-len.false ∙ count.1.1 in
     let counted = simple_counted s name at e (not_wrong_at s c.fits.ensures i 0 e refl count.0 are (count_all c.args.entry.now.params ∙ same)) in
     let S = HasEntity s (set.Simple id) in
-    let there = simple_set s name at e id found.0 found.1 in
-    let a = c.in-Some-first_unfit.attr in
-    let unfit = subst (λ (l : List Param). IsFirstUnfit s S count.0 (plain_all l) (Some a)) c.as_slice.ensures (c.in-Some-first_unfit.ensures count.0 count.1.0) in
+    let there = simple_set s name at e id c.requires.entity c.requires.named in
+    let a = c.in-Some.attr in
+    let unfit = subst (λ (l : List Param). IsFirstUnfit s S count.0 (plain_all l) (Some a)) c.as_slice.ensures (c.in-Some.ensures count.0 count.1.0) in
     bad_attribute s i known concrete whole counted 0 a
     (bad_at s c.fits.ensures i 0 e refl count.0 are a (unfit_along s S (IsInSet s i) count.0 e.params a there unfit.0))
     (λ q b h. absurd (omega arith))
@@ -74,18 +71,17 @@ returns-in-None c = λ name at.
     let s = c.args.schema.now in
     let e = plain_record c.args.entry.now in
     let i = simple_instance name at e in
-    let id = c.in-Some.entity in
-    let found = c.in-Some.ensures in
-    let known = simple_known s name at e (subst (IsEntity s) found.1 (is_entity s id found.0)) in
-    let abstract_ = abstract_by s c.fits.ensures id c.is_abstract.result found.0 c.is_abstract.ensures in
-    let concrete = simple_concrete s name at e (λ h. false≢true (sym c.if-is_abstract.false ∙ abstract_.1 (subst (IsAbstract s) (sym found.1) h))) in
+    let id = c.args.entity in
+    let known = simple_known s name at e (subst (IsEntity s) c.requires.named (is_entity s id c.requires.entity)) in
+    let abstract_ = abstract_by s c.fits.ensures id c.is_abstract.result c.requires.entity c.is_abstract.ensures in
+    let concrete = simple_concrete s name at e (λ h. false≢true (sym c.if-is_abstract.false ∙ abstract_.1 (subst (IsAbstract s) (sym c.requires.named) h))) in
     let whole = simple_whole s name at e in
     let count = c.attribute_count.ensures in
-    let are : AreAttributes s false e.keyword count.0 = subst (λ n. AreAttributes s false n count.0) found.1 count.1.0 in
+    let are : AreAttributes s false e.keyword count.0 = subst (λ n. AreAttributes s false n count.0) c.requires.named count.1.0 in
     let long : c.len.result ≡ length c.args.entry.now.params = c.len.ensures in
     let same : length c.args.entry.now.params ≡ length count.0 = sym long ∙ sym c.if-attribute_count-len.false ∙ count.1.1 in
     let counted = simple_counted s name at e (not_wrong_at s c.fits.ensures i 0 e refl count.0 are (count_all c.args.entry.now.params ∙ same)) in
     let S = HasEntity s (set.Simple id) in
-    let there = simple_set s name at e id found.0 found.1 in
+    let there = simple_set s name at e id c.requires.entity c.requires.named in
     let fit = subst (λ (l : List Param). IsFirstUnfit s S count.0 (plain_all l) None) c.as_slice.ensures (c.in-None.ensures count.0 count.1.0) in
     no_fault s i known concrete whole counted (simple_fit s name at e (λ b bad. fit b (unfit_along s (IsInSet s i) S count.0 e.params b (λ n. ((there n).1, (there n).0)) (unfit_at s c.fits.ensures i 0 e refl count.0 are b bad))))

@@ -1,65 +1,8 @@
-use Rattle.std.proofs.Common.{List, get_or}
 use Rattle.p21_tree.specs.Plain.{plain}
-use Rattle.p21_schema.specs.Declaration.{Declaration, AreResolvedIn}
 use Rattle.p21_schema.specs.Row.{attribute_at}
-use Rattle.p21_check.specs.Asked.{RefersCounting}
 use Rattle.p21_check.specs.Sets.{HasEntity}
-use Rattle.p21_check.specs.Wanted.{Asks}
-use Rattle.p21_check.proofs.AskedLemmas.{AskedUpTo, resolved_at, place_below, no_names_asked, stepped, after_first, after_second, best_same, at_last, no_declaration}
+use Rattle.p21_check.proofs.AskedLemmas.{no_names_asked}
 use Rattle.p21_check.proofs.references.parameter.Goals as goal
-use Rattle.p21_check.proofs.references.parameter.Goals.{in-Err+then-found, in-Err+else-found, in_default}
-
-pub asked_by-other-requires-clause-declaration : goal.asked_by-other-requires-clause-declaration
-asked_by-other-requires-clause-declaration g c =
-    let ds = c.declarations-declarations.ensures in
-    (get_or ds.0 c.loop-declaration.declaration-index no_declaration, resolved_at c.args.schema.now c.declarations-declarations.result.now ds.0 c.loop-declaration.declaration-index c.declaration-item.result ds.1.1 c.loop-declaration-test.true c.declaration-item.is)
-
-pub walk-requires-clause-second : goal.walk-requires-clause-second
-walk-requires-clause-second g c =
-    let ds = c.declarations-declarations.ensures in
-    let i = c.loop-declaration.declaration-index in
-    (c.asked_by-other.ensures ds.0 (get_or ds.0 i no_declaration) ds.1.1 (resolved_at c.args.schema.now c.declarations-declarations.result.now ds.0 i c.declaration-item.result ds.1.1 c.loop-declaration-test.true c.declaration-item.is)).asked_
-
-pub loop-declaration-preserved : goal.loop-declaration-preserved
-loop-declaration-preserved g c =
-    let s = c.args.schema.now in
-    let named = g.J.Judge.named c.args.judge.now in
-    let set = HasEntity s c.args.set.now in
-    let cs = c.declarations-declarations.result.now in
-    let i = c.loop-declaration.declaration-index in
-    let p = plain c.args.param.now in
-    let first = c.loop-declaration.first in
-    let wanted = Asks s c.loop-declaration.wanted p in
-    let other = Asks s c.asked_by-other.result p in
-    let ds_are = c.declarations-declarations.ensures in
-    let asks = λ (ds : List Declaration) (all : AreResolvedIn s cs ds). c.asked_by-other.ensures ds (get_or ds i no_declaration) all (resolved_at s cs ds i c.declaration-item.result all c.loop-declaration-test.true c.declaration-item.is) in
-    elim c.match-walk.branch [
-      | in-Err+then-found w ↦ (
-        rw w.wanted-is (asks ds_are.0 ds_are.1.1).asked_,
-        λ ds all. rw (w.first-is, w.wanted-is)
-            (stepped s named set ds i p other _ (place_below s cs ds i all c.loop-declaration-test.true)
-            (after_second s named (AskedUpTo s set ds i p) (RefersCounting s set ds (get_or ds i no_declaration) p) wanted other first w.in-Err.found w.if-found.true ((asks ds all).same p) (c.loop-declaration.invariant.1 ds all) w.in-Err.ensures)),
-      )
-      | in-Err+else-found w ↦ (
-        rw w.wanted-is c.loop-declaration.invariant.0,
-        λ ds all. rw (w.first-is, w.wanted-is)
-            (stepped s named set ds i p wanted _ (place_below s cs ds i all c.loop-declaration-test.true)
-            (after_first s named (AskedUpTo s set ds i p) (RefersCounting s set ds (get_or ds i no_declaration) p) wanted other first w.in-Err.found w.if-found.false ((asks ds all).same p) (c.loop-declaration.invariant.1 ds all) w.in-Err.ensures)),
-      )
-      | in_default w ↦ (
-        rw w.wanted-is c.loop-declaration.invariant.0,
-        λ ds all. rw (w.first-is, w.wanted-is)
-            (stepped s named set ds i p wanted first (place_below s cs ds i all c.loop-declaration-test.true)
-            (best_same s named (AskedUpTo s set ds i p) (RefersCounting s set ds (get_or ds i no_declaration) p) wanted other first ((asks ds all).same p) (c.loop-declaration.invariant.1 ds all) w.in_default.ensures)),
-      )
-    ]
-
-pub returns : goal.returns
-returns g c =
-    let s = c.args.schema.now in
-    let ds = c.declarations-declarations.ensures in
-    let p = plain c.args.param.now in
-    at_last s (g.J.Judge.named c.args.judge.now) (HasEntity s c.args.set.now) (attribute_at s c.args.attribute) c.declarations-declarations.result.now ds.0 c.loop-declaration.declaration-index p (Asks s c.loop-declaration.wanted p) c.loop-declaration.first ds.1.0 ds.1.1 c.loop-declaration-test.false (c.loop-declaration.invariant.1 ds.0 ds.1.1)
 
 pub returns-then-not-may_refer : goal.returns-then-not-may_refer
 returns-then-not-may_refer g c = no_names_asked c.args.schema.now (g.J.Judge.named c.args.judge.now) (HasEntity c.args.schema.now c.args.set.now) (attribute_at c.args.schema.now c.args.attribute) (plain c.args.param.now) (c.may_refer.ensures c.if-not-may_refer.true)

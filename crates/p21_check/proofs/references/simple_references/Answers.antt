@@ -5,11 +5,8 @@ use Rattle.p21_check.specs.Sets.{HasEntity}
 use Rattle.p21_check.specs.Instances.{simple_instance}
 use Rattle.p21_check.proofs.ElementLemmas.{count_all}
 use Rattle.p21_check.proofs.InstanceLemmas.{simple_set}
-use Rattle.p21_check.proofs.RecordLemmas.{record_known, record_counted, last_answer}
+use Rattle.p21_check.proofs.RecordLemmas.{record_counted, last_answer}
 use Rattle.p21_check.proofs.references.simple_references.Goals as goal
-
-pub returns-in_default : goal.returns-in_default
-returns-in_default g c name at = absurd (record_known c.args.schema.now (simple_instance c.requires.local.0 c.requires.local.1 (plain_record c.args.one.now)) 0 (plain_record c.args.one.now) c.requires.local.2 refl c.in_default.ensures)
 
 pub entry-requires-clause-count : goal.entry-requires-clause-count
 entry-requires-clause-count g c os are =
@@ -21,5 +18,5 @@ pub returns : goal.returns
 returns g c name at =
     let s = c.args.schema.now in
     let e = plain_record c.args.one.now in
-    let own = c.in-Some.own in
-    last_answer s c.fits.ensures (g.J.Judge.named c.args.judge.now) (simple_instance name at e) (HasEntity s (set.Simple own)) (simple_set s name at e own c.in-Some.ensures.0 c.in-Some.ensures.1) 0 e refl (omega arith) (λ r a p f less. absurd (omega (arith, less))) c.entry.result c.entry.ensures.attributes c.entry.ensures.found
+    let own = c.args.own in
+    last_answer s c.fits.ensures (g.J.Judge.named c.args.judge.now) (simple_instance name at e) (HasEntity s (set.Simple own)) (simple_set s name at e own c.requires.entity c.requires.named) 0 e refl (omega arith) (λ r a p f less. absurd (omega (arith, less))) c.entry.result c.entry.ensures.attributes c.entry.ensures.found

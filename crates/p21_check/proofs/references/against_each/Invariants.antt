@@ -4,7 +4,7 @@ use Rattle.p21_schema.specs.Declaration.{Declaration, AreResolvedIn}
 use Rattle.p21_check.specs.Sets.{HasEntity}
 use Rattle.p21_check.specs.Wanted.{Asks, IsAsked}
 use Rattle.p21_check.proofs.AskedLemmas.{AskedUpTo, Best}
-use Rattle.p21_check.proofs.references.parameter.Given as goal
+use Rattle.p21_check.proofs.references.against_each.Given as goal
 
 -- the first fault against the declarations before this one, and the best of these
 abbrev pub invariant-loop-declaration : goal.invariant-loop-declaration

@@ -1,0 +1,20 @@
+-- What holds of every schema, header section and instance.
+use Rattle.std.specs.Prelude.{◌≡◌, ℕ, Option}
+use Rattle.p21_express.specs.Schema.{Schema}
+use Rattle.p21_tree.specs.Sentence.{Instance, Opening}
+use Rattle.p21_tree.specs.declared.faults.FaultKind.{FaultKind}
+use Rattle.p21_check.specs.Header.{IsHeaderFault}
+use Rattle.p21_check.specs.LocalFault.{IsLocalFault}
+use Rattle.p21_check.specs.References.{IsReferenceFault}
+
+-- no two answers, each a fault or none, are right of the header section
+abbrev pub HasOneHeaderFault : Schema → Opening → Type 0
+HasOneHeaderFault s opening = (a b : Option FaultKind) → IsHeaderFault s opening a → IsHeaderFault s opening b → a ≡ b
+
+-- no two answers are right of the instance by itself
+abbrev pub HasOneLocalFault : Schema → Instance → Type 0
+HasOneLocalFault s i = (a b : Option FaultKind) → IsLocalFault s i a → IsLocalFault s i b → a ≡ b
+
+-- no two answers are right of the references of the instance, where these instances have the names
+abbrev pub HasOneReferenceFault : Schema → (ℕ → Option Instance) → Instance → Type 0
+HasOneReferenceFault s named i = (a b : Option FaultKind) → IsReferenceFault s named i a → IsReferenceFault s named i b → a ≡ b
