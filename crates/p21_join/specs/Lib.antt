@@ -2,4 +2,3 @@ pub mod Names
 pub mod Model
 pub mod Joined
 pub mod Entities
-pub mod Answered

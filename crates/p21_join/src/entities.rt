@@ -1,13 +1,14 @@
 //! The entities of the instances of a model.
 
-ghost use Rattle.std.specs.Prelude.{◌≡◌, IfOk, IfSome};
-ghost use Rattle.p21_join.specs.Entities.{AreEntitiesOf, IsEntityOfSimple};
-ghost use Rattle.p21_join.specs.Model.{instances_of};
+ghost use Rattle.std.specs.Prelude.{◌≡◌, ◌<◌, IfOk, get_or, length};
+ghost use Rattle.p21_tree.specs.Views.{plain_instance};
+ghost use Rattle.p21_tree.specs.declared.instances.RawInstance.{RawInstance};
+ghost use Rattle.p21_check.specs.EntityOf.{AreSimpleEntities, AreSimpleEntities-prop, IsSimpleEntity};
+ghost use Rattle.p21_join.specs.Model.{instances_of, plain_instances};
 
 use crate::model::Model;
-use p21_check::{EntityOf, Named};
+use p21_check::{EntityOf, Named, simple_entity};
 use p21_schema::{EntityId, Schema};
-use p21_tree::RawInstance;
 use std::alloc::{AllocError, Global};
 
 /// The instances of a model with their entities by a schema, so that a reference is answered without a look at the instance
@@ -18,13 +19,13 @@ pub struct ModelEntities<'m, 'a> {
     model: &'m Model<'a>,
     /// The entity of each simple instance, at the instance's place.
     entities: Vec<Option<EntityId>>,
-    ghost known: { AreEntitiesOf schema.now (instances_of model.now) entities.items },
+    ghost known: { AreSimpleEntities schema.now (plain_instances (instances_of model.now)) entities.items } by { AreSimpleEntities-prop schema.now (plain_instances (instances_of model.now)) entities.items },
 }
 
 impl<'m, 'a> ModelEntities<'m, 'a> {
-    ghost use Rattle.p21_join.specs.Answered.{model_of, schema_of};
+    ghost use Rattle.p21_join.specs.Entities.{model_of, schema_of};
 
-    /// Looks up the entities of all instances of the model, once each. It is refused for want of memory alone.
+    /// Looks up the entities of all instances of a model, once each. It is refused for want of memory alone.
     pub fn new(
         alloc: Global,
         schema: &'m Schema,
@@ -33,18 +34,41 @@ impl<'m, 'a> ModelEntities<'m, 'a> {
         ensures model { IfOk result (λ made. model_of made ≡ model.now) }
         ensures schema { IfOk result (λ made. schema_of made ≡ schema.now) }
     {
-        let entities = entities_of(alloc, schema, model.instances())?;
-        Ok(ModelEntities {
+        let entities = entities_of(alloc, schema, model)?;
+        Ok(ModelEntities::of(schema, model, entities))
+    }
+
+    /// The instances of a model with their entities, where these are known: one for each in the order of the instances; `None`
+    /// stands for an instance that is complex or whose keyword names no entity. This takes no memory.
+    pub fn of(
+        schema: &'m Schema,
+        model: &'m Model<'a>,
+        entities: Vec<Option<EntityId>>,
+    ) -> ModelEntities<'m, 'a>
+        requires { AreSimpleEntities schema.now (plain_instances (instances_of model.now)) entities.items }
+        ensures model { model_of result ≡ model.now }
+        ensures schema { schema_of result ≡ schema.now }
+    {
+        ModelEntities {
             schema,
             model,
             entities,
-        })
+        }
+    }
+
+    /// The entity of the instance at a place, which is below their number; `None` where it is complex or its keyword names no
+    /// entity.
+    pub fn entity(&self, i: usize) -> Option<EntityId>
+        requires { i < length (instances_of (model_of self.now)) }
+        ensures { (d : RawInstance) → IsSimpleEntity (schema_of self.now) (plain_instance (get_or (instances_of (model_of self.now)) i d)) result }
+    {
+        self.entities[i]
     }
 }
 
 impl<'m, 'a> EntityOf<'a> for ModelEntities<'m, 'a> {
     ghost use Rattle.p21_check.specs.References.{named_in};
-    ghost use Rattle.p21_join.specs.Answered.{model_of, schema_of};
+    ghost use Rattle.p21_join.specs.Entities.{model_of, schema_of};
     ghost use Rattle.p21_join.specs.Model.{instances_of, plain_instances};
 
     ghost table = { schema_of };
@@ -55,35 +79,24 @@ impl<'m, 'a> EntityOf<'a> for ModelEntities<'m, 'a> {
         let Some(place) = self.model.position(name) else {
             return Named::Missing;
         };
-        match self.entities[place] {
+        match self.entity(place) {
             Some(entity) => Named::Simple(entity),
             None => Named::Other(self.model.instance(place)),
         }
     }
 }
 
-/// The entity of each simple instance, at its place.
+/// The entities of the instances of a model, in their order.
 fn entities_of(
     alloc: Global,
     schema: &Schema,
-    instances: &[RawInstance<'_>],
+    model: &Model<'_>,
 ) -> Result<Vec<Option<EntityId>>, AllocError>
-    ensures { IfOk result (λ entities. AreEntitiesOf schema.now instances.now entities.items) }
+    ensures { IfOk result (λ entities. AreSimpleEntities schema.now (plain_instances (instances_of model.now)) entities.items) }
 {
-    let mut entities = Vec::with_capacity(alloc, instances.len())?;
-    for instance in instances {
-        entities.push(entity_of_simple(schema, instance))?;
+    let mut entities = Vec::with_capacity(alloc, model.len())?;
+    for instance in model.instances() {
+        entities.push(simple_entity(schema, instance))?;
     }
     Ok(entities)
-}
-
-/// The entity of a simple instance.
-fn entity_of_simple(schema: &Schema, instance: &RawInstance<'_>) -> Option<EntityId>
-    ensures { IfSome result (IsEntityOfSimple schema.now instance.now) }
-{
-    if instance.complex {
-        return None;
-    }
-    let records = instance.records.as_slice();
-    schema.entity(records[0].keyword)
 }

@@ -1,6 +1,6 @@
 //! Joining by example.
 
-use crate::{JoinError, Joiner, ModelEntities};
+use crate::{JoinError, Joiner, Model, ModelEntities};
 use p21_check::{EntityOf, Named};
 use p21_express::read_declarations;
 use p21_schema::{EntityId, Schema};
