@@ -3,3 +3,6 @@ pub mod ReadLemmas
 pub mod NameLemmas
 pub mod ExitLemmas
 pub mod ReferenceLemmas
+pub mod FrontLemmas
+pub mod UniqueLemmas
+pub mod EntityLemmas

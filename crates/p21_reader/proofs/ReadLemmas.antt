@@ -39,7 +39,7 @@ pub record PartLaws : Type 0 where
 pub part_laws : PieceTokensAreOfFile → TailTokensAreOfFile → PieceFaultIsOfFile → TailFaultIsOfFile → PieceIsInstance → NoFaultBehindSemi → PartLaws
 part_laws a b c d e f = record { piece_tokens = a; tail_tokens = b; piece_fault = c; tail_fault = d; piece_is_instance = e; none_behind = f }
 
-instances_more : (body ts : List Placed) (is : List Instance) (i : Instance) → IsInstances deepest body is → IsInstance deepest ts i → IsInstances deepest (body ++ ts) (is ++ i ∷ [])
+pub instances_more : (body ts : List Placed) (is : List Instance) (i : Instance) → IsInstances deepest body is → IsInstance deepest ts i → IsInstances deepest (body ++ ts) (is ++ i ∷ [])
 instances_more body ts is i sentence.none h = subst (λ x. IsInstances deepest x (i ∷ [])) (append-nil ts) (sentence.more ts h sentence.none)
 instances_more body ts is i (sentence.more us {rest = rest} {i = j} {is = others} g hs) h =
     subst (λ x. IsInstances deepest x (j ∷ (others ++ i ∷ []))) (sym (append_assoc us rest ts)) (sentence.more us g (instances_more rest ts others i hs h))

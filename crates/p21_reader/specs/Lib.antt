@@ -4,3 +4,4 @@ pub mod LocalFault
 pub mod Steps
 pub mod Reading
 pub mod Answer
+pub mod Laws

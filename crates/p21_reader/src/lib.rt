@@ -1,6 +1,7 @@
 //! The reading of a whole file against a schema: the list of its instances, or its first fault.
 #![tactic(auto)]
 
+mod laws;
 mod local;
 mod reading;
 #[cfg(test)]
@@ -10,5 +11,6 @@ mod stop;
 #[cfg(test)]
 mod tests;
 
+pub use laws::one_reading;
 pub use reading::{ReadError, Reading};
 pub use serial::read_serial;

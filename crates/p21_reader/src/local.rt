@@ -1,8 +1,9 @@
 //! The instances of a file without a local fault, or that fault.
 
-ghost use Rattle.std.specs.Prelude.{◌≡◌, ◌≤◌, ℕ, [], length, IfOk, IfErr, None};
+ghost use Rattle.std.specs.Prelude.{◌≡◌, ◌≤◌, ℕ, [], length, IfOk, IfErr, OnOk, None};
 ghost use Rattle.p21_tree.specs.Views.{plain_preface};
 ghost use Rattle.p21_tree.specs.Texts.{BeginsPreface};
+ghost use Rattle.p21_check.specs.EntityOf.{AreSimpleEntities};
 ghost use Rattle.p21_check.specs.Header.{IsHeaderFault};
 ghost use Rattle.p21_cut.specs.Pieces.{PiecesAre};
 ghost use Rattle.p21_join.specs.Joined.{joined};
@@ -11,30 +12,31 @@ ghost use Rattle.p21_reader.specs.Steps.{EndsBehind, IsReadUpTo, JoinsPiece, OnF
 ghost use Rattle.p21_join.specs.Model.{instances_of, plain_instances};
 
 use crate::stop::Stop;
-use p21_check::{check_header, check_local};
+use p21_check::{check_header, check_local_entity};
 use p21_cut::{Cut, Cutter, first_tokens_of_file};
 use p21_join::{JoinError, Joiner, Model};
-use p21_schema::Schema;
+use p21_schema::{EntityId, Schema};
 use p21_tree::{
     Fault, FaultKind, InstanceReader, Piece, Preface, parts_up_to_fault, read_preface, read_tail,
 };
 use std::alloc::Global;
 
-/// The instances of a file that has no local fault; else that fault.
+/// The instances of a file that has no local fault, and the entity of each; else that fault.
 pub(crate) fn local_model<'a>(
     alloc: Global,
     schema: &Schema,
     file: &'a [u8],
-) -> Result<Model<'a>, Stop>
-    ensures ok { IfOk result (λ model. HasNoLocalFault schema.now file.now (plain_instances (instances_of model))) }
+) -> Result<(Model<'a>, Vec<Option<EntityId>>), Stop>
+    ensures ok { IfOk result (λ r. HasNoLocalFault schema.now file.now (plain_instances (instances_of r.0))) }
+    ensures entities { IfOk result (λ r. AreSimpleEntities schema.now (plain_instances (instances_of r.0)) r.1.items) }
     ensures fault { IfErr result (λ stop. OnFault stop (IsLocalFault schema.now file.now)) }
 {
     first_tokens_of_file();
     parts_up_to_fault();
     let preface = checked_preface(alloc, schema, file)?;
-    let (joiner, tail) = join_pieces(alloc, schema, file, &preface)?;
+    let (joiner, entities, tail) = join_pieces(alloc, schema, file, &preface)?;
     read_tail(file, tail)?;
-    Ok(joiner.into_model())
+    Ok((joiner.into_model(), entities))
 }
 
 /// The preface of a file, whose header section is that of a file of the schema.
@@ -54,18 +56,19 @@ fn checked_preface<'a>(alloc: Global, schema: &Schema, file: &'a [u8]) -> Result
     }
 }
 
-/// The instances of all pieces behind a preface, and the place of the tail.
+/// The instances of all pieces behind a preface, the entity of each, and the place of the tail.
 fn join_pieces<'a>(
     alloc: Global,
     schema: &Schema,
     file: &'a [u8],
     preface: &Preface<'a>,
-) -> Result<(Joiner<'a>, usize), Stop>
+) -> Result<(Joiner<'a>, Vec<Option<EntityId>>, usize), Stop>
     requires begins { BeginsPreface file.now (plain_preface preface.now) }
     requires within { preface.now.data_at ≤ length file.now }
     requires header { IsHeaderFault schema.now (plain_preface preface.now) None }
-    ensures ok { IfOk result (λ r. EndsBehind schema.now file.now (plain_preface preface.now) (plain_instances (joined r.0)) r.1) }
-    ensures within { IfOk result (λ r. r.1 ≤ length file.now) }
+    ensures ok { IfOk result (λ r. EndsBehind schema.now file.now (plain_preface preface.now) (plain_instances (joined r.0)) r.2) }
+    ensures entities { IfOk result (λ r. AreSimpleEntities schema.now (plain_instances (joined r.0)) r.1.items) }
+    ensures within { IfOk result (λ r. r.2 ≤ length file.now) }
     ensures fault { IfErr result (λ stop. OnFault stop (IsLocalFault schema.now file.now)) }
 {
     first_tokens_of_file();
@@ -73,29 +76,38 @@ fn join_pieces<'a>(
     let mut cutter = Cutter::new(file, preface.data_at as usize);
     let mut reader = InstanceReader::new(alloc);
     let mut joiner = Joiner::new(alloc);
+    let mut entities = Vec::new(alloc);
     loop {
         match cutter.next() {
-            Cut::Piece(piece) => join_piece(&mut reader, schema, &mut joiner, piece)?,
-            Cut::Tail(at) => return Ok((joiner, at as usize)),
+            Cut::Piece(piece) => {
+                join_piece(&mut reader, schema, &mut joiner, &mut entities, piece)?
+            }
+            Cut::Tail(at) => return Ok((joiner, entities, at as usize)),
         }
     }
 }
 
-/// Joins the instance that a piece is, where it has no fault.
+/// Joins the instance that a piece is, where it has no fault, and puts its entity behind those of the others.
 fn join_piece<'a>(
     reader: &mut InstanceReader<'a>,
     schema: &Schema,
     joiner: &mut Joiner<'a>,
+    entities: &mut Vec<Option<EntityId>>,
     piece: Piece<'a>,
 ) -> Result<(), Stop>
-    ensures { JoinsPiece schema.now (joined joiner.old) piece.entry result (joined joiner.new) }
+    requires { AreSimpleEntities schema.now (plain_instances (joined joiner.now)) entities.now.items }
+    ensures joins { JoinsPiece schema.now (joined joiner.old) piece.entry result (joined joiner.new) }
+    ensures entities { OnOk result (AreSimpleEntities schema.now (plain_instances (joined joiner.new)) entities.new.items) }
 {
     let instance = reader.read(piece)?;
     let at = instance.at;
-    let checked = check_local(schema, &instance);
+    let checked = check_local_entity(schema, &instance);
     match joiner.add(instance) {
         Ok(()) => match checked {
-            Ok(()) => Ok(()),
+            Ok(entity) => {
+                entities.push(entity)?;
+                Ok(())
+            }
             Err(kind) => Err(Stop::Fault(Fault { kind, at })),
         },
         Err(JoinError::Duplicate(_)) => Err(Stop::Fault(Fault {

@@ -18,6 +18,7 @@ ENTITY Special SUBTYPE OF (Item); END_ENTITY;\n\
 ENTITY Extra SUBTYPE OF (Special); END_ENTITY;\n\
 ENTITY Other SUBTYPE OF (Item); END_ENTITY;\n\
 ENTITY Chain SUBTYPE OF (Item); SELF\\Item.Next : Special; END_ENTITY;\n\
+ENTITY Ring SUBTYPE OF (Item); DERIVE SELF\\Item.Next : Item := SELF; END_ENTITY;\n\
 ENTITY Mark; END_ENTITY;\n\
 ENTITY Owner; Owns : Special; END_ENTITY;\n\
 ENTITY Group; Members : SET [0:?] OF Item; END_ENTITY;\n\
@@ -81,7 +82,7 @@ fn wrong_in_third(name: u64) -> Option<FaultKind> {
 fn references(rt: HostRuntime) -> Result<(), Fail> {
     let alloc = rt.alloc();
     let toy = table(alloc, TOY).ok_or("the schema is read and built")?;
-    let rows: [(&[&[u8]], Option<FaultKind>); 30] = [
+    let rows: [(&[&[u8]], Option<FaultKind>); 32] = [
         (&[b"#1=ITEM($);"], None),
         (&[b"#1=ITEM(#1);"], None),
         (&[b"#1=ITEM(#8);"], missing(0, 8)),
@@ -90,6 +91,8 @@ fn references(rt: HostRuntime) -> Result<(), Fail> {
         (&[b"#1=OWNER(#2);", b"#2=EXTRA($);"], None),
         (&[b"#1=CHAIN(#1);"], wrong(0, 1)),
         (&[b"#1=CHAIN(#2);", b"#2=SPECIAL($);"], None),
+        (&[b"#1=RING(*);"], None),
+        (&[b"#1=(CHAIN()ITEM(*)RING());"], None),
         (
             &[b"#1=GROUP((#2,#3));", b"#2=ITEM($);", b"#3=MARK();"],
             wrong(0, 3),

@@ -1,8 +1,8 @@
 //! Reading a file from its first byte to its last, on one thread.
 
 ghost use Rattle.std.specs.Prelude.{◌≡◌, IfOk, OnOk, IfErr};
+ghost use Rattle.p21_check.specs.EntityOf.{AreSimpleEntities};
 ghost use Rattle.p21_join.specs.Model.{instances_of, plain_instances};
-ghost use Rattle.p21_join.specs.Answered.{model_of, schema_of};
 ghost use Rattle.p21_reader.specs.Answer.{plain_answer};
 ghost use Rattle.p21_reader.specs.InstanceFault.{AreFaultless};
 ghost use Rattle.p21_reader.specs.Reading.{AreAnswered, IsFirstReferenceFault, IsReading};
@@ -13,7 +13,7 @@ use crate::reading::{ReadError, Reading};
 use crate::stop::Stop;
 use p21_check::check_references_among;
 use p21_join::{Model, ModelEntities};
-use p21_schema::Schema;
+use p21_schema::{EntityId, Schema};
 use p21_tree::Fault;
 use std::alloc::Global;
 
@@ -42,42 +42,28 @@ fn checked_model<'a>(alloc: Global, schema: &Schema, file: &'a [u8]) -> Result<M
     ensures ok { IfOk result (λ model. IsReading schema.now file.now (Ok (plain_instances (instances_of model)))) }
     ensures fault { IfErr result (λ stop. OnFault stop (λ fault. IsReading schema.now file.now (Err fault))) }
 {
-    let model = local_model(alloc, schema, file)?;
-    match references(alloc, schema, &model) {
+    let (model, entities) = local_model(alloc, schema, file)?;
+    match references(schema, &model, entities) {
         Ok(()) => Ok(model),
-        Err(stop) => Err(stop),
-    }
-}
-
-/// The first reference fault of the instances of a model, none of which has a fault by itself.
-fn references<'a>(alloc: Global, schema: &Schema, model: &Model<'a>) -> Result<(), Stop>
-    requires { AreFaultless schema.now (plain_instances (instances_of model.now)) }
-    ensures ok { OnOk result (AreAnswered schema.now (plain_instances (instances_of model.now)) (plain_instances (instances_of model.now))) }
-    ensures fault { IfErr result (λ stop. OnFault stop (IsFirstReferenceFault schema.now (plain_instances (instances_of model.now)))) }
-{
-    let Ok(entities) = ModelEntities::new(alloc, schema, model) else {
-        return Err(Stop::Memory);
-    };
-    match references_among(schema, model, &entities) {
-        Ok(()) => Ok(()),
         Err(fault) => Err(Stop::Fault(fault)),
     }
 }
 
-/// The same, where the entities of the instances are known.
-fn references_among<'m, 'a>(
+/// The first reference fault of the instances of a model, none of which has a fault by itself, by the entity of each.
+fn references(
     schema: &Schema,
-    model: &'m Model<'a>,
-    entities: &ModelEntities<'m, 'a>,
+    model: &Model<'_>,
+    entities: Vec<Option<EntityId>>,
 ) -> Result<(), Fault>
     requires faultless { AreFaultless schema.now (plain_instances (instances_of model.now)) }
-    requires model { model_of entities.now ≡ model.now }
-    requires schema { schema_of entities.now ≡ schema.now }
+    requires entities { AreSimpleEntities schema.now (plain_instances (instances_of model.now)) entities.items }
     ensures ok { OnOk result (AreAnswered schema.now (plain_instances (instances_of model.now)) (plain_instances (instances_of model.now))) }
     ensures fault { IfErr result (λ fault. IsFirstReferenceFault schema.now (plain_instances (instances_of model.now)) fault) }
 {
-    for instance in model.instances() {
-        if let Err(kind) = check_references_among(schema, instance, entities) {
+    let entities = ModelEntities::of(schema, model, entities);
+    for (place, instance) in model.instances().iter().enumerate() {
+        let own = entities.entity(place);
+        if let Err(kind) = check_references_among(schema, own, instance, &entities) {
             return Err(Fault {
                 kind,
                 at: instance.at,

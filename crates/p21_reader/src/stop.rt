@@ -1,6 +1,7 @@
 //! Why a reading ends early.
 
 use p21_tree::{Fault, TreeError};
+use std::alloc::AllocFailed;
 
 /// Why a file gave no model.
 pub(crate) enum Stop {
@@ -8,6 +9,17 @@ pub(crate) enum Stop {
     Fault(Fault),
     /// There was no memory left.
     Memory,
+}
+
+impl<T: Drop> From<AllocFailed<T>> for Stop {
+    ghost use Rattle.p21_reader.specs.declared.stop.Stop.TheVariants.{Memory as MemoryVariant};
+    ghost use Rattle.std.specs.Prelude.{◌≡◌};
+
+    ghost from_gives = { λ f e. e ≡ MemoryVariant };
+
+    fn from(_: AllocFailed<T>) -> Stop {
+        Stop::Memory
+    }
 }
 
 impl From<Fault> for Stop {

@@ -1,5 +1,6 @@
 use Rattle.std.proofs.Common.{◌≡◌}
 use Rattle.p21_tree.specs.Views.{plain_preface}
+use Rattle.p21_check.specs.EntityOf.{AreSimpleEntities}
 use Rattle.p21_cut.specs.Cutter.{bytes_left, file_of, place_of}
 use Rattle.p21_join.specs.Joined.{joined}
 use Rattle.p21_reader.specs.Steps.{IsReadUpTo}
@@ -10,6 +11,7 @@ abbrev pub invariant-loop-piece : goal.invariant-loop-piece
 invariant-loop-piece l = record {
   read : IsReadUpTo l.schema l.file (plain_preface l.preface) (plain_instances (joined l.joiner)) (place_of l.cutter);
   same : file_of l.cutter ≡ l.file;
+  known : AreSimpleEntities l.schema (plain_instances (joined l.joiner)) l.entities.items;
 }
 
 abbrev pub decreases-loop-piece : goal.decreases-loop-piece

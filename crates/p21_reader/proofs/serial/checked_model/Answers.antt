@@ -1,5 +1,4 @@
 use Rattle.std.proofs.Common.{Err}
-use Rattle.p21_join.specs.Model.{instances_of, plain_instances}
 use Rattle.p21_reader.specs.LocalFault.{IsLocalFault}
 use Rattle.p21_reader.specs.Reading.{IsFirstReferenceFault, IsReading}
 use Rattle.p21_reader.specs.Reading as reading
@@ -17,8 +16,4 @@ pub returns-in-Ok-clause-ok : goal.returns-in-Ok-clause-ok
 returns-in-Ok-clause-ok c = reading.read c.in_ok-model.ensures.ok c.in-Ok.ensures.ok
 
 pub returns-clause-fault : goal.returns-clause-fault
-returns-clause-fault c =
-    let s = c.args.schema.now in
-    let file = c.args.file.now in
-    let is = plain_instances (instances_of c.in_ok-model.model) in
-    fault_gives (IsFirstReferenceFault s is) (λ f. IsReading s file (Err f)) c.in-Err.stop (λ f h. reading.reference c.in_ok-model.ensures.ok h) c.in-Err.ensures.fault
+returns-clause-fault c = reading.reference c.in_ok-model.ensures.ok c.in-Err.ensures.fault

@@ -1,9 +1,0 @@
-use Rattle.std.proofs.Common.{ℕ, ◌<◌, None, get_or}
-use Rattle.p21_tree.specs.Sentence.{Instance}
-use Rattle.p21_check.specs.References.{IsReferenceFault, named_in}
-use Rattle.p21_join.specs.Model.{instances_of, plain_instances}
-use Rattle.p21_reader.proofs.serial.references_among.Given as goal
-
--- the instances before this one are answered
-abbrev pub invariant-loop-instance : goal.invariant-loop-instance
-invariant-loop-instance l = (k : ℕ) (d : Instance) → k < l.instance-index → IsReferenceFault l.schema (named_in (plain_instances (instances_of l.model))) (get_or (plain_instances (instances_of l.model)) k d) None
