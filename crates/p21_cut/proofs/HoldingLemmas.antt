@@ -16,7 +16,7 @@ use Rattle.p21_tree.specs.InOrder.{BeginsWithName, HasNoSemi, Joined}
 use Rattle.p21_tree.specs.InOrder as order
 use Rattle.p21_cut.specs.Pieces.{BeginsWith, IsPlain, PartsAre, HasNoPart, Piece, PieceIs, PiecesAre}
 use Rattle.p21_cut.specs.Pieces as pieces
-use Rattle.p21_cut.specs.Tokens.{TokensOfEach, PiecesHoldTokens, TokensAndNext, InFile, PieceTokensAreOfFile, TailTokensAreOfFile}
+use Rattle.p21_cut.specs.Tokens.{TokensOfEach, PiecesHoldTokens, PartsHoldTokens, TokensAndNext, InFile, PieceTokensAreOfFile, TailTokensAreOfFile}
 use Rattle.p21_cut.specs.Tokens as each
 use Rattle.p21_cut.proofs.StretchLemmas.{OneString, parts_alike}
 use Rattle.p21_cut.proofs.PieceTokenLemmas.{parts_fit, no_gap, ClosedWalk, inside, closed, closed_walk, OpenWalk, open_walk, tokens_at_end, end_or_bad, begins_name, begins_first, no_semi_first, no_end_first, first_no_name, tail_no_name}
@@ -294,6 +294,10 @@ unfolding Held
 pieces_hold one unique file at = λ number end ps tss tail rest cut tokens_of in_tail in_file.
     let found = held file at number end ps tss tail one cut tokens_of in_tail in
     subst (Joined tss tail) (unique file at found.0 rest found.1.0 in_file) found.1.1
+
+pub parts_hold : OneString → ((text : List ℕ) (at : ℕ) → HasOneListAtMost text at) → (file : List ℕ) → PartsHoldTokens file
+parts_hold one unique file at number end ps tss before tail rest up cut tokens_of in_tail in_file =
+    (tokens_on file 0 at before rest up in_file, pieces_hold one unique file at number end ps tss tail rest cut tokens_of in_tail in_file)
 
 -- ---- first tokens of the tail
 

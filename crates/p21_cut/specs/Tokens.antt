@@ -15,6 +15,11 @@ pub data TokensOfEach : List Piece → List (List Placed) → Type 0 where
 abbrev pub PiecesHoldTokens : List ℕ → ℕ → Type 0
 PiecesHoldTokens file at = (number end : ℕ) (ps : List Piece) (tss : List (List Placed)) (tail rest : List Placed) → PiecesAre file at number ps end → TokensOfEach ps tss → Tokens file end tail → Tokens file at rest → Joined tss tail rest
 
+-- The tokens of a file, up to its first Bad, are those before a place and, from there on, those of its pieces in turn and of
+-- its tail.
+abbrev pub PartsHoldTokens : List ℕ → Type 0
+PartsHoldTokens file = (at number end : ℕ) (ps : List Piece) (tss : List (List Placed)) (before tail rest : List Placed) → TokensUpTo file 0 before at → PiecesAre file at number ps end → TokensOfEach ps tss → Tokens file end tail → Tokens file at rest → Tokens file 0 (before ++ rest) × Joined tss tail rest
+
 -- Tokens of a text from a place on, none of them End or Bad, and the one behind them.
 pub record TokensAndNext (text : List ℕ) (at : ℕ) (before : List Placed) (t : Placed) : Type 0 where
   pub place : ℕ

@@ -21,8 +21,8 @@ pub struct Cutter<'a> {
 /// What comes next in a data section.
 #[derive(Clone, Copy, Debug)]
 pub enum Cut<'a> {
-    /// A piece: from a `#` up to and including the first `;` outside strings and comments, or up to the file's end where there is
-    /// none, or a string or a comment is never closed before it.
+    /// A piece: from a `#` up to and including the first `;` outside strings and comments; or up to the file's end where there is
+    /// none, or where an apostrophe that begins no string, or a `/*` that no `*/` follows, stands before it.
     Piece(Piece<'a>),
     /// No further piece: the place of the tail, in bytes from the file's first byte.
     Tail(u64),

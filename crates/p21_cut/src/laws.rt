@@ -2,7 +2,7 @@
 
 ghost use Rattle.std.specs.Prelude.{◌≤◌, ℕ, List, length};
 ghost use Rattle.p21_cut.specs.Laws.{HasOneCutting};
-ghost use Rattle.p21_cut.specs.Tokens.{PieceTokensAreOfFile, PiecesHoldTokens, TailTokensAreOfFile};
+ghost use Rattle.p21_cut.specs.Tokens.{PartsHoldTokens, PieceTokensAreOfFile, PiecesHoldTokens, TailTokensAreOfFile};
 
 use crate::cutter::{Cut, Cutter};
 use p21_text::{one_string, tokens_are_unique};
@@ -23,9 +23,10 @@ pub fn one_cutting(file: &[u8], at: usize)
 }
 
 /// The tokens of a file from a place on are those of its pieces in turn and of its tail, up to the first place where no
-/// token begins.
+/// token begins; and all its tokens are those before a place, such as those of its preface, and these behind them.
 pub fn pieces_hold_tokens()
-    ensures { (file : List ℕ) → (at : ℕ) → PiecesHoldTokens file at }
+    ensures from_a_place { (file : List ℕ) → (at : ℕ) → PiecesHoldTokens file at }
+    ensures of_file { (file : List ℕ) → PartsHoldTokens file }
 {
     one_string();
     tokens_are_unique();

@@ -4,7 +4,7 @@ ghost use Rattle.std.specs.Prelude.{◌≡◌, ◌≤◌, ◌<◌, ◌+◌, ◌-
 ghost use Rattle.p21_cut.specs.Pieces.{HasNoPart, PartsAre, PieceIs};
 
 use memchr::memchr3;
-use p21_text::{Token, next_token, one_string};
+use p21_text::{Token, next_token, one_string, separators_len};
 
 /// The place behind the piece that begins with the `#` at `start`.
 pub(crate) fn piece_end(file: &[u8], start: usize) -> usize
@@ -72,6 +72,6 @@ fn comment_end(file: &[u8], at: usize) -> Option<usize>
     ensures advances { IfSome result (λ end. at < end) }
     ensures within { IfSome result (λ end. end ≤ length file.now) }
 {
-    let start = next_token(file, at).start;
-    if start > at { Some(start) } else { None }
+    let passed = separators_len(&file[at..]);
+    if passed > 0 { Some(at + passed) } else { None }
 }

@@ -3,7 +3,7 @@
 use crate::StrItem::{Page, Scalar};
 use crate::{
     Lexed, StrItem, Token, binary_bits, items, items_are_unique, next_token, one_first, one_list,
-    string_items, string_len,
+    separators_len, string_items, string_len,
 };
 use std::alloc::{AllocError, Global};
 use std::process::Abort;
@@ -20,6 +20,7 @@ fn check(rt: &impl Abort, rows: &[Row]) {
             token: *token,
         };
         assert_eq!(rt; next_token(text, 0), want, "{text:?}");
+        assert_eq!(rt; separators_len(text), *start, "{text:?}");
     }
 }
 

@@ -10,16 +10,17 @@ use Rattle.p21_tree.specs.Grammar.{IsKey, IsLeaf, IsParam, IsOptional, IsParams}
 use Rattle.p21_tree.specs.Grammar as grammar
 use Rattle.p21_tree.specs.Sentence.{IsTail, IsFile, deepest, header_word, endsec_word, data_word}
 use Rattle.p21_tree.specs.Sentence as sentence
-use Rattle.p21_tree.specs.Fault.{files, pieces, tails}
-use Rattle.p21_tree.specs.Languages.{Language, Just, Then, stop, again}
+use Rattle.p21_tree.specs.Fault.{Begins, IsFault, files, prefaces, pieces, tails}
+use Rattle.p21_tree.specs.Languages.{Language, Just, Then, kind_now, stop, again}
 use Rattle.p21_tree.specs.Laws.{IsTokenList, FaultOf, HasAnswer}
 use Rattle.p21_tree.specs.Laws as law
 use Rattle.p21_tree.specs.Parts.{Closed, Is, Terminal, KeyToken, EntityKey, Arguments, Keyed, Records, MoreRecords, SomeRecords, Complex, Form, NameToken, FormOn, EqualsOn, Instances, EntityRecords, Entities, DataOn, EndsecOn, HeaderEnd, HeaderRest, HeaderOn, Headers, IsoOn, Prefaces, EndIsoOn, EndIsos, TailOn, Tails, Bodies, Files, Pieces}
-use Rattle.p21_tree.proofs.LanguageLemmas.{stuck_same}
-use Rattle.p21_tree.proofs.Combined.{some_just, grows_just, once_just, stuck_is_fault}
+use Rattle.p21_tree.proofs.LanguageLemmas.{Once, stuck_same, why_now}
+use Rattle.p21_tree.proofs.Combined.{some_just, grows_just, once_just, is_kind, stuck_is_fault}
 use Rattle.p21_tree.proofs.PartLemmas.{some_terminal, some_closed, some_arguments, some_records, some_more, some_form_on, some_equals_on, some_data_on, some_endsec_on, some_header_end, some_header_rest, some_header_on, some_headers, some_iso_on, some_end_iso_on, some_end_isos, some_tail_on, some_tails, some_bodies, grows_terminal, grows_keyed, grows_form, grows_instances, grows_entities, grows_prefaces, starts_terminal, starts_keyed, starts_complex, starts_instances, starts_entities, starts_header_end, starts_tails, once_terminal, once_keyed, once_form, once_instances, once_entities, once_prefaces, key_not}
-use Rattle.p21_tree.proofs.Sentences.{file_into, file_back, piece_into, piece_back, tail_into, tail_back}
+use Rattle.p21_tree.proofs.Sentences.{file_into, file_back, preface_back, piece_into, piece_back, tail_into, tail_back}
 use Rattle.p21_tree.proofs.RecordLemmas.{key_not_last}
+use Rattle.p21_tree.proofs.TreeLaws.{empty_back, preface_language}
 use Rattle.p21_tree.proofs.DataLemmas.{semi_goes, equals_goes, iso_goes, end_iso_goes, keyword_goes, name_goes, names_apart}
 use Rattle.p21_tree.proofs.Avoiding.{Outer, avoids_just, avoids_then, avoids_many, avoids_keyed, avoids_form}
 use Rattle.p21_tree.proofs.Verdicts.{AllGo, Goes, Verdict, reads, leaves, begins, Decided, just_verdict, then_verdict, within_verdict, either_verdict, many_verdict, closed_verdict}
@@ -262,3 +263,31 @@ piece_answer ts i = answer_by pieces Pieces piece_into piece_back piece_closes t
 
 pub tail_answer : HasAnswer tails
 tail_answer ts i = answer_by tails Tails tail_into tail_back tail_closes ts i (tail_verdict ts)
+
+-- Behind a preface a list of tokens goes on, since no preface ends it.
+
+-- with no token a whole sentence goes on, where none begins another
+pub fault_behind : (L M : Language) (front : List Placed) (t : Placed) → ((l : ℕ) (ts : List Placed) → L l ts → M l ts) → Once M → L deepest front → IsFault L front t (kind_now t.token) t.start
+fault_behind L M front t into one p = record {
+  goes = record { rest = []; sentence = subst (λ x. L deepest x) (sym (append-nil front)) p };
+  stops = none deepest;
+  is_kind = is_kind L front t (kind_now t.token) (why_now L deepest front t t.token refl none);
+  place = refl;
+}
+  where
+    none : (m : ℕ) → ¬ (Begins L m (front ++ t ∷ []))
+    none m h =
+        let whole : List Placed = (front ++ t ∷ []) ++ h.rest in
+        let parts : whole ≡ front ++ t ∷ h.rest = append_assoc front (t ∷ []) h.rest in
+        let same : front ≡ whole = one deepest m front whole (t ∷ h.rest) [] (into deepest front p) (into m whole h.sentence) (sym parts ∙ sym (append-nil whole)) in
+        let nothing : t ∷ h.rest ≡ [] = empty_back front (t ∷ h.rest) (same ∙ parts) in
+        cc
+
+preface_by : (ts : List Placed) → IsTokenList ts → Verdict Prefaces 64 ts → prefaces deepest ts ⊎ FaultOf prefaces ts
+preface_by ts i (reads front [] e p) = absurd (no_go ts i (subst AllGo (sym (e ∙ append-nil front)) (goes_prefaces 64 front p)))
+preface_by ts i (reads front (t ∷ rest) e p) = inr (record { before = front; token = t; behind = rest; kind = kind_now t.token; at = t.start; parts = e; is_fault = fault_behind prefaces Prefaces front t preface_language once_prefaces (preface_back 64 front p) })
+preface_by ts i (leaves b t r k e s) = inr (record { before = b; token = t; behind = r; kind = k; at = t.start; parts = e; is_fault = stuck_is_fault prefaces b t k (stuck_same Prefaces prefaces 64 b t k preface_back preface_language s) })
+preface_by ts i (begins g h) = absurd (no_go ts i g)
+
+pub preface_answer : HasAnswer prefaces
+preface_answer ts i = preface_by ts i (preface_verdict ts)

@@ -139,26 +139,26 @@ stuck_within L l b t k s = record {
   why = why_within L l b t k s.why;
 }
 
-pub why_now : (L : Language) (l : ℕ) (t : Placed) (s : Symbol) → t.token ≡ s → ((m : ℕ) → ¬ (Begins L m (t ∷ []))) → Why L l [] t (kind_now s)
-why_now L l t token.bad e none = e
-why_now L l t token.end e none = e
-why_now L l t token.iso e none = (λ h. cc, λ h. cc, λ _ m. none m)
-why_now L l t token.end_iso e none = (λ h. cc, λ h. cc, λ _ m. none m)
-why_now L l t (token.keyword k) e none = (λ h. cc, λ h. cc, λ _ m. none m)
-why_now L l t (token.user_keyword k) e none = (λ h. cc, λ h. cc, λ _ m. none m)
-why_now L l t (token.int k) e none = (λ h. cc, λ h. cc, λ _ m. none m)
-why_now L l t (token.real k) e none = (λ h. cc, λ h. cc, λ _ m. none m)
-why_now L l t (token.str k) e none = (λ h. cc, λ h. cc, λ _ m. none m)
-why_now L l t (token.name k) e none = (λ h. cc, λ h. cc, λ _ m. none m)
-why_now L l t (token.enumeration k) e none = (λ h. cc, λ h. cc, λ _ m. none m)
-why_now L l t (token.binary k) e none = (λ h. cc, λ h. cc, λ _ m. none m)
-why_now L l t token.dollar e none = (λ h. cc, λ h. cc, λ _ m. none m)
-why_now L l t token.star e none = (λ h. cc, λ h. cc, λ _ m. none m)
-why_now L l t token.lparen e none = (λ h. cc, λ h. cc, λ _ m. none m)
-why_now L l t token.rparen e none = (λ h. cc, λ h. cc, λ _ m. none m)
-why_now L l t token.comma e none = (λ h. cc, λ h. cc, λ _ m. none m)
-why_now L l t token.equals e none = (λ h. cc, λ h. cc, λ _ m. none m)
-why_now L l t token.semi e none = (λ h. cc, λ h. cc, λ _ m. none m)
+pub why_now : (L : Language) (l : ℕ) (b : List Placed) (t : Placed) (s : Symbol) → t.token ≡ s → ((m : ℕ) → ¬ (Begins L m (b ++ t ∷ []))) → Why L l b t (kind_now s)
+why_now L l b t token.bad e none = e
+why_now L l b t token.end e none = e
+why_now L l b t token.iso e none = (λ h. cc, λ h. cc, λ _ m. none m)
+why_now L l b t token.end_iso e none = (λ h. cc, λ h. cc, λ _ m. none m)
+why_now L l b t (token.keyword k) e none = (λ h. cc, λ h. cc, λ _ m. none m)
+why_now L l b t (token.user_keyword k) e none = (λ h. cc, λ h. cc, λ _ m. none m)
+why_now L l b t (token.int k) e none = (λ h. cc, λ h. cc, λ _ m. none m)
+why_now L l b t (token.real k) e none = (λ h. cc, λ h. cc, λ _ m. none m)
+why_now L l b t (token.str k) e none = (λ h. cc, λ h. cc, λ _ m. none m)
+why_now L l b t (token.name k) e none = (λ h. cc, λ h. cc, λ _ m. none m)
+why_now L l b t (token.enumeration k) e none = (λ h. cc, λ h. cc, λ _ m. none m)
+why_now L l b t (token.binary k) e none = (λ h. cc, λ h. cc, λ _ m. none m)
+why_now L l b t token.dollar e none = (λ h. cc, λ h. cc, λ _ m. none m)
+why_now L l b t token.star e none = (λ h. cc, λ h. cc, λ _ m. none m)
+why_now L l b t token.lparen e none = (λ h. cc, λ h. cc, λ _ m. none m)
+why_now L l b t token.rparen e none = (λ h. cc, λ h. cc, λ _ m. none m)
+why_now L l b t token.comma e none = (λ h. cc, λ h. cc, λ _ m. none m)
+why_now L l b t token.equals e none = (λ h. cc, λ h. cc, λ _ m. none m)
+why_now L l b t token.semi e none = (λ h. cc, λ h. cc, λ _ m. none m)
 
 pub not_first : (L : Language) (T : Symbol → Type 0) (m : ℕ) (t : Placed) (front rest : List Placed) → Starts L T → ¬ (T t.token) → t ∷ rest ≡ front → ¬ (L m front)
 not_first L T m t front rest starts no_ e h = no_ (subst (λ x. FirstIs T x) (sym e) (starts m front h))
@@ -176,5 +176,5 @@ stuck_now L T l t some_ starts no_ = record {
   goes = record { rest = (some_ l (omega arith)).0; sentence = (some_ l (omega arith)).1 };
   stops = λ h. not_first L T l t (t ∷ h.rest) h.rest starts no_ refl h.sentence;
   unfinished = λ m front rest e h. not_empty L T m starts (subst (λ x. L m x) (empty_front front rest e) h);
-  why = why_now L l t t.token refl (λ m h. not_first L T m t (t ∷ h.rest) h.rest starts no_ refl h.sentence);
+  why = why_now L l [] t t.token refl (λ m h. not_first L T m t (t ∷ h.rest) h.rest starts no_ refl h.sentence);
 }

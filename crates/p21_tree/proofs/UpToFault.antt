@@ -7,21 +7,22 @@ use Rattle.p21_text.specs.Tokens.{Placed, IsLast}
 use Rattle.p21_text.specs.Tokens as text
 use Rattle.p21_tree.specs.Sentence.{Instance, Opening, IsPreface, IsPiece, IsInstance, IsInstances, deepest, endsec_word}
 use Rattle.p21_tree.specs.Sentence as sentence
-use Rattle.p21_tree.specs.Fault.{Begins, Kind, IsFault, files, pieces, tails}
+use Rattle.p21_tree.specs.Fault.{Begins, Kind, IsFault, files, prefaces, pieces, tails}
 use Rattle.p21_tree.specs.Languages.{Stuck, Language}
-use Rattle.p21_tree.specs.Laws.{FaultOf, SameFault}
+use Rattle.p21_tree.specs.Laws.{IsTokenList, FaultOf, SameFault}
 use Rattle.p21_tree.specs.Parts.{Is, Terminal, NameToken, Instances, Tails, Bodies, Prefaces, Files, Pieces}
-use Rattle.p21_tree.specs.InOrder.{BeginsWithName, HasNoSemi, PieceFaultIsOfFile, TailFaultIsOfFile, PieceIsInstance, NoFaultBehindSemi}
+use Rattle.p21_tree.specs.InOrder.{BeginsWithName, HasNoSemi, PrefaceFaultIsOfFile, BeginsNoPreface, PrefaceOrFault, PieceFaultIsOfFile, TailFaultIsOfFile, PieceIsInstance, NoFaultBehindSemi}
 use Rattle.p21_tree.proofs.LanguageLemmas.{fronts, begins_then, begins_same, stuck_second, stuck_same}
 use Rattle.p21_tree.proofs.Combined.{stuck_is_fault}
-use Rattle.p21_tree.proofs.PartLemmas.{some_terminal, starts_instances, starts_tails, once_instances, once_prefaces, grows_instances, grows_prefaces}
+use Rattle.p21_tree.proofs.PartLemmas.{some_terminal, some_bodies, starts_instances, starts_tails, once_instances, once_prefaces, grows_instances, grows_prefaces}
 use Rattle.p21_tree.proofs.ProgressLemmas.{stuck_again}
 use Rattle.p21_tree.proofs.DataLemmas.{names_apart}
-use Rattle.p21_tree.proofs.Sentences.{instance_into, preface_into, piece_into, piece_back, file_into, file_back, tail_into, tail_back}
+use Rattle.p21_tree.proofs.Sentences.{instance_into, preface_into, preface_back, piece_into, piece_back, file_into, file_back, tail_into, tail_back}
 use Rattle.p21_tree.proofs.LawLemmas.{one_fault_at_most}
+use Rattle.p21_tree.proofs.TreeLaws.{none_begins_another, preface_language}
 use Rattle.p21_tree.proofs.Avoiding.{NoneOf, none_right}
 use Rattle.p21_tree.proofs.Verdicts.{Verdict, reads, leaves, begins}
-use Rattle.p21_tree.proofs.FileVerdict.{instances_verdict, tail_verdict, tail_closes, Closes}
+use Rattle.p21_tree.proofs.FileVerdict.{no_go, preface_verdict, instances_verdict, tail_verdict, tail_closes, Closes}
 use Rattle.p21_tree.proofs.InOrder.{Semi, none_semi, semi_behind, Ending, ending, no_instance, piece_is, NoTail, leaves_body, tail_stuck, tail_no_name}
 use Rattle.p21_tree.proofs.LanguageLemmas as language
 
@@ -78,6 +79,51 @@ piece_fault opening body front o is t kind at p hs n begins_ f =
       is_fault = stops_behind opening body front o is t kind at p hs (leaves_body front t [] kind (no_tail front t s.goes begins_) s) f.place;
       no_more = λ a b i e h. s.unfinished 64 a b e (instance_into 64 a i h);
     }
+
+-- the preface
+
+first_empty : (a b : List Placed) → a ++ b ≡ [] → a ≡ []
+first_empty [] b e = refl
+first_empty (t ∷ a) b e = absurd (cc)
+
+-- of a list that begins a preface, a front that is a preface is all of it
+whole_front : (before front rest : List Placed) → before ≡ front ++ rest → Begins prefaces 64 before → prefaces 64 front → before ≡ front
+whole_front before front rest e h p =
+    let more : before ++ h.rest ≡ front ++ (rest ++ h.rest) = ap (λ x. x ++ h.rest) e ∙ append_assoc front rest h.rest in
+    let none : rest ++ h.rest ≡ [] = none_begins_another prefaces Prefaces preface_language once_prefaces front (rest ++ h.rest) p (subst (λ x. prefaces 64 x) more h.sentence) in
+    e ∙ (ap (λ x. front ++ x) (first_empty rest h.rest none) ∙ append-nil front)
+
+preface_stuck : (before : List Placed) (t : Placed) (kind : Kind) (at : ℕ) → ¬ (prefaces deepest before) → IsFault prefaces before t kind at → Verdict Prefaces 64 (before ++ t ∷ []) → Stuck Prefaces 64 before t kind
+preface_stuck before t kind at n f (reads b r e p) = elim (fronts before t [] b r (append-nil (before ++ t ∷ []) ∙ e)) [
+  | inl w ↦ absurd (f.stops (record { rest = w.0; sentence = preface_back 64 ((before ++ t ∷ []) ++ w.0) (subst (λ x. Prefaces 64 x) w.1 p) }))
+  | inr w ↦ absurd (n (subst (λ x. prefaces 64 x) (sym (whole_front before b w.0 w.1 f.goes (preface_back 64 b p))) (preface_back 64 b p)))
+]
+preface_stuck before t kind at n f (leaves b u r k e s) = stuck_there prefaces Prefaces before b r t u kind k at f e s (stuck_same Prefaces prefaces 64 b u k preface_back preface_language s)
+preface_stuck before t kind at n f (begins g h) = absurd (f.stops (begins_same Prefaces prefaces 64 (before ++ t ∷ []) preface_back h))
+
+file_stops : (before : List Placed) (t : Placed) (kind : Kind) → Stuck Prefaces 64 before t kind → IsFault files before t kind t.start
+file_stops before t kind s = stuck_is_fault files before t kind (stuck_same Files files 64 before t kind file_back file_into (language.stuck_first Prefaces Bodies 64 before t kind (some_bodies 64) s))
+
+pub preface_fault : PrefaceFaultIsOfFile
+preface_fault before t kind at n f =
+    let s : Stuck Prefaces 64 before t kind = preface_stuck before t kind at n f (preface_verdict (before ++ t ∷ [])) in
+    subst (λ x. IsFault files before t kind x) (sym f.place) (file_stops before t kind s)
+
+no_preface : (ts b r : List Placed) (t : Placed) (k : Kind) → ts ≡ b ++ t ∷ r → Stuck Prefaces 64 b t k → BeginsNoPreface ts
+no_preface ts b r t k e s front rest g p = elim (fronts b t r front rest (append_assoc b (t ∷ []) r ∙ (sym e ∙ g))) [
+  | inl w ↦ s.stops (record { rest = w.0; sentence = subst (λ x. Prefaces 64 x) w.1 (preface_language 64 front p) })
+  | inr w ↦ s.unfinished 64 front w.0 w.1 (preface_language 64 front p)
+]
+
+preface_or_fault_by : (ts : List Placed) → IsTokenList ts → Verdict Prefaces 64 ts → ((front : List Placed) × (rest : List Placed) × (ts ≡ front ++ rest) × prefaces deepest front) ⊎ ((f : FaultOf files ts) × IsFault prefaces f.before f.token f.kind f.at × BeginsNoPreface ts)
+preface_or_fault_by ts i (reads front rest e p) = inl (front, rest, e, preface_back 64 front p)
+preface_or_fault_by ts i (leaves b t r k e s) =
+    let f : FaultOf files ts = record { before = b; token = t; behind = r; kind = k; at = t.start; parts = e; is_fault = file_stops b t k s } in
+    inr (f, stuck_is_fault prefaces b t k (stuck_same Prefaces prefaces 64 b t k preface_back preface_language s), no_preface ts b r t k e s)
+preface_or_fault_by ts i (begins g h) = absurd (no_go ts i g)
+
+pub preface_or_fault : PrefaceOrFault
+preface_or_fault ts i = preface_or_fault_by ts i (preface_verdict ts)
 
 -- the tail
 

@@ -3,7 +3,7 @@ use Rattle.std.specs.Prelude.{◌≡◌, ◌≢◌, ◌⊎◌, ℕ, List, [], �
 use Rattle.p21_text.specs.Spelling as token
 use Rattle.p21_text.specs.Tokens.{Placed, IsLast}
 use Rattle.p21_tree.specs.Sentence.{Instance, Opening, IsFile, IsPreface, IsPiece, IsInstance, IsInstances, IsTail, deepest}
-use Rattle.p21_tree.specs.Fault.{Kind, IsFault, files, pieces, tails}
+use Rattle.p21_tree.specs.Fault.{Kind, IsFault, files, prefaces, pieces, tails}
 use Rattle.p21_tree.specs.Laws.{IsTokenList, FaultOf}
 
 -- the first token is an instance name
@@ -62,9 +62,21 @@ abbrev pub IsOutcome : List Placed → Opening → Outcome → Type 0
 IsOutcome ts o (read is) = IsFile deepest ts (record { opening = o; instances = is })
 IsOutcome ts o (stopped is kind at) = StopsBehind ts o is kind at
 
--- reading the parts of a file in order gives the tree or the fault of the file
+-- no front of the tokens is a preface
+abbrev pub BeginsNoPreface : List Placed → Type 0
+BeginsNoPreface ts = (front rest : List Placed) → ts ≡ front ++ rest → ¬ (prefaces deepest front)
+
+-- A list of tokens begins with a preface, or it begins with none and has a fault that is the preface's and the file's.
+abbrev pub PrefaceOrFault : Type 0
+PrefaceOrFault = (ts : List Placed) → IsTokenList ts → ((front : List Placed) × (rest : List Placed) × (ts ≡ front ++ rest) × prefaces deepest front) ⊎ ((f : FaultOf files ts) × IsFault prefaces f.before f.token f.kind f.at × BeginsNoPreface ts)
+
+-- behind the preface, reading the parts of a file in order gives the tree or the fault of the file
 abbrev pub PartsGiveFile : Type 0
 PartsGiveFile = (ts rest : List Placed) (o : Opening) (ps : List (List Placed)) (tail : List Placed) (found : Outcome) → IsPreface deepest ts o → Joined ps tail rest → ReadsInOrder ps tail found → IsOutcome (ts ++ rest) o found
+
+-- the fault of a preface is the file's, unless the preface is whole before it
+abbrev pub PrefaceFaultIsOfFile : Type 0
+PrefaceFaultIsOfFile = (before : List Placed) (t : Placed) (kind : Kind) (at : ℕ) → ¬ (prefaces deepest before) → IsFault prefaces before t kind at → IsFault files before t kind at
 
 -- Behind a preface and whole instances stand some tokens, and the next one is the fault of the file; no further
 -- instance stands whole before it.

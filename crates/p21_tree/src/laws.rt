@@ -2,12 +2,13 @@
 
 ghost use Rattle.p21_tree.specs.Fault.{files, instances, pieces, prefaces, tails};
 ghost use Rattle.p21_tree.specs.Laws.{FaultsAreOfTokens, HasAnswer, HasOneFaultAtMost, HasOneTree, NoneBeginsAnother, PieceFaultsAreOfTokens, PrefaceFaultsAreOfTokens};
-ghost use Rattle.p21_tree.specs.InOrder.{NoFaultBehindSemi, PartsGiveFile, PieceFaultIsOfFile, PieceIsInstance, TailFaultIsOfFile};
+ghost use Rattle.p21_tree.specs.InOrder.{NoFaultBehindSemi, PartsGiveFile, PieceFaultIsOfFile, PieceIsInstance, PrefaceFaultIsOfFile, PrefaceOrFault, TailFaultIsOfFile};
 
 /// A list of tokens that ends with the end of the text, or where no token begins, is a file or has a fault; the same
-/// of pieces and tails.
+/// of prefaces, pieces and tails.
 pub fn one_answer()
     ensures of_files { HasAnswer files }
+    ensures of_prefaces { HasAnswer prefaces }
     ensures of_pieces { HasAnswer pieces }
     ensures of_tails { HasAnswer tails }
 {}
@@ -39,11 +40,13 @@ pub fn one_beginning()
 /// Reading the preface of a file, its pieces and its tail in order gives the tree of the file, or its fault with the
 /// instances that stand whole before it.
 pub fn parts_in_order()
-    ensures { PartsGiveFile }
+    ensures of_preface { PrefaceOrFault }
+    ensures behind_preface { PartsGiveFile }
 {}
 
 /// Reading the parts of a file in order up to the first fault gives the fault of the file, whatever stands behind it.
 pub fn parts_up_to_fault()
+    ensures of_prefaces { PrefaceFaultIsOfFile }
     ensures of_pieces { PieceFaultIsOfFile }
     ensures of_tails { TailFaultIsOfFile }
     ensures whole { PieceIsInstance }

@@ -87,7 +87,7 @@ pub enum Step<'a> {
     Go(Mode<'a>),
     /// It closed the record's parenthesis, behind these parameters.
     Closed(Few<Param<'a>>),
-    /// It fits at no limit of parentheses.
+    /// It fits at no limit of parentheses, or is a keyword at this one.
     Refused,
     /// It is a parenthesis that the limit refuses.
     TooDeep,

@@ -212,7 +212,7 @@ fn cut_files(rt: HostRuntime) -> Result<(), Fail> {
                 Answer::Fault(FaultKind::Truncated, 184),
             ),
             Row(
-                "cut_behind_number_terminal",
+                "cut_behind_number_sign",
                 Text::Behind(b"#1=ITEM('A001',$,#"),
                 Answer::Fault(FaultKind::BadToken, 135),
             ),
