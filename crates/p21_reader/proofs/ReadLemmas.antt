@@ -1,5 +1,5 @@
 -- One part of a file further.
-use Rattle.std.proofs.Common.{◌≡◌, ◌⊎◌, inl, inr, ℕ, List, [], ◌∷◌, ◌++◌, None, Err, refl, sym, ap, subst, ◌∙◌, append_assoc, append-nil}
+use Rattle.std.proofs.Common.{◌≡◌, ◌⊎◌, inl, inr, ℕ, ◌+◌, List, [], ◌∷◌, ◌++◌, Option, Some, None, Err, map, refl, sym, ap, subst, ◌∙◌, append_assoc, append-nil}
 use Rattle.p21_text.specs.Spelling as token
 use Rattle.p21_text.specs.Tokens.{Placed, First, Tokens, TokensUpTo, IsLast}
 use Rattle.p21_text.specs.Tokens as tokens
@@ -8,15 +8,18 @@ use Rattle.p21_tree.specs.declared.faults.Fault.{Fault}
 use Rattle.p21_tree.specs.declared.pieces.Piece.{Piece}
 use Rattle.p21_tree.specs.Sentence.{Instance, Opening, IsInstance, IsInstances, IsTail, deepest}
 use Rattle.p21_tree.specs.Sentence as sentence
-use Rattle.p21_tree.specs.Fault.{IsFault, pieces, tails}
+use Rattle.p21_tree.specs.Fault.{IsFault, files, pieces, tails}
 use Rattle.p21_tree.specs.Texts.{shift, shifted, IsPieceText, IsFileText, HasPieceFault, HasFault, HasTail, BeginsPreface}
 use Rattle.p21_tree.specs.InOrder.{BeginsWithName, HasNoSemi, PieceFaultIsOfFile, TailFaultIsOfFile, PieceIsInstance, NoFaultBehindSemi}
 use Rattle.p21_cut.specs.Pieces.{IsNext, PiecesAre}
+use Rattle.p21_cut.specs.Pieces as cut
 use Rattle.p21_cut.specs.Cutter.{plain_piece}
 use Rattle.p21_cut.specs.Tokens.{TokensAndNext, InFile, PieceTokensAreOfFile, TailTokensAreOfFile}
 use Rattle.p21_cut.specs.Tokens as piece
 use Rattle.p21_check.specs.Header.{IsHeaderFault}
-use Rattle.p21_reader.specs.GrammarOutcome.{BeginsWith, StopsBehind}
+use Rattle.p21_reader.specs.GrammarOutcome.{BeginsWith, StopsBehind, ReadsParts, IsOutcomeOf}
+use Rattle.p21_reader.specs.GrammarOutcome as parts
+use Rattle.p21_reader.specs.Laws.{PiecesGiveFile}
 use Rattle.p21_reader.specs.InstanceFault.{IsInstanceFault, AreFaultless}
 use Rattle.p21_reader.specs.LocalFault.{IsLocalFault, HasNoLocalFault}
 use Rattle.p21_reader.specs.LocalFault as fault
@@ -136,6 +139,26 @@ tail_stops laws file o is place number end f b n h =
       stops = laws.tail_fault b.opening b.body h.before o is h.token h.kind f.at b.is_opening b.are_instances (none_last file end h.place h.before h.tokens) moved.1 h.is_fault;
       kind_is = h.kind_is;
     }
+
+-- all parts
+
+stopped : (file : List ℕ) (o : Opening) (is : List Instance) (f : Fault) → StopsBehind file o is f → HasFault files file 0 f × StopsBehind file o is f
+stopped file o is f s = (record { before = s.opening ++ (s.body ++ s.front); place = s.place; token = s.token; kind = s.kind; tokens = s.tokens; next = s.next; is_fault = s.stops.is_fault; kind_is = s.kind_is }, s)
+
+parts_from : PartLaws → (file : List ℕ) (o : Opening) (end : ℕ) (earlier is : List Instance) (place number : ℕ) (ps : List Piece) (found : Option Fault) → BeginsWith file o earlier place → PiecesAre file place number (map plain_piece ps) end → ReadsParts file end ps is found → IsOutcomeOf file o (earlier ++ is) found
+parts_from laws file o end earlier is place number ps found b n (parts.whole t) =
+    subst (λ x. IsFileText file o x) (sym (append-nil earlier)) (tail_whole laws file o earlier place number end b n t)
+parts_from laws file o end earlier is place number ps found b n (parts.in_tail {f} h) =
+    subst (λ x. IsOutcomeOf file o x (Some f)) (sym (append-nil earlier)) (stopped file o earlier f (tail_stops laws file o earlier place number end f b n h))
+parts_from laws file o end earlier is place number (p ∷ ps) found b (cut.piece {next = after} n others) (parts.in_piece {f = f} h) =
+    subst (λ x. IsOutcomeOf file o x (Some f)) (sym (append-nil earlier)) (stopped file o earlier f (piece_stops laws file o earlier place number after p f b n h))
+parts_from laws file o end earlier is place number (p ∷ ps) found b (cut.piece {next = after} n others) (parts.next {i = i} {is = later} h rest) =
+    let w = piece_whole laws file place number after p i n h in
+    let more : BeginsWith file o (earlier ++ i ∷ []) after = begins_more file o earlier place after w.0 i b w.1 w.2 in
+    subst (λ x. IsOutcomeOf file o x found) (append_assoc earlier (i ∷ []) later) (parts_from laws file o end (earlier ++ i ∷ []) later after (number + 1) ps found more others rest)
+
+pub pieces_give_file : PartLaws → (file : List ℕ) → PiecesGiveFile file
+pieces_give_file laws file o ps end is found h n r = parts_from laws file o end [] is o.data_at 0 ps found (begins_opening file o h) n r
 
 -- one instance more
 

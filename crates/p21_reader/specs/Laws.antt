@@ -1,10 +1,20 @@
 -- What holds of every schema and file.
-use Rattle.std.specs.Prelude.{◌≡◌, ℕ, List, Result}
+use Rattle.std.specs.Prelude.{◌≡◌, ℕ, List, Option, Result, map}
 use Rattle.p21_express.specs.Schema.{Schema}
 use Rattle.p21_tree.specs.declared.faults.Fault.{Fault}
-use Rattle.p21_tree.specs.Sentence.{Instance}
+use Rattle.p21_tree.specs.declared.pieces.Piece.{Piece}
+use Rattle.p21_tree.specs.Sentence.{Instance, Opening}
+use Rattle.p21_tree.specs.Texts.{BeginsPreface}
+use Rattle.p21_cut.specs.Pieces.{PiecesAre}
+use Rattle.p21_cut.specs.Cutter.{plain_piece}
+use Rattle.p21_reader.specs.GrammarOutcome.{ReadsParts, IsOutcomeOf}
 use Rattle.p21_reader.specs.Reading.{IsReading}
 
 -- no two answers are the reading of the file
 abbrev pub HasOneReadingAtMost : Schema → List ℕ → Type 0
 HasOneReadingAtMost s file = (a b : Result (List Instance) Fault) → IsReading s file a → IsReading s file b → a ≡ b
+
+-- Behind a preface, reading the pieces of a file in order and then its tail gives the tree of the file, or its grammar fault
+-- and the instances that stand whole before it.
+abbrev pub PiecesGiveFile : List ℕ → Type 0
+PiecesGiveFile file = (o : Opening) (ps : List Piece) (end : ℕ) (is : List Instance) (found : Option Fault) → BeginsPreface file o → PiecesAre file o.data_at 0 (map plain_piece ps) end → ReadsParts file end ps is found → IsOutcomeOf file o is found
