@@ -49,10 +49,6 @@ most_schema_bytes = 16777216
 abbrev pub most_file_bytes : ℕ
 most_file_bytes = 4294967296
 
--- both inputs are within their bounds
-abbrev pub AreWithinBounds : List ℕ → List ℕ → Type 0
-AreWithinBounds schema_text file = (length schema_text ≤ most_schema_bytes) × (length file ≤ most_file_bytes)
-
 -- a text that is due has at least as many bytes as there may be calls
 abbrev pub IsLongText : List ℕ → List ℕ → Type 0
 IsLongText schema_text file = (o : Outcome) × (text : List ℕ) × IsDue schema_text file o text × (most_calls ≤ length text)

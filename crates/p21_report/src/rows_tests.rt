@@ -673,6 +673,12 @@ fn schema_of_greatest_length(rt: HostRuntime) -> Result<(), Fail> {
     let (outcome, text) = report(alloc, &padded(alloc, 16_777_216)?, THREE);
     assert_eq!(rt; outcome, Outcome::Complete);
     assert_eq!(rt; text.as_slice(), THREE_REPORT);
+    Ok(())
+}
+
+#[test]
+fn schema_above_greatest_length(rt: HostRuntime) -> Result<(), Fail> {
+    let alloc = rt.alloc();
     let (outcome, text) = report(alloc, &padded(alloc, 16_777_217)?, THREE);
     assert_eq!(rt; outcome, Outcome::Device);
     assert!(rt; text.as_slice().is_empty());

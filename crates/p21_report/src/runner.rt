@@ -3,10 +3,10 @@
 ghost use Rattle.std.specs.Prelude.{◌≡◌, ◌≤◌, ◌⊎◌, ℕ, List, Some, Err, false, length, IfOk};
 ghost use Rattle.p21_express.specs.Plain.{plain_schema};
 ghost use Rattle.p21_express.specs.WellFormed.{IsWellFormed};
-ghost use Rattle.p21_report.specs.Due.{AreWithinBounds, IsDue, IsReportOf, Writes, IsLong, IsLongText, most_calls, most_file_bytes};
+ghost use Rattle.p21_report.specs.Due.{IsDue, IsReportOf, Writes, IsLong, IsLongText, most_calls, most_file_bytes, most_schema_bytes};
 ghost use Rattle.std.specs.Io.KnownBytes.{Keeps};
 ghost use Rattle.p21_express.specs.Answer.{HasNoReading};
-ghost use Rattle.p21_report.specs.declared.outcome.Outcome.TheVariants.{Complete, Device, Faulty};
+ghost use Rattle.p21_report.specs.declared.outcome.Outcome.TheVariants.{Complete, Device, Faulty, SchemaRefused};
 ghost use Rattle.p21_report.specs.declared.input.InputError.TheVariants.{Device as Failed};
 
 use crate::input::{FILE_BOUNDS, InputError, SCHEMA_BOUNDS, read_bounded};
@@ -31,7 +31,8 @@ pub fn run<S: Source, F: Source, K: Sink>(
     out: &mut K,
 ) -> Outcome
     ensures written { (schema_text file : List ℕ) → S.remaining schema_in.old ≡ Some schema_text → F.remaining file_in.old ≡ Some file → Writes schema_text file result (K.taken out.old) (K.taken out.new) }
-    ensures bounded { result ≡ Complete ⊎ result ≡ Faulty → (schema_text file : List ℕ) → S.remaining schema_in.old ≡ Some schema_text → F.remaining file_in.old ≡ Some file → AreWithinBounds schema_text file }
+    ensures schema_bounded { result ≡ Complete ⊎ (result ≡ Faulty ⊎ result ≡ SchemaRefused) → (schema_text : List ℕ) → S.remaining schema_in.old ≡ Some schema_text → length schema_text ≤ most_schema_bytes }
+    ensures file_bounded { result ≡ Complete ⊎ result ≡ Faulty → (file : List ℕ) → F.remaining file_in.old ≡ Some file → length file ≤ most_file_bytes }
     ensures unread { (schema_text : List ℕ) → S.remaining schema_in.old ≡ Some schema_text → HasNoReading schema_text → file_in.new ≡ file_in.old }
     ensures unwritten { result ≡ Device → K.marked out.new ≡ false → (schema_text file : List ℕ) → S.remaining schema_in.old ≡ Some schema_text → F.remaining file_in.old ≡ Some file → Keeps (K.taken out.old) (K.taken out.new) ⊎ IsLongText schema_text file }
     ensures cause { result ≡ Device → S.marked schema_in.new ≡ false → F.marked file_in.new ≡ false → K.marked out.new ≡ false → (schema_text file : List ℕ) → S.remaining schema_in.old ≡ Some schema_text → F.remaining file_in.old ≡ Some file → IsLong schema_text file }
@@ -53,7 +54,8 @@ fn report<S: Source, F: Source>(
     file_in: &mut F,
 ) -> Result<Report, InputError>
     ensures due { (schema_text file : List ℕ) → S.remaining schema_in.old ≡ Some schema_text → F.remaining file_in.old ≡ Some file → IfOk result (λ report. IsDue schema_text file report.outcome report.text.items) }
-    ensures bounded { IfOk result (λ report. report.outcome ≡ Complete ⊎ report.outcome ≡ Faulty → (schema_text file : List ℕ) → S.remaining schema_in.old ≡ Some schema_text → F.remaining file_in.old ≡ Some file → AreWithinBounds schema_text file) }
+    ensures schema_bounded { IfOk result (λ _. (schema_text : List ℕ) → S.remaining schema_in.old ≡ Some schema_text → length schema_text ≤ most_schema_bytes) }
+    ensures file_bounded { IfOk result (λ report. report.outcome ≡ Complete ⊎ report.outcome ≡ Faulty → (file : List ℕ) → F.remaining file_in.old ≡ Some file → length file ≤ most_file_bytes) }
     ensures unread { (schema_text : List ℕ) → S.remaining schema_in.old ≡ Some schema_text → HasNoReading schema_text → file_in.new ≡ file_in.old }
     ensures cause { result ≡ Err Failed → S.marked schema_in.new ≡ false → F.marked file_in.new ≡ false → (schema_text file : List ℕ) → S.remaining schema_in.old ≡ Some schema_text → F.remaining file_in.old ≡ Some file → (most_calls ≤ length schema_text) ⊎ (most_calls ≤ length file) }
 {
