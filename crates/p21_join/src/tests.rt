@@ -1,5 +1,8 @@
 //! Joining by example.
 
+ghost use Rattle.std.specs.Prelude.{◌≡◌};
+ghost use Rattle.p21_join.specs.Entities.{model_of};
+
 use crate::{JoinError, Joiner, Model, ModelEntities};
 use p21_check::{EntityOf, Named};
 use p21_express::read_declarations;
@@ -85,6 +88,17 @@ fn answer_of<'m, 'a: 'm, M: EntityOf<'a>>(among: &'m M, name: u64) -> Known {
     }
 }
 
+/// The entity of the instance at a place of the model that these are of.
+fn entity_at(entities: &ModelEntities<'_, '_>, model: &Model<'_>, place: usize) -> Option<EntityId>
+    requires { model_of entities.now ≡ model.now }
+{
+    if place < model.len() {
+        entities.entity(place)
+    } else {
+        None
+    }
+}
+
 #[test]
 fn knows_the_entities_of_simple_instances(rt: HostRuntime) -> Result<(), Fail> {
     let alloc = rt.alloc();
@@ -111,5 +125,9 @@ fn knows_the_entities_of_simple_instances(rt: HostRuntime) -> Result<(), Fail> {
     assert_eq!(rt; answer_of(&entities, 1000), Known::Other(1000));
     assert_eq!(rt; answer_of(&entities, 4), Known::Simple(item));
     assert_eq!(rt; answer_of(&entities, 5), Known::Missing);
+    let own = [Some(mark), None, None, Some(item)];
+    for (place, expected) in own.into_iter().enumerate() {
+        assert_eq!(rt; entity_at(&entities, &model, place), expected, "at {place}");
+    }
     Ok(())
 }
