@@ -1,8 +1,6 @@
 //! Checks of a file against its schema: of its header, of one instance by itself, and of its references.
 #![tactic(auto)]
 
-#[cfg(test)]
-mod among_tests;
 mod attributes;
 mod bounds;
 mod complex;
@@ -10,13 +8,9 @@ mod conform;
 mod entity_of;
 mod entity_set;
 mod header;
-#[cfg(test)]
-mod header_tests;
 mod judge;
 mod laws;
 mod local;
-#[cfg(test)]
-mod local_tests;
 mod references;
 mod schema_name;
 mod simple;

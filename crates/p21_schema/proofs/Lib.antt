@@ -9,6 +9,5 @@ pub mod UnderLemmas
 pub mod IdLemmas
 pub mod DeclarationLemmas
 pub mod SelectLemmas
-pub mod TestLemmas
 pub mod Examples
 pub mod AdmitLemmas

@@ -17,6 +17,3 @@ pub use ids::{AttrId, EntityId, TypeId};
 pub use p21_express::{Bounds, Width};
 pub use resolved::{Resolved, ResolvedExpr, Target};
 pub use schema::Schema;
-
-#[cfg(test)]
-mod tests;

@@ -1,6 +1,6 @@
 //! Instances by example: each row is the text of an instance, and its fault.
 
-use crate::check_local;
+use p21_check::check_local;
 use p21_express::read_declarations;
 use p21_schema::Schema;
 use p21_tree::{FaultKind, Piece, read_piece};

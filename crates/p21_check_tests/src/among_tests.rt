@@ -5,7 +5,7 @@ ghost use Rattle.p21_tree.specs.Views.{plain_instance};
 ghost use Rattle.p21_schema.specs.Place.{IsEntityOf};
 ghost use Rattle.p21_check.specs.EntityOf.{IsSimpleEntity};
 
-use crate::{EntityOf, Named, check_local_entity, check_references_among, simple_entity};
+use p21_check::{EntityOf, Named, check_local_entity, check_references_among, simple_entity};
 use p21_express::read_declarations;
 use p21_schema::{EntityId, Schema};
 use p21_tree::{FaultKind, Piece, RawInstance, read_piece};

@@ -3,8 +3,8 @@ use Rattle.std.proofs.lemmas.Bool.Decides.{nat_tests}
 use Rattle.p21_schema.specs.declared.resolved.ResolvedExpr.{ResolvedExpr}
 use Rattle.p21_schema.specs.declared.resolved.ResolvedExpr.TheVariants as expr
 use Rattle.p21_schema.specs.declared.declarations.Form.TheVariants as form
-use Rattle.p21_schema.proofs.TestLemmas.{type_of_form}
-use Rattle.p21_schema.proofs.tests.type_of.Goals as goal
+use Rattle.p21_schema_tests.proofs.TestLemmas.{type_of_form}
+use Rattle.p21_schema_tests.proofs.tests.type_of.Goals as goal
 
 pub returns : goal.returns
 returns c =

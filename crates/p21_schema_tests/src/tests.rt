@@ -2,8 +2,8 @@ ghost use Rattle.std.specs.Prelude.{IfOk};
 ghost use Rattle.p21_schema.specs.Place.{IsEntityOf, IsTypeOf};
 ghost use Rattle.p21_schema.specs.Row.{IsAttributeOf};
 
-use super::*;
 use p21_express::{SchemaError, read_declarations};
+use p21_schema::{AttrId, EntityId, Form, Resolved, ResolvedExpr, Schema, Target, TypeId};
 use std::alloc::Global;
 use std::test::*;
 

@@ -1,7 +1,7 @@
 use Rattle.std.proofs.Common.{◌<◌, length, refl, sym, ◌∙◌, arith}
 use Rattle.std.proofs.lemmas.Bool.Decides.{nat_tests}
-use Rattle.p21_schema.proofs.TestLemmas.{type_of_item}
-use Rattle.p21_schema.proofs.tests.first_item.Goals as goal
+use Rattle.p21_schema_tests.proofs.TestLemmas.{type_of_item}
+use Rattle.p21_schema_tests.proofs.tests.first_item.Goals as goal
 
 pub returns : goal.returns
 returns c =

@@ -1,6 +1,6 @@
 //! Headers by example.
 
-use crate::check_header;
+use p21_check::check_header;
 use p21_express::read_declarations;
 use p21_schema::Schema;
 use p21_tree::{FaultKind, read_preface};
