@@ -8,6 +8,6 @@ mod names;
 #[cfg(test)]
 mod tests;
 
-pub use entities::ModelEntities;
+pub use entities::{EntityView, ModelEntities};
 pub use joiner::{JoinError, Joiner};
 pub use model::Model;

@@ -1,11 +1,11 @@
-use Rattle.std.proofs.Common.{arith}
-use Rattle.p21_join.proofs.EntityLemmas.{as_many, entity_at}
+use Rattle.std.proofs.Common.{get_or, subst}
+use Rattle.p21_tree.specs.Views.{plain_instance}
+use Rattle.p21_check.specs.EntityOf.{IsSimpleEntity}
+use Rattle.p21_join.specs.Entities.{viewed_model}
+use Rattle.p21_join.specs.Model.{instances_of}
 use Rattle.p21_join.proofs.entities.ModelEntities.entity.Goals as goal
 
 pub returns : goal.returns
 returns c d =
-    let made = c.args.self.now in
-    entity_at made.schema.now made.model.now.instances.items made.entities.items c.args.i c.index.result.now d made.known c.requires c.index.ensures
-
-pub index-requires : goal.index-requires
-index-requires c = omega (arith, c.requires, as_many c.args.self.now.schema.now c.args.self.now.model.now.instances.items c.args.self.now.entities.items c.args.self.now.known)
+    subst (λ s. IsSimpleEntity s (plain_instance (get_or (instances_of c.args.self.now.model.now) c.args.i d)) c.entity.result) c.view.ensures.schema
+    (subst (λ m. IsSimpleEntity c.view.result.schema.now (plain_instance (get_or (instances_of m) c.args.i d)) c.entity.result) c.view.ensures.model (c.entity.ensures d))
