@@ -1,0 +1,2 @@
+pub mod FirstReferenceFault
+pub mod Places
