@@ -1,0 +1,15 @@
+//! A crew of workers that read pieces in threads of their own, while one dealer deals the pieces to them and gathers what
+//! they return, in the order of the pieces.
+//!
+//! Nothing here knows what a piece is, or what is read of it.
+#![tactic(auto)]
+
+mod flight;
+mod gate;
+mod returned;
+mod work;
+mod worker;
+
+pub use gate::{Gate, OpenGate};
+pub use returned::Returned;
+pub use work::Work;
