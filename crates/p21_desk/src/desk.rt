@@ -82,7 +82,7 @@ impl Desk {
     /// pieces were joined.
     pub fn next_lane(&self) -> Option<u32>
         ensures next { result ≡ slice_get self.now.dealt self.now.joined }
-        ensures open { IsSome result ↔ (self.now.joined < length self.now.dealt) }
+        ensures some { IsSome result ↔ (self.now.joined < length self.now.dealt) }
         ensures lane { IfSome result (λ lane. lane < self.now.lanes) }
         ensures waits { IfSome result (λ lane. 0 < waiting_at self.now lane) }
         ensures none { IfNone result (self.now.joined ≡ length self.now.dealt) }

@@ -56,6 +56,20 @@ impl<'m, 'a> ModelEntities<'m, 'a> {
         }
     }
 
+    /// The schema whose entities they are.
+    pub fn schema(&self) -> &'m Schema
+        ensures { result.now ≡ schema_of self.now }
+    {
+        self.schema
+    }
+
+    /// The model whose instances they are.
+    pub fn model(&self) -> &'m Model<'a>
+        ensures { result.now ≡ model_of self.now }
+    {
+        self.model
+    }
+
     /// The entity of the instance at a place, which is below their number; `None` where it is complex or its keyword names no
     /// entity.
     pub fn entity(&self, i: usize) -> Option<EntityId>
