@@ -1,19 +1,20 @@
 //! A lane with a worker at work.
-ghost use Rattle.std.specs.Prelude.{◌≡◌, [], false, IfOk};
+ghost use Rattle.std.specs.Prelude.{◌≡◌, [], false, true, IfOk, IsTrue};
 ghost use Rattle.p21_lanes.specs.Lane.{IsLane};
 ghost use Rattle.p21_lanes.specs.LaneIn.{accepted, was_ended};
-ghost use Rattle.p21_lanes.specs.LaneOut.{taken, took_end};
+ghost use Rattle.p21_lanes.specs.LaneOut.{taken, took_end, SameOut};
 ghost use Rattle.p21_crew.specs.Worker.{IsDone};
 
 use crate::gate::Gate;
 use crate::returned::Returned;
 use crate::work::Work;
-use crate::worker::{Worked, work_lane};
-use p21_lanes::{Batch, Capacity, LaneIn, LaneOut, lane};
+use crate::worker::{Worked, send_end, work_lane};
+use p21_lanes::{Batch, Capacity, LaneIn, LaneOut, Receipt, Taken, lane, settle};
 use std::alloc::{AllocError, Global};
 use std::snapshot::Snapshot;
 use std::sync::Wait;
-use std::thread::{Promise, PromisedHandle, Scope};
+use std::thread;
+use std::thread::{Promise, PromisedHandle, Scope, Threads};
 
 /// What a worker was given, and what it promises of it.
 #[derive(Drop)]
@@ -83,4 +84,67 @@ pub(crate) fn launch<
         results: results_out,
         worker,
     })
+}
+
+/// A lane whose worker has ended.
+#[derive(Drop)]
+pub(crate) struct Landed<P, O> {
+    /// What the worker received.
+    pub(crate) receipt: Receipt<P>,
+    /// What it sent back.
+    pub(crate) returned: Receipt<Returned<O>>,
+    /// Whether the dealer had taken each result before.
+    pub(crate) is_clean: bool,
+}
+
+impl<P: Copy, O: Drop, W: Work<P, Out = O>> Flight<P, O, W> {
+    ghost use Rattle.std.specs.Prelude.{◌≡◌, IsTrue};
+    ghost use Rattle.std.specs.List.{AllZip};
+    ghost use Rattle.p21_lanes.specs.LaneIn.{accepted};
+    ghost use Rattle.p21_lanes.specs.LaneOut.{taken};
+    ghost use Rattle.p21_lanes.specs.Receipt.{passed};
+    ghost use Rattle.p21_crew.specs.Worker.{IsReturned};
+
+    /// Ends the lane, takes its results to their end, joins its worker and settles both rings.
+    pub(crate) fn land<R: Threads + Wait>(self, rt: &R) -> Landed<P, O>
+        ensures receipt { passed result.receipt ≡ accepted self.pieces }
+        ensures returned { IsTrue result.is_clean → passed result.returned ≡ taken self.results }
+        ensures read { AllZip (IsReturned (W.stated self.worker.promise.work.value)) (passed result.receipt) (passed result.returned) }
+    {
+        let Flight {
+            mut pieces,
+            mut results,
+            worker,
+        } = self;
+        send_end(rt, &mut pieces);
+        let is_clean = drain(rt, &mut results);
+        let worked = worker.join(rt);
+        let Ok(receipt) = settle(pieces, worked.pieces) else {
+            unreachable!()
+        };
+        let Ok(returned) = settle(worked.results, results) else {
+            unreachable!()
+        };
+        Landed {
+            receipt,
+            returned,
+            is_clean,
+        }
+    }
+}
+
+/// Takes the results of a lane to their end. The answer is whether there was none before it.
+fn drain<T: Drop, R: Wait>(rt: &R, results: &mut LaneOut<T>) -> bool
+    ensures lane { SameOut results.old results.new × (took_end results.new ≡ true) }
+    ensures clean { IsTrue result → taken results.new ≡ taken results.old }
+{
+    let mut is_clean = true;
+    for _ in rt.forever() {
+        match results.take() {
+            Taken::Ended => return is_clean,
+            Taken::Item(_) => is_clean = false,
+            Taken::Nothing => thread::yield_now(),
+        }
+    }
+    unreachable!()
 }
