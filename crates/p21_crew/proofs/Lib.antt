@@ -1,1 +1,4 @@
 pub mod ZipLemmas
+pub mod EachLemmas
+pub mod ShareLemmas
+pub mod UnderwayLemmas

@@ -35,6 +35,7 @@ pub(crate) struct Flight<P, O, W: Work<P, Out = O>> {
     pub(crate) pieces: LaneIn<P>,
     pub(crate) results: LaneOut<Returned<O>>,
     pub(crate) worker: PromisedHandle<Worked<P, O>, Given<P, O, W>>,
+    ghost is_open: { was_ended pieces ≡ false },
     ghost pieces_lane: { IsLane pieces worker.promise.pieces.value },
     ghost results_lane: { IsLane worker.promise.results.value results },
 }
@@ -59,7 +60,7 @@ pub(crate) fn launch<
     capacity: Capacity,
     batch: usize,
 ) -> Result<Flight<P, O, W>, AllocError>
-    ensures pieces { IfOk result (λ flight. (accepted flight.pieces ≡ []) × (was_ended flight.pieces ≡ false)) }
+    ensures pieces { IfOk result (λ flight. accepted flight.pieces ≡ []) }
     ensures results { IfOk result (λ flight. (taken flight.results ≡ []) × (took_end flight.results ≡ false)) }
     ensures work { IfOk result (λ flight. flight.worker.promise.work.value ≡ work.now) }
 {

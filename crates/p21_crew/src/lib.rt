@@ -4,12 +4,17 @@
 //! Nothing here knows what a piece is, or what is read of it.
 #![tactic(auto)]
 
+mod cuts;
+mod dealer;
 mod flight;
 mod gate;
+mod gathers;
 mod returned;
 mod work;
 mod worker;
 
+pub use cuts::{Cuts, Next};
 pub use gate::{Gate, OpenGate};
+pub use gathers::Gathers;
 pub use returned::Returned;
 pub use work::Work;

@@ -70,6 +70,13 @@ impl<T: Drop> LaneOut<T> {
         }
     }
 
+    /// How many messages this end sees that were not taken. The other end may have sent more.
+    pub fn ready(&mut self) -> usize
+        ensures { IsUnchangedOut self.old self.new }
+    {
+        self.consumer.slots()
+    }
+
     // Looks at what the other end sent. Only a thread that holds both ends can know that it sees all of it.
     pub(crate) fn look_beside(&mut self, lane_in: &mut LaneIn<T>)
         requires { IsLane lane_in.old self.old }
