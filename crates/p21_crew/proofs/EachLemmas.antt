@@ -1,6 +1,6 @@
 -- Lemmas on lists whose elements each stand in a relation to their numbers.
 use Rattle.std.proofs.Common.{◌≡◌, ◌≢◌, ℕ, zero, suc, ◌+◌, ◌<◌, ◌≤◌, List, [], ◌∷◌, ◌++◌, length, get_or, slice_set, refl, sym, ap, subst, ◌∙◌, arith}
-use Rattle.p21_crew.specs.Underway.{EachAt}
+use Rattle.p21_crew.specs.Each.{EachAt}
 
 module _ {X : Type 0} where
   map_from : (R S : ℕ → X → Type 0) (k : ℕ) (xs : List X) → ((j : ℕ) (x : X) → k ≤ j → R j x → S j x) → EachAt R k xs → EachAt S k xs
@@ -45,3 +45,19 @@ module _ {X : Type 0} where
       let here : i ≡ 0 + i = omega arith in
       let P : ℕ → Type 0 = λ n. S n x in
       set_from R S 0 i xs x less all (subst P here at) (λ j y other r. step j y (λ e. other (e ∙ here)) r)
+
+  split_from : (P : X → Type 0) (k : ℕ) (xs : List X) (x : X) → EachAt (λ j y. P y) k (xs ++ x ∷ []) → EachAt (λ j y. P y) k xs × P x
+  split_from P k [] x all = (tt, all.0)
+  split_from P k (y ∷ xs) x all = let rest = split_from P (suc k) xs x all.1 in ((all.0, rest.0), rest.1)
+
+  -- the elements before the last, and the last
+  pub each_split : (P : X → Type 0) (xs : List X) (x : X) → EachAt (λ j y. P y) 0 (xs ++ x ∷ []) → EachAt (λ j y. P y) 0 xs × P x
+  each_split P xs x all = split_from P 0 xs x all
+
+  snoc_from : (P : X → Type 0) (k : ℕ) (xs : List X) (x : X) → EachAt (λ j y. P y) k xs → P x → EachAt (λ j y. P y) k (xs ++ x ∷ [])
+  snoc_from P k [] x all one = (one, tt)
+  snoc_from P k (y ∷ xs) x all one = (all.0, snoc_from P (suc k) xs x all.1 one)
+
+  -- one more element
+  pub each_snoc : (P : X → Type 0) (xs : List X) (x : X) → EachAt (λ j y. P y) 0 xs → P x → EachAt (λ j y. P y) 0 (xs ++ x ∷ [])
+  each_snoc P xs x all one = snoc_from P 0 xs x all one

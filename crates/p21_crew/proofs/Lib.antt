@@ -2,3 +2,6 @@ pub mod ZipLemmas
 pub mod EachLemmas
 pub mod ShareLemmas
 pub mod UnderwayLemmas
+pub mod LandingLemmas
+pub mod FreshLemmas
+pub mod RunLemmas

@@ -12,7 +12,7 @@ use Rattle.std.proofs.lemmas.List.Elements.{All-append, All-replicate}
 use Rattle.std.proofs.lemmas.Option.{get_or_from_slice_get}
 use Rattle.p21_lanes.specs.Batch.{batch_items}
 use Rattle.p21_desk.specs.Dealt.{Dealt}
-use Rattle.p21_crew.specs.Underway.{Goes, Underway, LaneStands, EachAt, IsCut, HasRoom}
+use Rattle.p21_crew.specs.Underway.{Goes, Underway, LaneStands, IsCut, HasRoom}
 use Rattle.p21_crew.proofs.EachLemmas.{each_at, each_map, each_set}
 use Rattle.p21_crew.proofs.ShareLemmas.{same_lane, share-append, share-all, share-none, share-longer, share-next, share-skip}
 

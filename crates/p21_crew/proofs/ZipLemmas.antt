@@ -1,5 +1,5 @@
 -- Lemmas on two lists whose elements belong together, place by place.
-use Rattle.std.proofs.Common.{◌≡◌, ℕ, ◌+◌, ◌<◌, List, [], ◌∷◌, ◌++◌, length, take, get_or, refl, sym, ap, subst, ◌∙◌, append_assoc}
+use Rattle.std.proofs.Common.{◌≡◌, ℕ, suc, ◌+◌, ◌<◌, List, [], ◌∷◌, ◌++◌, length, take, get_or, refl, sym, ap, subst, ◌∙◌, append_assoc}
 use Rattle.std.proofs.lemmas.List.{take_more}
 use Rattle.std.specs.List.{AllZip}
 
@@ -18,3 +18,10 @@ module _ {A B : Type 0} where
       let parts : before ++ take (i + 1) items ≡ (before ++ take i items) ++ x ∷ [] =
       ap (λ ms. before ++ ms) (take_more items i x less ∙ ap (λ z. take i items ++ z ∷ []) (sym is)) ∙ sym (append_assoc before (take i items) (x ∷ [])) in
       rw (parts, more) (AllZip-snoc R (before ++ take i items) ys x y zip one)
+
+  -- both are as long
+  pub length-zip : (R : A → B → Type 0) (xs : List A) (ys : List B) → AllZip R xs ys → length ys ≡ length xs
+  length-zip R [] [] zip = refl
+  length-zip R [] (y ∷ ys) zip = absurd zip
+  length-zip R (x ∷ xs) [] zip = absurd zip
+  length-zip R (x ∷ xs) (y ∷ ys) zip = ap (λ n. suc n) (length-zip R xs ys zip.1)

@@ -5,14 +5,10 @@ use Rattle.p21_lanes.specs.LaneIn.{accepted}
 use Rattle.p21_lanes.specs.LaneOut.{taken, took_end}
 use Rattle.p21_desk.specs.Dealt.{waiting_at}
 use Rattle.p21_desk.specs.Dealing.{share}
+use Rattle.p21_crew.specs.Each.{EachAt}
 use Rattle.p21_crew.specs.declared.returned.Returned.TheVariants.{Value}
 use Rattle.p21_crew.specs.declared.flight.Flight.{Flight}
 use Rattle.p21_crew.specs.declared.dealer.Dealer.{Dealer}
-
--- the elements of a list, from a number on, each stand in a relation to their numbers
-abbrev pub EachAt : {X : Type 0} → (ℕ → X → Type 0) → ℕ → List X → Type 0
-EachAt R k [] = Unit {0}
-EachAt R k (x ∷ xs) = R k x × EachAt R (suc k) xs
 
 module _ {C P : Type 0} where
   -- where the tail was not found, what the cutter gives from now on stands behind the pieces that were cut; else these are all

@@ -9,7 +9,9 @@ mod dealer;
 mod flight;
 mod gate;
 mod gathers;
+mod landing;
 mod returned;
+mod run;
 mod work;
 mod worker;
 
@@ -17,4 +19,5 @@ pub use cuts::{Cuts, Next};
 pub use gate::{Gate, OpenGate};
 pub use gathers::Gathers;
 pub use returned::Returned;
+pub use run::{Run, run_crew};
 pub use work::Work;
