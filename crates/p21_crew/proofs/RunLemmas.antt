@@ -80,11 +80,12 @@ module _ {X Y : Type 0} where
 
 module _ {P O W K C A : Type 0} where
   -- nothing is dealt and nothing gathered yet
-  pub underway_first : (cuts : C → List P → ℕ → Type 0) (holds : A → List O → Type 0) (work : W) (d : Dealer P O W C A K)
-      → EachAt (λ lane f. IsFresh work f) 0 d.flights.items → d.desk.dealt ≡ [] → d.desk.joined ≡ 0 → batch_items d.batch ≡ [] → d.tail ≡ None → holds d.gatherer []
-      → Underway cuts holds d.cutter work d [] []
-  underway_first cuts holds work d fresh dealt joined empty open_ held =
+  pub underway_first : (cuts : C → List P → ℕ → Type 0) (holds : A → List O → Type 0) (work : W) (size : ℕ) (d : Dealer P O W C A K)
+      → EachAt (λ lane f. IsFresh work f) 0 d.flights.items → d.desk.lanes ≡ size → d.desk.dealt ≡ [] → d.desk.joined ≡ 0 → batch_items d.batch ≡ [] → d.tail ≡ None → holds d.gatherer []
+      → Underway cuts holds d.cutter work size d [] []
+  underway_first cuts holds work size d fresh as_many dealt joined empty open_ held =
       record {
+        as_many = as_many;
         one_each = rw dealt refl;
         of_lanes = rw dealt (All-nil (λ l. l < d.desk.lanes));
         gathered = joined;
@@ -96,11 +97,12 @@ module _ {P O W K C A : Type 0} where
       }
 
   -- all lanes are landed behind a whole run
-  pub run_whole : (cuts : C → List P → ℕ → Type 0) (holds : A → List O → Type 0) (stated : W → P → O → Type 0) (first : C) (work : W) (d : Dealer P O W C A K) (done : List P) (outs : List O) (tail : ℕ) (rs : List (Receipt P)) (ss : List (Receipt (Returned O)))
-      → Underway cuts holds first work d done outs → IsWhole d tail → AreLanded stated d.flights.items rs ss → length d.flights.items ≡ d.desk.lanes
-      → cuts first done tail × IsRun (stated work) d.desk.lanes done outs d.desk.dealt rs ss
-  run_whole cuts holds stated first work d done outs tail rs ss stands whole landed lanes =
+  pub run_whole : (cuts : C → List P → ℕ → Type 0) (holds : A → List O → Type 0) (stated : W → P → O → Type 0) (first : C) (work : W) (size : ℕ) (d : Dealer P O W C A K) (done : List P) (outs : List O) (tail : ℕ) (rs : List (Receipt P)) (ss : List (Receipt (Returned O)))
+      → Underway cuts holds first work size d done outs → IsWhole d tail → AreLanded stated d.flights.items rs ss → length d.flights.items ≡ d.desk.lanes
+      → cuts first done tail × IsRun (stated work) size done outs d.desk.dealt rs ss
+  run_whole cuts holds stated first work size d done outs tail rs ss stands whole landed lanes =
       let one = stands.one_each in
+      let of_lanes : All (λ l. l < size) d.desk.dealt = rw (← stands.as_many) stands.of_lanes in
       let count : length d.desk.dealt ≡ length outs = sym whole.1 ∙ stands.gathered in
       let receipts = length-zip (λ f r. passed r ≡ accepted f.pieces) d.flights.items rs landed.sent in
       let returned = length-zip (λ f r. passed r ≡ taken f.results) d.flights.items ss landed.back in
@@ -112,15 +114,15 @@ module _ {P O W K C A : Type 0} where
       let all : done ++ batch_items d.batch ≡ done = ap (λ zs. done ++ zs) whole.0 ∙ append-nil done in (
         rw (← all) cut,
         record {
-          dealing = record { one_each = one; of_lanes = stands.of_lanes };
-          receipts_each = receipts ∙ lanes;
-          returned_each = returned ∙ lanes;
+          dealing = record { one_each = one; of_lanes = of_lanes };
+          receipts_each = receipts ∙ (lanes ∙ stands.as_many);
+          returned_each = returned ∙ (lanes ∙ stands.as_many);
           shares = shares;
           results = results;
-          values = shares_zip (stated work) d.desk.lanes d.desk.dealt done outs one count stands.of_lanes
+          values = shares_zip (stated work) size d.desk.dealt done outs one count of_lanes
               (λ lane less.
               let here : 0 + lane ≡ lane = omega arith in
-              let within : lane < length rs = omega (arith, receipts, lanes) in
+              let within : lane < length rs = omega (arith, receipts, lanes, stands.as_many) in
               values_back (stated work) (share d.desk.dealt lane done) (share d.desk.dealt lane outs)
               (rw (← here) (read_at (IsReturned (stated work)) (λ l. share d.desk.dealt l done) (λ l. map (λ o. Value o) (share d.desk.dealt l outs)) 0 rs ss shares results read lane within)));
         },

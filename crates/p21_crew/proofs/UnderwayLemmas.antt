@@ -81,21 +81,22 @@ module _ {P O W K : Type 0} where
 module _ {P O W K C A : Type 0} where
   -- one step and another
   pub goes_then : (cuts : C → List P → ℕ → Type 0) (holds : A → List O → Type 0) (a b c : Dealer P O W C A K) → Goes cuts holds a b → Goes cuts holds b c → Goes cuts holds a c
-  goes_then cuts holds a b c first_step next_step first work done outs stands =
-      let between = first_step first work done outs stands in
-      next_step first work between.0 between.1 between.2
+  goes_then cuts holds a b c first_step next_step first work size done outs stands =
+      let between = first_step first work size done outs stands in
+      next_step first work size between.0 between.1 between.2
 
   -- a lane is another one of which the same is seen
-  pub underway_same : (cuts : C → List P → ℕ → Type 0) (holds : A → List O → Type 0) (first : C) (work : W) (d e : Dealer P O W C A K) (done : List P) (outs : List O) (lane : ℕ) (f g : Flight P O W K)
-      → Underway cuts holds first work d done outs → lane < length d.flights.items → f ≡ get_or d.flights.items lane f
+  pub underway_same : (cuts : C → List P → ℕ → Type 0) (holds : A → List O → Type 0) (first : C) (work : W) (size : ℕ) (d e : Dealer P O W C A K) (done : List P) (outs : List O) (lane : ℕ) (f g : Flight P O W K)
+      → Underway cuts holds first work size d done outs → lane < length d.flights.items → f ≡ get_or d.flights.items lane f
       → g.pieces ≡ f.pieces → taken g.results ≡ taken f.results → took_end g.results ≡ took_end f.results → g.worker.promise.work.value ≡ f.worker.promise.work.value
       → e.desk ≡ d.desk → e.flights.items ≡ slice_set d.flights.items lane g → e.cutter ≡ d.cutter → e.batch ≡ d.batch → e.tail ≡ d.tail → e.gatherer ≡ d.gatherer
-      → Underway cuts holds first work e done outs
-  underway_same cuts holds first work d e done outs lane f g stands less at pieces back begun works desk flights cutter batch tail gatherer =
+      → Underway cuts holds first work size e done outs
+  underway_same cuts holds first work size d e done outs lane f g stands less at pieces back begun works desk flights cutter batch tail gatherer =
       let here = each_at (LaneStands work d.desk.dealt done outs) lane d.flights.items f less at stands.lanes in
       let there = stands-same work d.desk.dealt done outs lane f g here pieces back (begun ∙ here.begun) works in
       let lanes = each_set (LaneStands work d.desk.dealt done outs) (LaneStands work d.desk.dealt done outs) lane d.flights.items g less stands.lanes there (λ j y other r. r) in
       record {
+        as_many = rw desk stands.as_many;
         one_each = rw desk stands.one_each;
         of_lanes = rw desk stands.of_lanes;
         gathered = rw desk stands.gathered;
@@ -106,12 +107,12 @@ module _ {P O W K C A : Type 0} where
       }
 
   -- the next result is gathered
-  pub underway_gathered : (cuts : C → List P → ℕ → Type 0) (holds : A → List O → Type 0) (first : C) (work : W) (d e : Dealer P O W C A K) (done : List P) (outs : List O) (out : O) (lane : ℕ) (f g : Flight P O W K)
-      → Underway cuts holds first work d done outs → d.desk.joined < length d.desk.dealt → Some lane ≡ slice_get d.desk.dealt d.desk.joined → lane < length d.flights.items → f ≡ get_or d.flights.items lane f
+  pub underway_gathered : (cuts : C → List P → ℕ → Type 0) (holds : A → List O → Type 0) (first : C) (work : W) (size : ℕ) (d e : Dealer P O W C A K) (done : List P) (outs : List O) (out : O) (lane : ℕ) (f g : Flight P O W K)
+      → Underway cuts holds first work size d done outs → d.desk.joined < length d.desk.dealt → Some lane ≡ slice_get d.desk.dealt d.desk.joined → lane < length d.flights.items → f ≡ get_or d.flights.items lane f
       → g.pieces ≡ f.pieces → taken g.results ≡ taken f.results ++ Value out ∷ [] → took_end g.results ≡ false → g.worker.promise.work.value ≡ f.worker.promise.work.value
       → e.desk ≡ record d.desk { joined = d.desk.joined + 1 } → e.flights.items ≡ slice_set d.flights.items lane g → e.cutter ≡ d.cutter → e.batch ≡ d.batch → e.tail ≡ d.tail → holds e.gatherer (outs ++ out ∷ [])
-      → Underway cuts holds first work e done (outs ++ out ∷ [])
-  underway_gathered cuts holds first work d e done outs out lane f g stands left next less at pieces back begun works desk flights cutter batch tail held =
+      → Underway cuts holds first work size e done (outs ++ out ∷ [])
+  underway_gathered cuts holds first work size d e done outs out lane f g stands left next less at pieces back begun works desk flights cutter batch tail held =
       let count = stands.gathered in
       let within : length outs < length d.desk.dealt = omega arith in
       let is_next : lane ≡ get_or d.desk.dealt (length outs) lane = rw (← count) (sym (get_or_from_slice_get d.desk.dealt d.desk.joined lane lane (sym next))) in
@@ -120,6 +121,7 @@ module _ {P O W K C A : Type 0} where
       let lanes = each_set (LaneStands work d.desk.dealt done outs) (LaneStands work d.desk.dealt done (outs ++ out ∷ [])) lane d.flights.items g less stands.lanes there
       (λ j y other r. stands-gathered_other work d.desk.dealt done outs out lane j y within is_next other r) in
       record {
+        as_many = rw desk stands.as_many;
         one_each = rw desk stands.one_each;
         of_lanes = rw desk stands.of_lanes;
         gathered = rw desk (omega (arith, length-append outs (out ∷ [])));
@@ -130,12 +132,12 @@ module _ {P O W K C A : Type 0} where
       }
 
   -- the batch is dealt
-  pub underway_dealt : (cuts : C → List P → ℕ → Type 0) (holds : A → List O → Type 0) (first : C) (work : W) (d e : Dealer P O W C A K) (done : List P) (outs : List O) (lane : ℕ) (f g : Flight P O W K)
-      → Underway cuts holds first work d done outs → lane < d.desk.lanes → lane < length d.flights.items → f ≡ get_or d.flights.items lane f
+  pub underway_dealt : (cuts : C → List P → ℕ → Type 0) (holds : A → List O → Type 0) (first : C) (work : W) (size : ℕ) (d e : Dealer P O W C A K) (done : List P) (outs : List O) (lane : ℕ) (f g : Flight P O W K)
+      → Underway cuts holds first work size d done outs → lane < d.desk.lanes → lane < length d.flights.items → f ≡ get_or d.flights.items lane f
       → accepted g.pieces ≡ accepted f.pieces ++ batch_items d.batch → g.results ≡ f.results → g.worker.promise.work.value ≡ f.worker.promise.work.value
       → e.desk ≡ record d.desk { dealt = d.desk.dealt ++ replicate (length (batch_items d.batch)) lane } → e.flights.items ≡ slice_set d.flights.items lane g → e.cutter ≡ d.cutter → batch_items e.batch ≡ [] → e.tail ≡ d.tail → e.gatherer ≡ d.gatherer
-      → Underway cuts holds first work e (done ++ batch_items d.batch) outs
-  underway_dealt cuts holds first work d e done outs lane f g stands of_lanes less at sent results works desk flights cutter batch tail gatherer =
+      → Underway cuts holds first work size e (done ++ batch_items d.batch) outs
+  underway_dealt cuts holds first work size d e done outs lane f g stands of_lanes less at sent results works desk flights cutter batch tail gatherer =
       let items = batch_items d.batch in
       let count = stands.gathered in
       let within : length outs ≤ length d.desk.dealt = omega (arith, stands.within, stands.one_each) in
@@ -144,6 +146,7 @@ module _ {P O W K C A : Type 0} where
       let lanes = each_set (LaneStands work d.desk.dealt done outs) (LaneStands work (d.desk.dealt ++ replicate (length items) lane) (done ++ items) outs) lane d.flights.items g less stands.lanes there
       (λ j y other r. stands-dealt_other work d.desk.dealt done items outs lane j y stands.one_each within other r) in
       record {
+        as_many = rw desk stands.as_many;
         one_each = rw desk (omega (arith, stands.one_each, length-append d.desk.dealt (replicate (length items) lane), length-append done items, length-replicate (length items) lane));
         of_lanes = rw desk (All-append (λ l. l < d.desk.lanes) d.desk.dealt (replicate (length items) lane) stands.of_lanes (All-replicate (λ l. l < d.desk.lanes) (length items) lane of_lanes));
         gathered = rw desk stands.gathered;
@@ -154,17 +157,18 @@ module _ {P O W K C A : Type 0} where
       }
 
   -- one more piece is cut
-  pub underway_cut : (cuts : C → List P → ℕ → Type 0) (holds : A → List O → Type 0) (first : C) (work : W) (d e : Dealer P O W C A K) (done : List P) (outs : List O) (piece : P)
-      → Underway cuts holds first work d done outs → d.tail ≡ None → ((pieces : List P) (tail : ℕ) → cuts e.cutter pieces tail → cuts d.cutter (piece ∷ pieces) tail) → batch_items e.batch ≡ batch_items d.batch ++ piece ∷ []
+  pub underway_cut : (cuts : C → List P → ℕ → Type 0) (holds : A → List O → Type 0) (first : C) (work : W) (size : ℕ) (d e : Dealer P O W C A K) (done : List P) (outs : List O) (piece : P)
+      → Underway cuts holds first work size d done outs → d.tail ≡ None → ((pieces : List P) (tail : ℕ) → cuts e.cutter pieces tail → cuts d.cutter (piece ∷ pieces) tail) → batch_items e.batch ≡ batch_items d.batch ++ piece ∷ []
       → e.desk ≡ d.desk → e.flights.items ≡ d.flights.items → e.tail ≡ d.tail → e.gatherer ≡ d.gatherer
-      → Underway cuts holds first work e done outs
-  underway_cut cuts holds first work d e done outs piece stands open_ next more desk flights tail gatherer =
+      → Underway cuts holds first work size e done outs
+  underway_cut cuts holds first work size d e done outs piece stands open_ next more desk flights tail gatherer =
       let was : IsCut cuts first d.cutter (done ++ batch_items d.batch) None = subst (λ (t : Option ℕ). IsCut cuts first d.cutter (done ++ batch_items d.batch) t) open_ stands.cut in
       let is : IsCut cuts first e.cutter (done ++ batch_items e.batch) None = λ rest end cut.
       let parts : (done ++ batch_items e.batch) ++ rest ≡ (done ++ batch_items d.batch) ++ (piece ∷ rest) =
       ap (λ zs. (done ++ zs) ++ rest) more ∙ (ap (λ zs. zs ++ rest) (sym (append_assoc done (batch_items d.batch) (piece ∷ []))) ∙ append_assoc (done ++ batch_items d.batch) (piece ∷ []) rest) in
       rw parts (was (piece ∷ rest) end (next rest end cut)) in
       record {
+        as_many = rw desk stands.as_many;
         one_each = rw desk stands.one_each;
         of_lanes = rw desk stands.of_lanes;
         gathered = rw desk stands.gathered;
@@ -175,14 +179,15 @@ module _ {P O W K C A : Type 0} where
       }
 
   -- the tail is found
-  pub underway_tail : (cuts : C → List P → ℕ → Type 0) (holds : A → List O → Type 0) (first : C) (work : W) (d e : Dealer P O W C A K) (done : List P) (outs : List O) (at : ℕ)
-      → Underway cuts holds first work d done outs → d.tail ≡ None → cuts d.cutter [] at
+  pub underway_tail : (cuts : C → List P → ℕ → Type 0) (holds : A → List O → Type 0) (first : C) (work : W) (size : ℕ) (d e : Dealer P O W C A K) (done : List P) (outs : List O) (at : ℕ)
+      → Underway cuts holds first work size d done outs → d.tail ≡ None → cuts d.cutter [] at
       → e.desk ≡ d.desk → e.flights.items ≡ d.flights.items → e.batch ≡ d.batch → e.tail ≡ Some at → e.gatherer ≡ d.gatherer
-      → Underway cuts holds first work e done outs
-  underway_tail cuts holds first work d e done outs at stands open_ ends desk flights batch tail gatherer =
+      → Underway cuts holds first work size e done outs
+  underway_tail cuts holds first work size d e done outs at stands open_ ends desk flights batch tail gatherer =
       let was : IsCut cuts first d.cutter (done ++ batch_items d.batch) None = subst (λ (t : Option ℕ). IsCut cuts first d.cutter (done ++ batch_items d.batch) t) open_ stands.cut in
       let all : cuts first (done ++ batch_items d.batch) at = rw (← append-nil (done ++ batch_items d.batch)) (was [] at ends) in
       record {
+        as_many = rw desk stands.as_many;
         one_each = rw desk stands.one_each;
         of_lanes = rw desk stands.of_lanes;
         gathered = rw desk stands.gathered;

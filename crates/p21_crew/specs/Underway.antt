@@ -25,8 +25,9 @@ module _ {P O W K : Type 0} where
     pub works : f.worker.promise.work.value ≡ work
 
 module _ {P O W K C A : Type 0} where
-  -- The pieces `done` are dealt, and `outs` is gathered.
-  pub record Underway (cuts : C → List P → ℕ → Type 0) (holds : A → List O → Type 0) (first : C) (work : W) (d : Dealer P O W C A K) (done : List P) (outs : List O) : Type 0 where
+  -- The pieces `done` are dealt to so many lanes, and `outs` is gathered.
+  pub record Underway (cuts : C → List P → ℕ → Type 0) (holds : A → List O → Type 0) (first : C) (work : W) (size : ℕ) (d : Dealer P O W C A K) (done : List P) (outs : List O) : Type 0 where
+    pub as_many : d.desk.lanes ≡ size
     pub one_each : length d.desk.dealt ≡ length done
     pub of_lanes : All (λ lane. lane < d.desk.lanes) d.desk.dealt
     pub gathered : d.desk.joined ≡ length outs
@@ -38,8 +39,8 @@ module _ {P O W K C A : Type 0} where
   -- whatever was dealt and gathered before, more is now
   abbrev pub Goes : (C → List P → ℕ → Type 0) → (A → List O → Type 0) → Dealer P O W C A K → Dealer P O W C A K → Type 0
   Goes cuts holds old new =
-      (first : C) (work : W) (done : List P) (outs : List O) → Underway cuts holds first work old done outs
-      → (after : List P) × (gathered : List O) × Underway cuts holds first work new after gathered
+      (first : C) (work : W) (size : ℕ) (done : List P) (outs : List O) → Underway cuts holds first work size old done outs
+      → (after : List P) × (gathered : List O) × Underway cuts holds first work size new after gathered
 
   -- all pieces are dealt, all results gathered, and the tail was found there
   abbrev pub IsWhole : Dealer P O W C A K → ℕ → Type 0
