@@ -55,6 +55,13 @@ impl Desk {
         self.lanes
     }
 
+    /// How many pieces may wait on one lane.
+    pub fn capacity(&self) -> Capacity
+        ensures { result ≡ self.now.capacity }
+    {
+        self.capacity
+    }
+
     /// Whether a piece may be dealt to a lane: exactly where fewer pieces wait on it than the capacity.
     pub fn may_deal(&self, lane: u32) -> bool
         requires { lane < self.now.lanes }
@@ -70,6 +77,7 @@ impl Desk {
         requires window { waiting_at self.old lane < self.old.capacity }
         ensures number { IfOk result (λ number. number ≡ length self.old.dealt) }
         ensures dealt { OnOk result (self.new ≡ record self.old { dealt = self.old.dealt ++ lane ∷ [] }) }
+        ensures waits { OnOk result (waiting_at self.new lane ≡ waiting_at self.old lane + 1) }
         ensures refused { OnErr result (self.new ≡ self.old) }
     {
         let number = self.dealt.len() as u64;

@@ -6,7 +6,7 @@ use Rattle.p21_lanes.specs.declared.history.Message.TheVariants.{Item, End}
 use Rattle.p21_lanes.specs.declared.lane_out.LaneOut.{LaneOut}
 use Rattle.p21_lanes.specs.declared.lane_out.Taken.{Taken}
 use Rattle.p21_lanes.specs.declared.lane_out.Taken.TheVariants.{Item as TakenItem, Ended, Nothing}
-use Rattle.p21_lanes.specs.History.{items_of, has_end}
+use Rattle.p21_lanes.specs.History.{items_of, has_end, messages}
 
 module _ {T : Type 0} where
   -- the messages that were received, oldest first
@@ -38,3 +38,8 @@ module _ {T : Type 0} where
       (received new ≡ (if took_end old then received old else (received old ++ End ∷ [])))
       × (taken new ≡ taken old) × (took_end new ≡ true)
   Took Nothing old new = (received new ≡ received old) × (took_end old ≡ false)
+
+  -- the items go to the back of what was received, and then the end, where it was taken now; once the end was taken nothing comes
+  abbrev pub TookBatch : List T → LaneOut T → LaneOut T → Type 0
+  TookBatch items old new =
+      received new ≡ (if took_end old then received old else (received old ++ messages items (took_end new)))

@@ -10,6 +10,7 @@ ghost use Rattle.p21_lanes.specs.LaneIn.{sent, lane_capacity};
 ghost use Rattle.p21_lanes.specs.LaneOut.{received};
 ghost use Rattle.p21_lanes.specs.Lane.{IsLane};
 
+mod batch;
 mod capacity;
 mod history;
 mod lane_in;
@@ -17,7 +18,9 @@ mod lane_out;
 mod receipt;
 mod settling;
 
+pub use batch::Batch;
 pub use capacity::Capacity;
+use history::EndComesLast;
 pub use history::nothing_follows_the_end;
 pub use lane_in::{Full, LaneIn};
 pub use lane_out::{LaneOut, Taken};
@@ -37,7 +40,10 @@ pub fn lane<T: Drop>(
     ensures empty { IfOk result (λ ends. (sent ends.0 ≡ []) × (received ends.1 ≡ [])) }
     ensures room { IfOk result (λ ends. lane_capacity ends.0 ≡ capacity) }
 {
-    let (producer, consumer) = RingBuffer::new(alloc, capacity.get() as usize)?;
+    let (producer, consumer) = RingBuffer::with_protocol::<Global, EndComesLast>(
+        alloc,
+        capacity.get() as usize,
+    )?;
     Ok((LaneIn::over(producer), LaneOut::over(consumer)))
 }
 

@@ -1,0 +1,208 @@
+//! The one who deals the pieces and gathers what is returned.
+ghost use Rattle.std.specs.Prelude.{◌≡◌, ◌+◌, ◌<◌, ◌≤◌, ◌++◌, false, replicate, vec_len, OnOk};
+ghost use Rattle.p21_lanes.specs.Batch.{batch_items};
+ghost use Rattle.p21_lanes.specs.LaneIn.{accepted, was_ended, SameIn};
+ghost use Rattle.p21_desk.specs.Dealt.{waiting_at};
+
+use crate::cuts::{Cuts, Next};
+use crate::flight::Flight;
+use crate::gathers::Gathers;
+use crate::returned::Returned;
+use crate::work::Work;
+use p21_desk::Desk;
+use p21_lanes::{Batch, LaneIn, Taken};
+use std::alloc::AllocError;
+use std::sync::Wait;
+use std::thread;
+
+/// How many results are gathered at most before pieces are dealt again.
+const AT_ONCE: u32 = 256;
+
+/// Deals the pieces of a text to the lanes, and gathers what the workers return, in the order of the pieces.
+pub(crate) struct Dealer<P, O, W: Work<P, Out = O>, C, A> {
+    pub(crate) flights: Vec<Flight<P, O, W>>,
+    pub(crate) desk: Desk,
+    pub(crate) cutter: C,
+    /// Pieces that were cut and not yet dealt.
+    pub(crate) batch: Batch<P>,
+    /// Where the tail begins, once it was found.
+    pub(crate) tail: Option<u64>,
+    pub(crate) gatherer: A,
+    ghost lanes: { vec_len flights ≡ desk.lanes },
+}
+
+impl<P: Copy, O: Drop, W: Work<P, Out = O>, C: Cuts<Piece = P>, A: Gathers<O>> Dealer<
+    P,
+    O,
+    W,
+    C,
+    A,
+> {
+    ghost use Rattle.std.specs.Prelude.{◌≡◌, ◌<◌, [], OnOk, IfOk, IsTrue, IfSome};
+    ghost use Rattle.p21_lanes.specs.Batch.{batch_items};
+    ghost use Rattle.p21_crew.specs.Underway.{Goes, HasRoom, IsWhole};
+
+    /// Deals all pieces and gathers what is returned for them; the answer is where the tail begins. An error is want of memory,
+    /// here or of a worker.
+    pub(crate) fn run<R: Wait>(&mut self, rt: &R) -> Result<u64, AllocError>
+        ensures goes { OnOk result (Goes C.cuts A.holds self.old self.new) }
+        ensures whole { IfOk result (λ tail. IsWhole self.new tail) }
+    {
+        for _ in rt.forever() {
+            let gathered = self.gather()?;
+            self.cut();
+            if let Some(tail) = self.whole() {
+                return Ok(tail);
+            }
+            let dealt = self.deal(rt)?;
+            yield_unless(gathered || dealt);
+        }
+        unreachable!()
+    }
+
+    /// Where the tail begins, if all pieces are dealt and all results gathered.
+    fn whole(&self) -> Option<u64>
+        ensures { IfSome result (IsWhole self.now) }
+    {
+        if self.batch.is_empty() && self.desk.next_lane().is_none() {
+            self.tail
+        } else {
+            None
+        }
+    }
+
+    /// Cuts pieces until the batch is full or the tail is found.
+    fn cut(&mut self)
+        ensures { Goes C.cuts A.holds self.old self.new }
+    {
+        if self.tail.is_some() {
+            return;
+        }
+        while self.batch.len() < self.batch.room() {
+            match self.cutter.next() {
+                Next::Piece(piece) => self.batch.push(piece),
+                Next::Tail(at) => {
+                    self.tail = Some(at);
+                    return;
+                }
+            }
+        }
+    }
+
+    /// Gathers results that are there, as many as `AT_ONCE` at most. The answer is whether there was one.
+    fn gather(&mut self) -> Result<bool, AllocError>
+        ensures { OnOk result (Goes C.cuts A.holds self.old self.new) }
+    {
+        let mut some = false;
+        for _ in 0..AT_ONCE {
+            if !self.gather_next()? {
+                break;
+            }
+            some = true;
+        }
+        Ok(some)
+    }
+
+    /// Gathers the result of the first piece that is still out, where it is there. The answer is whether it is.
+    fn gather_next(&mut self) -> Result<bool, AllocError>
+        ensures { OnOk result (Goes C.cuts A.holds self.old self.new) }
+    {
+        let Some(lane) = self.desk.next_lane() else {
+            return Ok(false);
+        };
+        match self.flights[lane as usize].results.take() {
+            Taken::Item(Returned::Value(out)) => {
+                self.gatherer.gather(out)?;
+                self.desk.joined();
+                Ok(true)
+            }
+            Taken::Nothing => Ok(false),
+            Taken::Item(Returned::NoMemory) | Taken::Ended => Err(AllocError),
+        }
+    }
+
+    /// Deals the batch to the lane that has the least to read, where a lane has room for it. The answer is whether one has.
+    fn deal<R: Wait>(&mut self, rt: &R) -> Result<bool, AllocError>
+        ensures { OnOk result (Goes C.cuts A.holds self.old self.new) }
+    {
+        let Some(lane) = self.free_lane() else {
+            return Ok(false);
+        };
+        deal_pieces(&mut self.desk, lane, self.batch.len())?;
+        offer(rt, &mut self.flights[lane as usize].pieces, &self.batch);
+        self.batch.clear();
+        Ok(true)
+    }
+
+    /// Of the lanes that have room for the batch, and not much to read, one that has the least.
+    fn free_lane(&mut self) -> Option<u32>
+        ensures goes { Goes C.cuts A.holds self.old self.new }
+        ensures lane { IfSome result (HasRoom self.new) }
+    {
+        let mut least = 2 * self.batch.room() as u64;
+        let mut free = None;
+        for lane in 0..self.desk.lanes().get() {
+            let unread = self.unread(lane);
+            if unread < least && self.has_room(lane) {
+                least = unread;
+                free = Some(lane);
+            }
+        }
+        free
+    }
+
+    /// Whether the batch may be dealt to a lane.
+    fn has_room(&self, lane: u32) -> bool
+        requires { lane < self.now.desk.lanes }
+        ensures { IsTrue result → HasRoom self.now lane }
+    {
+        let room = u64::from(self.desk.capacity().get()) - self.desk.waiting(lane);
+        self.batch.len() as u64 <= room
+    }
+
+    /// How many pieces were dealt to a lane for which no result is seen.
+    fn unread(&mut self, lane: u32) -> u64
+        requires { lane < self.old.desk.lanes }
+        ensures goes { Goes C.cuts A.holds self.old self.new }
+        ensures desk { self.new.desk ≡ self.old.desk }
+        ensures batch { self.new.batch ≡ self.old.batch }
+    {
+        let ready = self.flights[lane as usize].results.ready() as u64;
+        self.desk.waiting(lane).saturating_sub(ready)
+    }
+}
+
+/// Deals so many pieces to one lane. An error is want of memory.
+fn deal_pieces(desk: &mut Desk, lane: u32, count: usize) -> Result<(), AllocError>
+    requires lane { lane < desk.old.lanes }
+    requires window { waiting_at desk.old lane + count ≤ desk.old.capacity }
+    ensures lanes { desk.new.lanes ≡ desk.old.lanes }
+    ensures dealt { OnOk result (desk.new ≡ record desk.old { dealt = desk.old.dealt ++ replicate count lane }) }
+{
+    for _ in 0..count {
+        desk.deal(lane)?;
+    }
+    Ok(())
+}
+
+/// Sends a batch, as soon as there is a place for it.
+fn offer<P: Copy, R: Wait>(rt: &R, pieces: &mut LaneIn<P>, batch: &Batch<P>)
+    requires { was_ended pieces.old ≡ false }
+    ensures lane { SameIn pieces.old pieces.new × (was_ended pieces.new ≡ false) }
+    ensures accepted { accepted pieces.new ≡ accepted pieces.old ++ batch_items batch.now }
+{
+    for _ in rt.forever() {
+        if pieces.offer_batch(batch).is_ok() {
+            return;
+        }
+        thread::yield_now();
+    }
+    unreachable!()
+}
+
+/// Lets another thread run, where nothing was done.
+fn yield_unless(busy: bool) {
+    if !busy {
+        thread::yield_now();
+    }
+}

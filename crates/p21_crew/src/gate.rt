@@ -1,0 +1,15 @@
+//! What a worker passes before each piece.
+
+/// What a worker passes before it reads a piece. The workers share it by reference.
+pub trait Gate {
+    /// Called by the worker of a lane before it reads the piece of a number.
+    fn enter(&self, lane: u32, number: u64);
+}
+
+/// The gate that lets each worker pass at once.
+#[derive(Debug, Clone, Copy)]
+pub struct OpenGate;
+
+impl Gate for OpenGate {
+    fn enter(&self, _lane: u32, _number: u64) {}
+}
