@@ -13,8 +13,8 @@ use Rattle.p21_cut.specs.Pieces.{PiecesAre}
 use Rattle.p21_join.specs.Model.{plain_instances}
 use Rattle.p21_reader.specs.declared.stop.Stop.{Stop}
 use Rattle.p21_reader.specs.declared.stop.Stop.TheVariants as stop
-use Rattle.p21_reader.specs.GrammarOutcome.{BeginsWith}
-use Rattle.p21_reader.specs.InstanceFault.{IsInstanceFault, AreFaultless}
+use Rattle.p21_reader.specs.GrammarOutcome.{FileBeginsWith}
+use Rattle.p21_reader.specs.InstanceFault.{IsInstanceFault, HaveNoFault}
 
 -- a fact for a fault
 abbrev pub OnFault : Stop → (Fault → Type 0) → Type 0
@@ -41,8 +41,8 @@ JoinsPiece s old p (Err stop.Memory) new = Unit {0}
 
 -- The file is read up to a place: behind its preface stand these instances, and none of them has a fault.
 pub record IsReadUpTo (s : Schema) (file : List ℕ) (o : Opening) (is : List Instance) (place : ℕ) : Type 0 where
-  pub begins : BeginsWith file o is place
-  pub faultless : AreFaultless s is
+  pub begins : FileBeginsWith file o is place
+  pub faultless : HaveNoFault s is
 
 -- all pieces are read, and the tail begins at a place
 abbrev pub EndsBehind : Schema → List ℕ → Opening → List Instance → ℕ → Type 0

@@ -7,7 +7,7 @@ ghost use Rattle.p21_check.specs.EntityOf.{AreSimpleEntities};
 ghost use Rattle.p21_check.specs.Header.{IsHeaderFault};
 ghost use Rattle.p21_cut.specs.Pieces.{PiecesAre};
 ghost use Rattle.p21_join.specs.Joined.{joined};
-ghost use Rattle.p21_reader.specs.LocalFault.{IsLocalFault, HasNoLocalFault};
+ghost use Rattle.p21_reader.specs.LocalFault.{IsOpeningFault, IsLocalFaultOfFile, HasNoLocalFault};
 ghost use Rattle.p21_reader.specs.Steps.{EndsBehind, IsReadUpTo, JoinsPiece, OnFault};
 ghost use Rattle.p21_join.specs.Model.{instances_of, plain_instances};
 
@@ -29,7 +29,7 @@ pub(crate) fn local_model<'a>(
 ) -> Result<(Model<'a>, Vec<Option<EntityId>>), Stop>
     ensures ok { IfOk result (λ r. HasNoLocalFault schema.now file.now (plain_instances (instances_of r.0))) }
     ensures entities { IfOk result (λ r. AreSimpleEntities schema.now (plain_instances (instances_of r.0)) r.1.items) }
-    ensures fault { IfErr result (λ stop. OnFault stop (IsLocalFault schema.now file.now)) }
+    ensures fault { IfErr result (λ stop. OnFault stop (IsLocalFaultOfFile schema.now file.now)) }
 {
     first_tokens_of_file();
     parts_up_to_fault();
@@ -44,7 +44,7 @@ fn checked_preface<'a>(alloc: Global, schema: &Schema, file: &'a [u8]) -> Result
     ensures begins { IfOk result (λ preface. BeginsPreface file.now (plain_preface preface)) }
     ensures within { IfOk result (λ preface. preface.data_at ≤ length file.now) }
     ensures header { IfOk result (λ preface. IsHeaderFault schema.now (plain_preface preface) None) }
-    ensures fault { IfErr result (λ stop. OnFault stop (IsLocalFault schema.now file.now)) }
+    ensures fault { IfErr result (λ stop. OnFault stop (IsOpeningFault schema.now file.now)) }
 {
     let preface = read_preface(alloc, file)?;
     match check_header(schema, &preface) {
@@ -69,7 +69,7 @@ fn join_pieces<'a>(
     ensures ok { IfOk result (λ r. EndsBehind schema.now file.now (plain_preface preface.now) (plain_instances (joined r.0)) r.2) }
     ensures entities { IfOk result (λ r. AreSimpleEntities schema.now (plain_instances (joined r.0)) r.1.items) }
     ensures within { IfOk result (λ r. r.2 ≤ length file.now) }
-    ensures fault { IfErr result (λ stop. OnFault stop (IsLocalFault schema.now file.now)) }
+    ensures fault { IfErr result (λ stop. OnFault stop (IsLocalFaultOfFile schema.now file.now)) }
 {
     first_tokens_of_file();
     parts_up_to_fault();

@@ -5,7 +5,7 @@ use Rattle.p21_check.specs.EntityOf.{AreSimpleEntities}
 use Rattle.p21_cut.specs.Cutter.{number_of, place_of, plain_piece}
 use Rattle.p21_cut.specs.Pieces.{IsNext}
 use Rattle.p21_join.specs.Joined.{joined}
-use Rattle.p21_reader.specs.LocalFault.{IsLocalFault}
+use Rattle.p21_reader.specs.LocalFault.{IsLocalFaultOfFile}
 use Rattle.p21_reader.specs.Steps.{IsReadUpTo}
 use Rattle.p21_join.specs.Model.{plain_instances}
 use Rattle.p21_reader.proofs.ExitLemmas.{exit_stop}
@@ -46,5 +46,5 @@ returns-in_err-join_piece-in-Piece-clause-fault c =
     let file = c.args.file.now in
     let n = subst (λ f. IsNext f (place_of c.loop-piece.cutter) (number_of c.loop-piece.cutter) (plain_piece c.in-Piece.piece) (place_of c.next.new.self)) c.loop-piece.invariant.same c.in-Piece.ensures.next.0 in
     let laws = part_laws c.first_tokens_of_file.ensures.of_pieces c.first_tokens_of_file.ensures.of_tails c.parts_up_to_fault.ensures.of_pieces c.parts_up_to_fault.ensures.of_tails c.parts_up_to_fault.ensures.whole c.parts_up_to_fault.ensures.behind in
-    exit_stop (IsLocalFault c.args.schema.now file) c.from_residual.result c.in_err-join_piece-in-Piece.field-0.0 c.from_residual.ensures.1
+    exit_stop (IsLocalFaultOfFile c.args.schema.now file) c.from_residual.result c.in_err-join_piece-in-Piece.field-0.0 c.from_residual.ensures.1
     (stop_of_piece laws c.args.schema.now file (plain_preface c.args.preface.now) (joined c.loop-piece.joiner) (joined c.join_piece.new.joiner) (place_of c.loop-piece.cutter) (number_of c.loop-piece.cutter) (place_of c.next.new.self) c.in-Piece.piece c.in_err-join_piece-in-Piece.field-0.0 c.loop-piece.invariant.read c.requires.header n c.in_err-join_piece-in-Piece.ensures.joins)
