@@ -1,5 +1,6 @@
 pub mod TokenLemmas
 pub mod ReadLemmas
+pub mod ValueLemmas
 pub mod NameLemmas
 pub mod ExitLemmas
 pub mod ReferenceLemmas

@@ -78,9 +78,13 @@ piece_whole laws file place number next p i n h =
       by_place before last some (piece.inside none begins up) = absurd (some (shifted_no_semi p.at before none))
       by_place before last some (piece.whole body semi e none k l toks) = toks
 
+-- with the instance of a piece more
+pub begins_on : PartLaws → (file : List ℕ) (o : Opening) (is : List Instance) (place number next : ℕ) (p : Piece) (i : Instance) → FileBeginsWith file o is place → IsNext file place number (plain_piece p) next → IsPieceText p i → FileBeginsWith file o (is ++ i ∷ []) next
+begins_on laws file o is place number next p i b n h = let w = piece_whole laws file place number next p i n h in begins_more file o is place next w.0 i b w.1 w.2
+
 -- a fault in a piece
 
-piece_stops : PartLaws → (file : List ℕ) (o : Opening) (is : List Instance) (place number next : ℕ) (p : Piece) (f : Fault) → FileBeginsWith file o is place → IsNext file place number (plain_piece p) next → HasPieceFault p f → FileStopsBehind file o is f
+pub piece_stops : PartLaws → (file : List ℕ) (o : Opening) (is : List Instance) (place number next : ℕ) (p : Piece) (f : Fault) → FileBeginsWith file o is place → IsNext file place number (plain_piece p) next → HasPieceFault p f → FileStopsBehind file o is f
 piece_stops laws file o is place number next p f b n h = by_place (laws.piece_tokens file place number next (plain_piece p) h.before h.token n (record { place = h.place; tokens = h.tokens; next = h.next })) where
   front : List Placed
   front = shifted p.at h.before
@@ -153,8 +157,7 @@ parts_from laws file o end earlier is place number ps found b n (parts.in_tail {
 parts_from laws file o end earlier is place number (p ∷ ps) found b (cut.piece {next = after} n others) (parts.in_piece {f = f} h) =
     subst (λ x. IsOutcomeOf file o x (Some f)) (sym (append-nil earlier)) (stopped file o earlier f (piece_stops laws file o earlier place number after p f b n h))
 parts_from laws file o end earlier is place number (p ∷ ps) found b (cut.piece {next = after} n others) (parts.next {i = i} {is = later} h rest) =
-    let w = piece_whole laws file place number after p i n h in
-    let more : FileBeginsWith file o (earlier ++ i ∷ []) after = begins_more file o earlier place after w.0 i b w.1 w.2 in
+    let more : FileBeginsWith file o (earlier ++ i ∷ []) after = begins_on laws file o earlier place number after p i b n h in
     subst (λ x. IsOutcomeOf file o x found) (append_assoc earlier (i ∷ []) later) (parts_from laws file o end (earlier ++ i ∷ []) later after (number + 1) ps found more others rest)
 
 pub pieces_give_file : PartLaws → (file : List ℕ) → PiecesGiveFile file
@@ -196,8 +199,7 @@ none_faultless s = λ earlier later i e. nothing earlier later i e where
 
 pub read_on : PartLaws → (s : Schema) (file : List ℕ) (o : Opening) (is : List Instance) (place number next : ℕ) (p : Piece) (i : Instance) → IsReadUpTo s file o is place → IsNext file place number (plain_piece p) next → IsPieceText p i → IsInstanceFault s is i None → IsReadUpTo s file o (is ++ i ∷ []) next
 read_on laws s file o is place number next p i r n h own =
-    let w = piece_whole laws file place number next p i n h in
-    record { begins = begins_more file o is place next w.0 i r.begins w.1 w.2; faultless = faultless_more s is i r.faultless own }
+    record { begins = begins_on laws file o is place number next p i r.begins n h; faultless = faultless_more s is i r.faultless own }
 
 pub piece_fault : PartLaws → (s : Schema) (file : List ℕ) (o : Opening) (is : List Instance) (place number next : ℕ) (p : Piece) (f : Fault) → IsReadUpTo s file o is place → IsHeaderFault s o None → IsNext file place number (plain_piece p) next → HasPieceFault p f ⊎ HasInstanceFault s is p f → IsLocalFaultOfFile s file f
 piece_fault laws s file o is place number next p f r g n (inl h) = fault.behind_instances (piece_stops laws file o is place number next p f r.begins n h) g r.faultless

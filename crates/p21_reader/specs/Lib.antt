@@ -4,4 +4,6 @@ pub mod LocalFault
 pub mod Steps
 pub mod Reading
 pub mod Answer
+pub mod Values
+pub mod PiecesOf
 pub mod Laws

@@ -2,7 +2,7 @@
 
 ghost use Rattle.std.specs.Prelude.{ℕ, List};
 ghost use Rattle.p21_express.specs.Schema.{Schema};
-ghost use Rattle.p21_reader.specs.Laws.{HasOneReadingAtMost, PiecesGiveFile};
+ghost use Rattle.p21_reader.specs.Laws.{HasOneReadingAtMost, PiecesGiveFile, ValuesGiveReading};
 
 use p21_check::{one_header_fault, one_local_fault, one_reference_fault};
 use p21_cut::first_tokens_of_file;
@@ -27,6 +27,15 @@ pub fn one_reading()
 /// and the instances that stand whole before it.
 pub fn pieces_in_order()
     ensures { (file : List ℕ) → PiecesGiveFile file }
+{
+    first_tokens_of_file();
+    parts_up_to_fault();
+}
+
+/// Behind a preface whose header has no fault, the answer to what the pieces of a file are by themselves is the reading of the
+/// file: the first fault of the pieces, else that of the tail, else the first reference fault, else the instances.
+pub fn values_give_reading()
+    ensures { (s : Schema) → (file : List ℕ) → ValuesGiveReading s file }
 {
     first_tokens_of_file();
     parts_up_to_fault();

@@ -11,6 +11,6 @@ mod stop;
 #[cfg(test)]
 mod tests;
 
-pub use laws::{one_reading, pieces_in_order};
+pub use laws::{one_reading, pieces_in_order, values_give_reading};
 pub use reading::{ReadError, Reading};
 pub use serial::read_serial;
