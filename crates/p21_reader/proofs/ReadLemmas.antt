@@ -1,5 +1,5 @@
 -- One part of a file further.
-use Rattle.std.proofs.Common.{◌≡◌, ◌⊎◌, inl, inr, ℕ, ◌+◌, List, [], ◌∷◌, ◌++◌, Option, Some, None, Err, map, refl, sym, ap, subst, ◌∙◌, append_assoc, append-nil}
+use Rattle.std.proofs.Common.{◌≡◌, ◌⊎◌, ℕ, ◌+◌, List, [], ◌∷◌, ◌++◌, Option, Some, None, map, refl, sym, ap, subst, ◌∙◌, append_assoc, append-nil}
 use Rattle.p21_text.specs.Spelling as token
 use Rattle.p21_text.specs.Tokens.{Placed, First, Tokens, TokensUpTo, IsLast}
 use Rattle.p21_text.specs.Tokens as tokens
@@ -23,11 +23,9 @@ use Rattle.p21_reader.specs.Laws.{PiecesGiveFile}
 use Rattle.p21_reader.specs.InstanceFault.{IsInstanceFault, HaveNoFault}
 use Rattle.p21_reader.specs.LocalFault.{IsLocalFaultOfFile, HasNoLocalFault}
 use Rattle.p21_reader.specs.LocalFault as fault
-use Rattle.p21_tree.specs.declared.instances.RawInstance.{RawInstance}
-use Rattle.p21_reader.specs.declared.stop.Stop.{Stop}
-use Rattle.p21_reader.specs.declared.stop.Stop.TheVariants as stop
-use Rattle.p21_reader.specs.Steps.{EndsBehind, HasInstanceFault, IsReadUpTo, JoinsPiece, OnFault}
-use Rattle.p21_join.specs.Model.{plain_instances}
+use Rattle.p21_reader.specs.Steps.{EndsBehind, IsReadUpTo}
+use Rattle.p21_reader.proofs.PlaceLemmas.{Place, place_of}
+use Rattle.p21_reader.proofs.PlaceLemmas as places
 use Rattle.p21_reader.proofs.TokenLemmas.{up_to_on, tokens_on, AllTokens, all_tokens, none_last, shifted_snoc, shifted_no_semi}
 
 -- the laws of pieces and parts that a reading stands on
@@ -165,29 +163,11 @@ pieces_give_file laws file o ps end is found h n r = parts_from laws file o end 
 
 -- one instance more
 
-pub data Place (is earlier later : List Instance) (i j : Instance) : Type 0 where
-  last : is ≡ earlier → i ≡ j → Place is earlier later i j
-  before : (m : List Instance) → is ≡ earlier ++ j ∷ m → Place is earlier later i j
-
-place_behind : (x y : Instance) (is earlier later : List Instance) (i j : Instance) → x ≡ y → Place is earlier later i j → Place (x ∷ is) (y ∷ earlier) later i j
-place_behind x y is earlier later i j e (last p q) = last (ap (λ l. x ∷ l) p ∙ ap (λ z. z ∷ earlier) e) q
-place_behind x y is earlier later i j e (before m p) = before m (ap (λ l. x ∷ l) p ∙ ap (λ z. z ∷ (earlier ++ j ∷ m)) e)
-
-place_of : (is earlier later : List Instance) (i j : Instance) → is ++ i ∷ [] ≡ earlier ++ j ∷ later → Place is earlier later i j
-place_of [] [] later i j e = last refl (cc)
-place_of [] (y ∷ []) later i j e = absurd (cc)
-place_of [] (y ∷ z ∷ earlier) later i j e = absurd (cc)
-place_of (x ∷ is) [] later i j e = before is (let f : x ≡ j = cc in ap (λ z. z ∷ is) f)
-place_of (x ∷ is) (y ∷ earlier) later i j e =
-    let f : x ≡ y = cc in
-    let g : is ++ i ∷ [] ≡ earlier ++ j ∷ later = cc in
-    place_behind x y is earlier later i j f (place_of is earlier later i j g)
-
 faultless_more : (s : Schema) (is : List Instance) (i : Instance) → HaveNoFault s is → IsInstanceFault s is i None → HaveNoFault s (is ++ i ∷ [])
 faultless_more s is i h own = λ earlier later j e. by_place earlier later j (place_of is earlier later i j e) where
   by_place : (earlier later : List Instance) (j : Instance) → Place is earlier later i j → IsInstanceFault s earlier j None
-  by_place earlier later j (last p q) = subst (λ x. IsInstanceFault s x j None) p (subst (λ x. IsInstanceFault s is x None) q own)
-  by_place earlier later j (before m p) = h earlier m j p
+  by_place earlier later j (places.last p q) = subst (λ x. IsInstanceFault s x j None) p (subst (λ x. IsInstanceFault s is x None) q own)
+  by_place earlier later j (places.before m p) = h earlier m j p
 
 pub none_faultless : (s : Schema) → HaveNoFault s []
 none_faultless s = λ earlier later i e. nothing earlier later i e where
@@ -201,21 +181,8 @@ pub read_on : PartLaws → (s : Schema) (file : List ℕ) (o : Opening) (is : Li
 read_on laws s file o is place number next p i r n h own =
     record { begins = begins_on laws file o is place number next p i r.begins n h; faultless = faultless_more s is i r.faultless own }
 
-pub piece_fault : PartLaws → (s : Schema) (file : List ℕ) (o : Opening) (is : List Instance) (place number next : ℕ) (p : Piece) (f : Fault) → IsReadUpTo s file o is place → IsHeaderFault s o None → IsNext file place number (plain_piece p) next → HasPieceFault p f ⊎ HasInstanceFault s is p f → IsLocalFaultOfFile s file f
-piece_fault laws s file o is place number next p f r g n (inl h) = fault.behind_instances (piece_stops laws file o is place number next p f r.begins n h) g r.faultless
-piece_fault laws s file o is place number next p f r g n (inr h) =
-    let w = piece_whole laws file place number next p h.instance n h.is_piece in
-    let own : IsLocalFaultOfFile s file (record { kind = f.kind; at = h.instance.at }) = fault.in_instance (begins_more file o is place next w.0 h.instance r.begins w.1 w.2) g r.faultless h.is_fault in
-    subst (λ x. IsLocalFaultOfFile s file (record { kind = f.kind; at = x })) (sym h.place) own
-
 pub file_read : PartLaws → (s : Schema) (file : List ℕ) (o : Opening) (is : List Instance) (end : ℕ) → EndsBehind s file o is end → IsHeaderFault s o None → HasTail file end → HasNoLocalFault s file is
 file_read laws s file o is end h g t = record { opening = o; is_file = tail_whole laws file o is h.0 h.1 end h.2.begins h.3 t; header = g; faultless = h.2.faultless }
 
 pub tail_fault : PartLaws → (s : Schema) (file : List ℕ) (o : Opening) (is : List Instance) (end : ℕ) (f : Fault) → EndsBehind s file o is end → IsHeaderFault s o None → HasFault tails file end f → IsLocalFaultOfFile s file f
 tail_fault laws s file o is end f h g t = fault.behind_instances (tail_stops laws file o is h.0 h.1 end f h.2.begins h.3 t) g h.2.faultless
-
--- what a piece that was not joined says of the file
-pub stop_of_piece : PartLaws → (s : Schema) (file : List ℕ) (o : Opening) (old new : List RawInstance) (place number next : ℕ) (p : Piece) (e : Stop) → IsReadUpTo s file o (plain_instances old) place → IsHeaderFault s o None → IsNext file place number (plain_piece p) next
-    → JoinsPiece s old p (Err e) new → OnFault e (IsLocalFaultOfFile s file)
-stop_of_piece laws s file o old new place number next p (stop.Fault f) r g n h = piece_fault laws s file o (plain_instances old) place number next p f r g n h
-stop_of_piece laws s file o old new place number next p stop.Memory r g n h = tt

@@ -1,5 +1,5 @@
 -- What the values of pieces say of a file.
-use Rattle.std.proofs.Common.{◌≡◌, ℕ, ◌+◌, List, [], ◌∷◌, ◌++◌, Option, Some, None, map, refl, sym, subst, ◌∙◌, append_assoc, append-nil}
+use Rattle.std.proofs.Common.{◌≡◌, ℕ, ◌+◌, List, [], ◌∷◌, ◌++◌, Option, Some, None, Ok, Err, map, refl, sym, subst, ◌∙◌, append_assoc, append-nil}
 use Rattle.std.specs.Prelude.{Result}
 use Rattle.std.specs.List.{AllZip}
 use Rattle.std.proofs.lemmas.List.{map-append}
@@ -15,12 +15,14 @@ use Rattle.p21_check.specs.Header.{IsHeaderFault}
 use Rattle.p21_check.specs.LocalFault.{IsLocalFault}
 use Rattle.p21_reader.specs.InstanceFault.{IsFaultAmong, IsInstanceFault}
 use Rattle.p21_reader.specs.InstanceFault as fault
+use Rattle.p21_reader.specs.declared.stop.Stop.{Stop}
+use Rattle.p21_reader.specs.declared.stop.Stop.TheVariants as stop
 use Rattle.p21_reader.specs.GrammarOutcome.{FileStopsBehind}
 use Rattle.p21_reader.specs.LocalFault.{IsLocalFaultOfFile}
 use Rattle.p21_reader.specs.LocalFault as local
 use Rattle.p21_reader.specs.Reading.{IsReading}
 use Rattle.p21_reader.specs.Reading as reading
-use Rattle.p21_reader.specs.Steps.{EndsBehind, IsReadUpTo}
+use Rattle.p21_reader.specs.Steps.{AddsValue, EndsBehind, IsReadUpTo, OnFault}
 use Rattle.p21_reader.specs.Values.{Whole, Value, grammar, whole, IsJudged, instances_in, IsCarriedFault, CarryNoFault, IsValueFault, HaveInstances, IsAnswerTo}
 use Rattle.p21_reader.specs.Values as values
 use Rattle.p21_reader.specs.Laws.{ValuesGiveReading}
@@ -38,6 +40,19 @@ value_fault laws s file o is place number next p (grammar g) f r x n h e = local
 value_fault laws s file o is place number next p (whole w) f r x n h k =
     let own : IsLocalFaultOfFile s file (record { kind = f.kind; at = w.instance.at }) = local.in_instance (begins_on laws file o is place number next p w.instance r.begins n h.0) x r.faultless (carried s is w (Some f.kind) h.1 k.0) in
     subst (λ a. IsLocalFaultOfFile s file (record { kind = f.kind; at = a })) (sym k.1) own
+
+-- what a reading knows behind one value more
+pub value_read : PartLaws → (s : Schema) (file : List ℕ) (o : Opening) (old new : List Instance) (place number next : ℕ) (p : Piece) (v : Value) → IsReadUpTo s file o old place → IsNext file place number (plain_piece p) next → IsJudged s p v → AddsValue old v (Ok tt) new → IsReadUpTo s file o new next
+value_read laws s file o old new place number next p v r n h a =
+    let w : Whole = a.0 in
+    let own : IsJudged s p (whole w) = subst (IsJudged s p) a.1 h in
+    subst (λ l. IsReadUpTo s file o l next) (sym a.3) (read_on laws s file o old place number next p w.instance r n own.0 (carried s old w None own.1 a.2))
+
+-- what a value that was not joined says of the file
+pub value_stops : PartLaws → (s : Schema) (file : List ℕ) (o : Opening) (old new : List Instance) (place number next : ℕ) (p : Piece) (v : Value) (e : Stop) → IsReadUpTo s file o old place → IsHeaderFault s o None → IsNext file place number (plain_piece p) next
+    → IsJudged s p v → AddsValue old v (Err e) new → OnFault e (IsLocalFaultOfFile s file)
+value_stops laws s file o old new place number next p v (stop.Fault f) r x n h a = value_fault laws s file o old place number next p v f r x n h a
+value_stops laws s file o old new place number next p v stop.Memory r x n h a = tt
 
 -- A file is read up to a place, and from there on these are its pieces and their values.
 record Left (s : Schema) (file : List ℕ) (o : Opening) (end : ℕ) (is : List Instance) (rest : List Value) : Type 0 where
