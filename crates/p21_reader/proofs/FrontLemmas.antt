@@ -96,7 +96,7 @@ name_first limit ts i (sentence.simple {name} n e rs s hn he h hs) = (n, e ∷ (
 name_first limit ts i (sentence.complex {name} {ts = rs} n e o c s hn he ho h hc hs) = (n, e ∷ o ∷ (rs ++ c ∷ s ∷ []), name, refl, hn)
 
 -- and a tail with ENDSEC
-word_first : (ts : List Placed) → IsTail ts → (t : Placed) × (others : List Placed) × (ts ≡ t ∷ others) × (t.token ≡ token.keyword endsec_word)
+pub word_first : (ts : List Placed) → IsTail ts → (t : Placed) × (others : List Placed) × (ts ≡ t ∷ others) × (t.token ≡ token.keyword endsec_word)
 word_first ts (sentence.made endsec s1 end_iso s2 end a b c d e) = (endsec, s1 ∷ end_iso ∷ s2 ∷ end ∷ [], refl, a)
 
 some_tail : (ts : List Placed) × IsTail ts

@@ -9,3 +9,4 @@ pub mod ReferenceLemmas
 pub mod FrontLemmas
 pub mod UniqueLemmas
 pub mod EntityLemmas
+pub mod PieceLemmas

@@ -14,6 +14,6 @@ mod stop;
 mod tests;
 
 pub use judged::{Judge, Judged, LocalReader};
-pub use laws::{one_reading, pieces_in_order, values_give_reading};
+pub use laws::{one_reading, pieces_are_instances, pieces_in_order, values_give_reading};
 pub use reading::{ReadError, Reading};
 pub use serial::read_serial;

@@ -51,4 +51,4 @@ returns-in_err-add_value-in-Piece-clause-fault c =
     let laws = part_laws c.first_tokens_of_file.ensures.of_pieces c.first_tokens_of_file.ensures.of_tails c.parts_up_to_fault.ensures.of_pieces c.parts_up_to_fault.ensures.of_tails c.parts_up_to_fault.ensures.whole c.parts_up_to_fault.ensures.behind in
     exit_stop (IsLocalFaultOfFile s file) c.from_residual-in_err-add_value-in-Piece.result e c.from_residual-in_err-add_value-in-Piece.ensures.1
     (value_stops laws s file (plain_preface c.args.preface.now) (plain_instances (joined c.loop-piece.joiner)) (plain_instances (joined c.add_value.new.joiner)) (place_of c.loop-piece.cutter) (number_of c.loop-piece.cutter) (place_of c.next.new.self) c.in-Piece.piece (value_of c.in_ok-judgement-in-Piece.judgement.judged)
-        e c.loop-piece.invariant.read c.requires.header n c.in_ok-judgement-in-Piece.ensures.judged c.in_err-add_value-in-Piece.ensures.adds)
+    e c.loop-piece.invariant.read c.requires.header n c.in_ok-judgement-in-Piece.ensures.judged c.in_err-add_value-in-Piece.ensures.adds)
