@@ -1,5 +1,5 @@
 -- One cut further.
-use Rattle.std.proofs.Common.{◌≡◌, ℕ, ◌+◌, ◌-◌, ◌≤◌, List, [], ◌∷◌, take, drop, sym, subst, arith}
+use Rattle.std.proofs.Common.{◌≡◌, ℕ, ◌+◌, ◌-◌, ◌≤◌, List, ◌∷◌, take, drop, subst, arith}
 use Rattle.p21_text.specs.Tokens.{Passes}
 use Rattle.p21_cut.specs.Pieces.{BeginsWith, Piece, PieceIs, IsNext, PiecesAre}
 use Rattle.p21_cut.specs.Pieces as pieces

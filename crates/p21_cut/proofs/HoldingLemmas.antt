@@ -29,13 +29,16 @@ separators_on a b (separators.white w s) t = separators.white w (separators_on _
 separators_on a b (separators.comment {front = front} {rest = rest} e c s) t = separators.comment (ap (λ l. l ++ b) e ∙ append_assoc front rest b) c (separators_on rest b s t)
 
 -- behind separators that cannot be extended stand no more
-still : (text : List ℕ) (gap more : ℕ) → Passes text gap → Passes (drop gap text) more → more ≡ 0
-still text gap more p q =
-    let fits : gap + more ≤ length text = (let h = p.fits in let k = q.fits in omega (arith, h, k, length-drop gap text)) in
-    let whole : IsSeparators (take (gap + more) text) = subst IsSeparators (sym (take-add gap more text)) (separators_on (take gap text) (take more (drop gap text)) p.separators q.separators) in
+pub none_more : (text : List ℕ) (gap more : ℕ) → Passes text gap → more ≤ length (drop gap text) → IsSeparators (take more (drop gap text)) → more ≤ 0
+none_more text gap more p k s =
+    let fits : gap + more ≤ length text = (let h = p.fits in omega (arith, h, k, length-drop gap text)) in
+    let whole : IsSeparators (take (gap + more) text) = subst IsSeparators (sym (take-add gap more text)) (separators_on (take gap text) (take more (drop gap text)) p.separators s) in
     let most : gap + more ≤ gap = p.longest (gap + more) fits whole in omega (arith, most)
 
-still_there : (file : List ℕ) (at gap more : ℕ) → Passes (drop at file) gap → Passes (drop (at + gap) file) more → more ≡ 0
+still : (text : List ℕ) (gap more : ℕ) → Passes text gap → Passes (drop gap text) more → more ≡ 0
+still text gap more p q = let none : more ≤ 0 = none_more text gap more p q.fits q.separators in omega (arith, none)
+
+pub still_there : (file : List ℕ) (at gap more : ℕ) → Passes (drop at file) gap → Passes (drop (at + gap) file) more → more ≡ 0
 still_there file at gap more p q = still (drop at file) gap more p (subst (λ l. Passes l more) (sym (drop-drop gap at file)) q)
 
 first_before : (file : List ℕ) (at gap : ℕ) (t : Placed) → Passes (drop at file) gap → First file (at + gap) t → First file at t
@@ -62,11 +65,11 @@ token_list text at ts (tokens.more {t = t} {ts = others} f nl rest) = laws.more 
 
 -- ---- one piece
 
-hash_plain : (behind : List ℕ) → IsPlain 35 behind
+pub hash_plain : (behind : List ℕ) → IsPlain 35 behind
 hash_plain behind = record { no_semicolon = λ e. omega arith; no_apostrophe = λ e. omega arith; opens_nothing = λ e. absurd (omega arith) }
 
 -- the bytes up to a `;` and behind it
-at_mark : (rest : List ℕ) (n : ℕ) → BeginsWith 59 (drop n rest) → (rest ≡ take n rest ++ 59 ∷ drop (suc n) rest) × ((take (suc n) rest ≡ take n rest ++ 59 ∷ []) × (n < length rest))
+pub at_mark : (rest : List ℕ) (n : ℕ) → BeginsWith 59 (drop n rest) → (rest ≡ take n rest ++ 59 ∷ drop (suc n) rest) × ((take (suc n) rest ≡ take n rest ++ 59 ∷ []) × (n < length rest))
 at_mark [] zero h = absurd h
 at_mark [] (suc n) h = absurd h
 at_mark (x ∷ rest) zero h = (ap (λ b. b ∷ rest) h, (ap (λ b. b ∷ []) h, omega arith))
@@ -152,7 +155,7 @@ none_each : (ps : List Piece) (tss : List (List Placed)) → ps ≡ [] → Token
 none_each ps tss e each.none = refl
 none_each ps tss e (each.more t others) = cc
 
-same_placed : (t u : Placed) → t.start ≡ u.start → t.after ≡ u.after → t.token ≡ u.token → t ≡ u
+pub same_placed : (t u : Placed) → t.start ≡ u.start → t.after ≡ u.after → t.token ≡ u.token → t ≡ u
 same_placed t u e f g = λ i. record { start = e i; after = f i; token = g i }
 
 open_name : (bytes rest : List ℕ) (s : ℕ) (ts body : List Placed) (last : Placed) → bytes ≡ 35 ∷ rest → Tokens bytes 0 ts → ts ≡ body ++ last ∷ [] → last.token ≡ token.end → BeginsWithName (shifted s body)

@@ -5,3 +5,4 @@ pub mod SpellingLemmas
 pub mod StretchLemmas
 pub mod PieceTokenLemmas
 pub mod HoldingLemmas
+pub mod NextPieceLemmas

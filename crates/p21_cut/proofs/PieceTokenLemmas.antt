@@ -30,7 +30,7 @@ semi_spelled text n t tokens.ended e = cc
 semi_spelled text n t (tokens.none some nothing) e = cc
 
 -- a `;` stands where the parts stop
-first_semi : (a text : List ℕ) (at k : ℕ) (t : Placed) → OneString → drop at a ≡ text → PartsAre text k → HasNoPart (drop k text) → (f : First a at t) → t.token ≡ token.semi → (f.gap ≡ k) × ((f.len ≡ 1) × BeginsWith 59 (drop k text))
+pub first_semi : (a text : List ℕ) (at k : ℕ) (t : Placed) → OneString → drop at a ≡ text → PartsAre text k → HasNoPart (drop k text) → (f : First a at t) → t.token ≡ token.semi → (f.gap ≡ k) × ((f.len ≡ 1) × BeginsWith 59 (drop k text))
 first_semi a text at k t one e all stop f s =
     let before = before_token a text at k t one e all stop f in
     let found = semi_spelled (drop f.gap text) f.len t.token (subst (λ l. Front (drop f.gap l) f.len t.token) e f.front) s in
@@ -44,7 +44,7 @@ front_parts text n t tokens.ended nl other = absurd (nl tokens.at_end)
 front_parts text n t (tokens.none some nothing) nl other = absurd (nl tokens.at_bad)
 
 -- behind another token the parts go on
-first_more : (a text : List ℕ) (at k : ℕ) (t : Placed) → OneString → drop at a ≡ text → PartsAre text k → HasNoPart (drop k text) → (f : First a at t) → ¬ (IsLast t.token) → t.token ≢ token.semi
+pub first_more : (a text : List ℕ) (at k : ℕ) (t : Placed) → OneString → drop at a ≡ text → PartsAre text k → HasNoPart (drop k text) → (f : First a at t) → ¬ (IsLast t.token) → t.token ≢ token.semi
     → (f.gap + f.len ≤ k) × PartsAre (drop (f.gap + f.len) text) (k - (f.gap + f.len))
 first_more a text at k t one e all stop f nl other =
     let before = before_token a text at k t one e all stop f in
@@ -57,7 +57,7 @@ first_more a text at k t one e all stop f nl other =
     let fits : f.gap + f.len ≤ k = omega (arith, before.0, behind.0) in
     (fits, subst (PartsAre (drop (f.gap + f.len) text)) count (subst (λ l. PartsAre l (k - f.gap - f.len)) (drop-drop f.len f.gap text) behind.1))
 
-moved_is : (s a b at gap len : ℕ) (t : Symbol) → a ≡ at + gap → b ≡ a + len → record { start = s + at + gap; after = s + at + gap + len; token = t } ≡ shift s (record { start = a; after = b; token = t })
+pub moved_is : (s a b at gap len : ℕ) (t : Symbol) → a ≡ at + gap → b ≡ a + len → record { start = s + at + gap; after = s + at + gap + len; token = t } ≡ shift s (record { start = a; after = b; token = t })
 moved_is s a b at gap len t e f =
     let start : s + at + gap ≡ s + a = omega arith in
     let after : s + at + gap + len ≡ s + b = omega arith in cc
@@ -268,7 +268,7 @@ named text rest n t e (tokens.token l) = inl (spelled_name rest n t (subst (λ x
 named text rest n t e tokens.ended = cc
 named text rest n t e (tokens.none some nothing) = inr refl
 
-first_named : (text rest : List ℕ) (at : ℕ) (t : Placed) → drop at text ≡ 35 ∷ rest → First text at t → ((m : ℕ) × (t.token ≡ token.name m)) ⊎ (t.token ≡ token.bad)
+pub first_named : (text rest : List ℕ) (at : ℕ) (t : Placed) → drop at text ≡ 35 ∷ rest → First text at t → ((m : ℕ) × (t.token ≡ token.name m)) ⊎ (t.token ≡ token.bad)
 first_named text rest at t e f =
     let gap : f.gap ≡ 0 = byte_gap (drop at text) rest f.gap 35 e (λ h. omega arith) f.passes in
     named (drop at text) rest f.len t.token e (subst (λ g. Front (drop g (drop at text)) f.len t.token) gap f.front)

@@ -40,3 +40,24 @@ PieceTokensAreOfFile = (file : List ℕ) (at number next : ℕ) (p : Piece) (bef
 -- first tokens of a tail are tokens of the file from before the separators on; the first is no name
 abbrev pub TailTokensAreOfFile : Type 0
 TailTokensAreOfFile = (file : List ℕ) (at number end : ℕ) (before : List Placed) (t : Placed) → PiecesAre file at number [] end → TokensAndNext file end before t → TokensAndNext file at before t × ¬ (BeginsWithName (before ++ t ∷ []))
+
+-- Tokens of the file are those of a piece, without its End.
+pub record AreOfPiece (p : Piece) (ts : List Placed) : Type 0 where
+  pub own : List Placed
+  pub end : Placed
+  pub tokens : Tokens p.bytes 0 (own ++ end ∷ [])
+  pub is_end : end.token ≡ token.end
+  pub moved : shifted p.at own ≡ ts
+
+-- where a piece comes next, the tokens of the file up to the next semicolon begin at its place, are those of the piece, and end with it
+abbrev pub FileTokensAreOfPiece : Type 0
+FileTokensAreOfPiece = (file : List ℕ) (at number next place : ℕ) (p : Piece) (t : Placed) (body : List Placed) (semi : Placed) → IsNext file at number p next → TokensUpTo file at (t ∷ (body ++ semi ∷ [])) place → HasNoSemi (t ∷ body) → semi.token ≡ token.semi
+    → (t.start ≡ p.at) × (place ≡ next) × AreOfPiece p (t ∷ (body ++ semi ∷ []))
+
+-- where a piece comes next, the next token is a name, or none begins there
+abbrev pub PieceBeginsWithName : Type 0
+PieceBeginsWithName = (file : List ℕ) (at number next : ℕ) (p : Piece) (t : Placed) → IsNext file at number p next → First file at t → ((n : ℕ) × (t.token ≡ token.name n)) ⊎ (t.token ≡ token.bad)
+
+-- where none comes, the tokens of the file are those of the tail, and the first is no name
+abbrev pub FileTokensAreOfTail : Type 0
+FileTokensAreOfTail = (file : List ℕ) (at number end : ℕ) (ts : List Placed) → PiecesAre file at number [] end → Tokens file at ts → Tokens file end ts × ¬ (BeginsWithName ts)

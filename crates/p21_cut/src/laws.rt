@@ -2,7 +2,7 @@
 
 ghost use Rattle.std.specs.Prelude.{◌≤◌, ℕ, List, length};
 ghost use Rattle.p21_cut.specs.Laws.{HasOneCutting};
-ghost use Rattle.p21_cut.specs.Tokens.{PartsHoldTokens, PieceTokensAreOfFile, PiecesHoldTokens, TailTokensAreOfFile};
+ghost use Rattle.p21_cut.specs.Tokens.{FileTokensAreOfPiece, FileTokensAreOfTail, PartsHoldTokens, PieceBeginsWithName, PieceTokensAreOfFile, PiecesHoldTokens, TailTokensAreOfFile};
 
 use crate::cutter::{Cut, Cutter};
 use p21_text::{one_string, tokens_are_unique};
@@ -36,6 +36,16 @@ pub fn pieces_hold_tokens()
 pub fn first_tokens_of_file()
     ensures of_pieces { PieceTokensAreOfFile }
     ensures of_tails { TailTokensAreOfFile }
+{
+    one_string();
+}
+
+/// Tokens of a file up to a semicolon are those of the piece that comes next, whose first token is a name unless none begins
+/// there; where no piece comes next, the tokens are those of the tail.
+pub fn tokens_of_next_piece()
+    ensures whole { FileTokensAreOfPiece }
+    ensures first { PieceBeginsWithName }
+    ensures of_tail { FileTokensAreOfTail }
 {
     one_string();
 }

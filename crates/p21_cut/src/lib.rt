@@ -8,4 +8,4 @@ mod parts;
 mod tests;
 
 pub use cutter::{Cut, Cutter};
-pub use laws::{first_tokens_of_file, one_cutting, pieces_hold_tokens};
+pub use laws::{first_tokens_of_file, one_cutting, pieces_hold_tokens, tokens_of_next_piece};

@@ -24,3 +24,8 @@ module _ {T : Type 0} (Q : Fault → Type 0) where
   pub exit_tree : (r : Result T Stop) (e : TreeError) (P : Fault → Type 0) → IsErrAnd r (λ y. IsStopOf e y) → ((f : Fault) → P f → Q f) → OnGrammar e P → IfErr r (λ y. OnFault y Q)
   exit_tree r (error.Grammar f) P h g p = exit_stop r (stop.Fault f) h (g f p)
   exit_tree r error.Memory P h g p = exit_stop r stop.Memory h tt
+
+  -- a fault, given back as it is
+  pub exit_fault : (r : Result T Fault) (f : Fault) → IsErrAnd r (λ y. y ≡ f) → Q f → IfErr r Q
+  exit_fault (Ok x) f h q = tt
+  exit_fault (Err y) f h q = subst Q (sym h) q

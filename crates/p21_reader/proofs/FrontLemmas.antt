@@ -11,7 +11,7 @@ use Rattle.p21_tree.specs.Sentence as sentence
 use Rattle.p21_tree.specs.Fault.{Begins, files, instances, prefaces}
 use Rattle.p21_tree.specs.Laws.{HasOneTree, NoneBeginsAnother}
 use Rattle.p21_tree.specs.Texts.{IsFileText, HasPrefaceFault}
-use Rattle.p21_reader.specs.GrammarOutcome.{BeginsWith, StopsBehind}
+use Rattle.p21_reader.specs.GrammarOutcome.{FileBeginsWith, FileStopsBehind}
 use Rattle.p21_reader.proofs.ReadLemmas.{instances_more}
 use Rattle.p21_reader.proofs.TokenLemmas.{up_to_on}
 
@@ -96,7 +96,7 @@ name_first limit ts i (sentence.simple {name} n e rs s hn he h hs) = (n, e ∷ (
 name_first limit ts i (sentence.complex {name} {ts = rs} n e o c s hn he ho h hc hs) = (n, e ∷ o ∷ (rs ++ c ∷ s ∷ []), name, refl, hn)
 
 -- and a tail with ENDSEC
-word_first : (ts : List Placed) → IsTail ts → (t : Placed) × (others : List Placed) × (ts ≡ t ∷ others) × (t.token ≡ token.keyword endsec_word)
+pub word_first : (ts : List Placed) → IsTail ts → (t : Placed) × (others : List Placed) × (ts ≡ t ∷ others) × (t.token ≡ token.keyword endsec_word)
 word_first ts (sentence.made endsec s1 end_iso s2 end a b c d e) = (endsec, s1 ∷ end_iso ∷ s2 ∷ end ∷ [], refl, a)
 
 some_tail : (ts : List Placed) × IsTail ts
@@ -144,7 +144,7 @@ module _ (laws : TreeLaws) where
       goes_cons text q i j others others' same.1 (instances_go text s.0 p q rest rest' others others' s.2 xs (subst (λ z. TokensUpTo text z rest' q) (sym same.0) t.2) ys)
 
   -- the prefaces of two beginnings are one, and of their instances those of one go within the other's or beyond
-  pub beginnings : (file : List ℕ) (o u : Opening) (is js : List Instance) (p q : ℕ) → BeginsWith file o is p → BeginsWith file u js q → (o ≡ u) × Goes file q is js
+  pub beginnings : (file : List ℕ) (o u : Opening) (is js : List Instance) (p q : ℕ) → FileBeginsWith file o is p → FileBeginsWith file u js q → (o ≡ u) × Goes file q is js
   beginnings file o u is js p q b d =
       let s = up_to_split file 0 p b.opening b.body (b.opening ++ b.body) b.tokens refl in
       let t = up_to_split file 0 q d.opening d.body (d.opening ++ d.body) d.tokens refl in
@@ -154,7 +154,7 @@ module _ (laws : TreeLaws) where
 -- These are all instances that stand whole in the file.
 pub record HasAll (file : List ℕ) (o : Opening) (is : List Instance) : Type 0 where
   pub end : ℕ
-  pub begins : BeginsWith file o is end
+  pub begins : FileBeginsWith file o is end
   pub no_more : (i : Instance) → ¬ (IsAt file end i)
 
 -- a tail is no instance
@@ -199,7 +199,7 @@ not_beyond opening body front us t o is i p hs h = record {
   );
 }
 
-pub all_of_stop : (file : List ℕ) (o : Opening) (is : List Instance) (f : Fault) → StopsBehind file o is f → HasAll file o is
+pub all_of_stop : (file : List ℕ) (o : Opening) (is : List Instance) (f : Fault) → FileStopsBehind file o is f → HasAll file o is
 all_of_stop file o is f h =
     let s = up_to_split file 0 h.place h.opening (h.body ++ h.front) (h.opening ++ (h.body ++ h.front)) h.tokens refl in
     let t = up_to_split file s.0 h.place h.body h.front (h.body ++ h.front) s.2 refl in
@@ -222,7 +222,7 @@ all_of_stop file o is f h =
       by_front (longer m e g) = behind_front i m end g (subst (λ z. IsInstance deepest z i) e x)
 
 -- a file with a fault in its preface has none
-pub no_preface : (file : List ℕ) (f : Fault) (o : Opening) (is : List Instance) (place : ℕ) → HasPrefaceFault file f → BeginsWith file o is place → ⊥
+pub no_preface : (file : List ℕ) (f : Fault) (o : Opening) (is : List Instance) (place : ℕ) → HasPrefaceFault file f → FileBeginsWith file o is place → ⊥
 no_preface file f o is place h b =
     let s = up_to_split file 0 place b.opening b.body (b.opening ++ b.body) b.tokens refl in
     by_front s.0 (fronts file 0 s.0 h.place b.opening h.before s.1 h.tokens)

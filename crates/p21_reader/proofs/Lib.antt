@@ -1,8 +1,12 @@
+pub mod PlaceLemmas
 pub mod TokenLemmas
 pub mod ReadLemmas
+pub mod ValueLemmas
 pub mod NameLemmas
+pub mod GatheringLemmas
 pub mod ExitLemmas
 pub mod ReferenceLemmas
 pub mod FrontLemmas
 pub mod UniqueLemmas
 pub mod EntityLemmas
+pub mod PieceLemmas

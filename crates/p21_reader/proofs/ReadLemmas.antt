@@ -1,5 +1,5 @@
 -- One part of a file further.
-use Rattle.std.proofs.Common.{◌≡◌, ◌⊎◌, inl, inr, ℕ, ◌+◌, List, [], ◌∷◌, ◌++◌, Option, Some, None, Err, map, refl, sym, ap, subst, ◌∙◌, append_assoc, append-nil}
+use Rattle.std.proofs.Common.{◌≡◌, ◌⊎◌, ℕ, ◌+◌, List, [], ◌∷◌, ◌++◌, Option, Some, None, map, refl, sym, ap, subst, ◌∙◌, append_assoc, append-nil}
 use Rattle.p21_text.specs.Spelling as token
 use Rattle.p21_text.specs.Tokens.{Placed, First, Tokens, TokensUpTo, IsLast}
 use Rattle.p21_text.specs.Tokens as tokens
@@ -17,17 +17,15 @@ use Rattle.p21_cut.specs.Cutter.{plain_piece}
 use Rattle.p21_cut.specs.Tokens.{TokensAndNext, InFile, PieceTokensAreOfFile, TailTokensAreOfFile}
 use Rattle.p21_cut.specs.Tokens as piece
 use Rattle.p21_check.specs.Header.{IsHeaderFault}
-use Rattle.p21_reader.specs.GrammarOutcome.{BeginsWith, StopsBehind, ReadsParts, IsOutcomeOf}
+use Rattle.p21_reader.specs.GrammarOutcome.{FileBeginsWith, FileStopsBehind, ReadsParts, IsOutcomeOf}
 use Rattle.p21_reader.specs.GrammarOutcome as parts
 use Rattle.p21_reader.specs.Laws.{PiecesGiveFile}
-use Rattle.p21_reader.specs.InstanceFault.{IsInstanceFault, AreFaultless}
-use Rattle.p21_reader.specs.LocalFault.{IsLocalFault, HasNoLocalFault}
+use Rattle.p21_reader.specs.InstanceFault.{IsInstanceFault, HaveNoFault}
+use Rattle.p21_reader.specs.LocalFault.{IsLocalFaultOfFile, HasNoLocalFault}
 use Rattle.p21_reader.specs.LocalFault as fault
-use Rattle.p21_tree.specs.declared.instances.RawInstance.{RawInstance}
-use Rattle.p21_reader.specs.declared.stop.Stop.{Stop}
-use Rattle.p21_reader.specs.declared.stop.Stop.TheVariants as stop
-use Rattle.p21_reader.specs.Steps.{EndsBehind, HasInstanceFault, IsReadUpTo, JoinsPiece, OnFault}
-use Rattle.p21_join.specs.Model.{plain_instances}
+use Rattle.p21_reader.specs.Steps.{EndsBehind, IsReadUpTo}
+use Rattle.p21_reader.proofs.PlaceLemmas.{Place, place_of}
+use Rattle.p21_reader.proofs.PlaceLemmas as places
 use Rattle.p21_reader.proofs.TokenLemmas.{up_to_on, tokens_on, AllTokens, all_tokens, none_last, shifted_snoc, shifted_no_semi}
 
 -- the laws of pieces and parts that a reading stands on
@@ -47,7 +45,7 @@ instances_more body ts is i sentence.none h = subst (λ x. IsInstances deepest x
 instances_more body ts is i (sentence.more us {rest = rest} {i = j} {is = others} g hs) h =
     subst (λ x. IsInstances deepest x (j ∷ (others ++ i ∷ []))) (sym (append_assoc us rest ts)) (sentence.more us g (instances_more rest ts others i hs h))
 
-begins_more : (file : List ℕ) (o : Opening) (is : List Instance) (place next : ℕ) (ts : List Placed) (i : Instance) → BeginsWith file o is place → TokensUpTo file place ts next → IsInstance deepest ts i → BeginsWith file o (is ++ i ∷ []) next
+begins_more : (file : List ℕ) (o : Opening) (is : List Instance) (place next : ℕ) (ts : List Placed) (i : Instance) → FileBeginsWith file o is place → TokensUpTo file place ts next → IsInstance deepest ts i → FileBeginsWith file o (is ++ i ∷ []) next
 begins_more file o is place next ts i b toks h = record {
   opening = b.opening;
   body = b.body ++ ts;
@@ -56,7 +54,7 @@ begins_more file o is place next ts i b toks h = record {
   are_instances = instances_more b.body ts is i b.are_instances h;
 }
 
-pub begins_opening : (file : List ℕ) (o : Opening) → BeginsPreface file o → BeginsWith file o [] o.data_at
+pub begins_opening : (file : List ℕ) (o : Opening) → BeginsPreface file o → FileBeginsWith file o [] o.data_at
 begins_opening file o h = record {
   opening = h.0;
   body = [];
@@ -78,14 +76,18 @@ piece_whole laws file place number next p i n h =
       by_place before last some (piece.inside none begins up) = absurd (some (shifted_no_semi p.at before none))
       by_place before last some (piece.whole body semi e none k l toks) = toks
 
+-- with the instance of a piece more
+pub begins_on : PartLaws → (file : List ℕ) (o : Opening) (is : List Instance) (place number next : ℕ) (p : Piece) (i : Instance) → FileBeginsWith file o is place → IsNext file place number (plain_piece p) next → IsPieceText p i → FileBeginsWith file o (is ++ i ∷ []) next
+begins_on laws file o is place number next p i b n h = let w = piece_whole laws file place number next p i n h in begins_more file o is place next w.0 i b w.1 w.2
+
 -- a fault in a piece
 
-piece_stops : PartLaws → (file : List ℕ) (o : Opening) (is : List Instance) (place number next : ℕ) (p : Piece) (f : Fault) → BeginsWith file o is place → IsNext file place number (plain_piece p) next → HasPieceFault p f → StopsBehind file o is f
+pub piece_stops : PartLaws → (file : List ℕ) (o : Opening) (is : List Instance) (place number next : ℕ) (p : Piece) (f : Fault) → FileBeginsWith file o is place → IsNext file place number (plain_piece p) next → HasPieceFault p f → FileStopsBehind file o is f
 piece_stops laws file o is place number next p f b n h = by_place (laws.piece_tokens file place number next (plain_piece p) h.before h.token n (record { place = h.place; tokens = h.tokens; next = h.next })) where
   front : List Placed
   front = shifted p.at h.before
 
-  by_place : InFile file place next (plain_piece p) h.before h.token → StopsBehind file o is f
+  by_place : InFile file place next (plain_piece p) h.before h.token → FileStopsBehind file o is f
   by_place (piece.inside none begins up) = record {
     opening = b.opening;
     body = b.body;
@@ -113,7 +115,7 @@ tail_tokens laws file place number end ts n toks =
     let up = (laws.tail_tokens file place number end all.before all.last n all.up_to).0 in
     subst (Tokens file place) (sym all.parts) (tokens_on file place up.place all.before (all.last ∷ []) up.tokens (tokens.last up.next all.is_last))
 
-tail_whole : PartLaws → (file : List ℕ) (o : Opening) (is : List Instance) (place number end : ℕ) → BeginsWith file o is place → PiecesAre file place number [] end → HasTail file end → IsFileText file o is
+tail_whole : PartLaws → (file : List ℕ) (o : Opening) (is : List Instance) (place number end : ℕ) → FileBeginsWith file o is place → PiecesAre file place number [] end → HasTail file end → IsFileText file o is
 tail_whole laws file o is place number end b n h =
     let tail : List Placed = h.0 in (
       b.opening ++ (b.body ++ tail),
@@ -121,7 +123,7 @@ tail_whole laws file o is place number end b n h =
       record { opening = b.opening; body = b.body; tail = tail; parts = refl; is_opening = b.is_opening; are_instances = b.are_instances; is_tail = h.2 },
     )
 
-tail_stops : PartLaws → (file : List ℕ) (o : Opening) (is : List Instance) (place number end : ℕ) (f : Fault) → BeginsWith file o is place → PiecesAre file place number [] end → HasFault tails file end f → StopsBehind file o is f
+tail_stops : PartLaws → (file : List ℕ) (o : Opening) (is : List Instance) (place number end : ℕ) (f : Fault) → FileBeginsWith file o is place → PiecesAre file place number [] end → HasFault tails file end f → FileStopsBehind file o is f
 tail_stops laws file o is place number end f b n h =
     let moved = laws.tail_tokens file place number end h.before h.token n (record { place = h.place; tokens = h.tokens; next = h.next }) in
     let up = moved.0 in
@@ -142,10 +144,10 @@ tail_stops laws file o is place number end f b n h =
 
 -- all parts
 
-stopped : (file : List ℕ) (o : Opening) (is : List Instance) (f : Fault) → StopsBehind file o is f → HasFault files file 0 f × StopsBehind file o is f
+stopped : (file : List ℕ) (o : Opening) (is : List Instance) (f : Fault) → FileStopsBehind file o is f → HasFault files file 0 f × FileStopsBehind file o is f
 stopped file o is f s = (record { before = s.opening ++ (s.body ++ s.front); place = s.place; token = s.token; kind = s.kind; tokens = s.tokens; next = s.next; is_fault = s.stops.is_fault; kind_is = s.kind_is }, s)
 
-parts_from : PartLaws → (file : List ℕ) (o : Opening) (end : ℕ) (earlier is : List Instance) (place number : ℕ) (ps : List Piece) (found : Option Fault) → BeginsWith file o earlier place → PiecesAre file place number (map plain_piece ps) end → ReadsParts file end ps is found → IsOutcomeOf file o (earlier ++ is) found
+parts_from : PartLaws → (file : List ℕ) (o : Opening) (end : ℕ) (earlier is : List Instance) (place number : ℕ) (ps : List Piece) (found : Option Fault) → FileBeginsWith file o earlier place → PiecesAre file place number (map plain_piece ps) end → ReadsParts file end ps is found → IsOutcomeOf file o (earlier ++ is) found
 parts_from laws file o end earlier is place number ps found b n (parts.whole t) =
     subst (λ x. IsFileText file o x) (sym (append-nil earlier)) (tail_whole laws file o earlier place number end b n t)
 parts_from laws file o end earlier is place number ps found b n (parts.in_tail {f} h) =
@@ -153,8 +155,7 @@ parts_from laws file o end earlier is place number ps found b n (parts.in_tail {
 parts_from laws file o end earlier is place number (p ∷ ps) found b (cut.piece {next = after} n others) (parts.in_piece {f = f} h) =
     subst (λ x. IsOutcomeOf file o x (Some f)) (sym (append-nil earlier)) (stopped file o earlier f (piece_stops laws file o earlier place number after p f b n h))
 parts_from laws file o end earlier is place number (p ∷ ps) found b (cut.piece {next = after} n others) (parts.next {i = i} {is = later} h rest) =
-    let w = piece_whole laws file place number after p i n h in
-    let more : BeginsWith file o (earlier ++ i ∷ []) after = begins_more file o earlier place after w.0 i b w.1 w.2 in
+    let more : FileBeginsWith file o (earlier ++ i ∷ []) after = begins_on laws file o earlier place number after p i b n h in
     subst (λ x. IsOutcomeOf file o x found) (append_assoc earlier (i ∷ []) later) (parts_from laws file o end (earlier ++ i ∷ []) later after (number + 1) ps found more others rest)
 
 pub pieces_give_file : PartLaws → (file : List ℕ) → PiecesGiveFile file
@@ -162,31 +163,13 @@ pieces_give_file laws file o ps end is found h n r = parts_from laws file o end 
 
 -- one instance more
 
-pub data Place (is earlier later : List Instance) (i j : Instance) : Type 0 where
-  last : is ≡ earlier → i ≡ j → Place is earlier later i j
-  before : (m : List Instance) → is ≡ earlier ++ j ∷ m → Place is earlier later i j
-
-place_behind : (x y : Instance) (is earlier later : List Instance) (i j : Instance) → x ≡ y → Place is earlier later i j → Place (x ∷ is) (y ∷ earlier) later i j
-place_behind x y is earlier later i j e (last p q) = last (ap (λ l. x ∷ l) p ∙ ap (λ z. z ∷ earlier) e) q
-place_behind x y is earlier later i j e (before m p) = before m (ap (λ l. x ∷ l) p ∙ ap (λ z. z ∷ (earlier ++ j ∷ m)) e)
-
-place_of : (is earlier later : List Instance) (i j : Instance) → is ++ i ∷ [] ≡ earlier ++ j ∷ later → Place is earlier later i j
-place_of [] [] later i j e = last refl (cc)
-place_of [] (y ∷ []) later i j e = absurd (cc)
-place_of [] (y ∷ z ∷ earlier) later i j e = absurd (cc)
-place_of (x ∷ is) [] later i j e = before is (let f : x ≡ j = cc in ap (λ z. z ∷ is) f)
-place_of (x ∷ is) (y ∷ earlier) later i j e =
-    let f : x ≡ y = cc in
-    let g : is ++ i ∷ [] ≡ earlier ++ j ∷ later = cc in
-    place_behind x y is earlier later i j f (place_of is earlier later i j g)
-
-faultless_more : (s : Schema) (is : List Instance) (i : Instance) → AreFaultless s is → IsInstanceFault s is i None → AreFaultless s (is ++ i ∷ [])
+faultless_more : (s : Schema) (is : List Instance) (i : Instance) → HaveNoFault s is → IsInstanceFault s is i None → HaveNoFault s (is ++ i ∷ [])
 faultless_more s is i h own = λ earlier later j e. by_place earlier later j (place_of is earlier later i j e) where
   by_place : (earlier later : List Instance) (j : Instance) → Place is earlier later i j → IsInstanceFault s earlier j None
-  by_place earlier later j (last p q) = subst (λ x. IsInstanceFault s x j None) p (subst (λ x. IsInstanceFault s is x None) q own)
-  by_place earlier later j (before m p) = h earlier m j p
+  by_place earlier later j (places.last p q) = subst (λ x. IsInstanceFault s x j None) p (subst (λ x. IsInstanceFault s is x None) q own)
+  by_place earlier later j (places.before m p) = h earlier m j p
 
-pub none_faultless : (s : Schema) → AreFaultless s []
+pub none_faultless : (s : Schema) → HaveNoFault s []
 none_faultless s = λ earlier later i e. nothing earlier later i e where
   nothing : (earlier later : List Instance) (i : Instance) → [] ≡ earlier ++ i ∷ later → IsInstanceFault s earlier i None
   nothing [] later i e = absurd (cc)
@@ -196,24 +179,10 @@ none_faultless s = λ earlier later i e. nothing earlier later i e where
 
 pub read_on : PartLaws → (s : Schema) (file : List ℕ) (o : Opening) (is : List Instance) (place number next : ℕ) (p : Piece) (i : Instance) → IsReadUpTo s file o is place → IsNext file place number (plain_piece p) next → IsPieceText p i → IsInstanceFault s is i None → IsReadUpTo s file o (is ++ i ∷ []) next
 read_on laws s file o is place number next p i r n h own =
-    let w = piece_whole laws file place number next p i n h in
-    record { begins = begins_more file o is place next w.0 i r.begins w.1 w.2; faultless = faultless_more s is i r.faultless own }
-
-pub piece_fault : PartLaws → (s : Schema) (file : List ℕ) (o : Opening) (is : List Instance) (place number next : ℕ) (p : Piece) (f : Fault) → IsReadUpTo s file o is place → IsHeaderFault s o None → IsNext file place number (plain_piece p) next → HasPieceFault p f ⊎ HasInstanceFault s is p f → IsLocalFault s file f
-piece_fault laws s file o is place number next p f r g n (inl h) = fault.behind_instances (piece_stops laws file o is place number next p f r.begins n h) g r.faultless
-piece_fault laws s file o is place number next p f r g n (inr h) =
-    let w = piece_whole laws file place number next p h.instance n h.is_piece in
-    let own : IsLocalFault s file (record { kind = f.kind; at = h.instance.at }) = fault.in_instance (begins_more file o is place next w.0 h.instance r.begins w.1 w.2) g r.faultless h.is_fault in
-    subst (λ x. IsLocalFault s file (record { kind = f.kind; at = x })) (sym h.place) own
+    record { begins = begins_on laws file o is place number next p i r.begins n h; faultless = faultless_more s is i r.faultless own }
 
 pub file_read : PartLaws → (s : Schema) (file : List ℕ) (o : Opening) (is : List Instance) (end : ℕ) → EndsBehind s file o is end → IsHeaderFault s o None → HasTail file end → HasNoLocalFault s file is
 file_read laws s file o is end h g t = record { opening = o; is_file = tail_whole laws file o is h.0 h.1 end h.2.begins h.3 t; header = g; faultless = h.2.faultless }
 
-pub tail_fault : PartLaws → (s : Schema) (file : List ℕ) (o : Opening) (is : List Instance) (end : ℕ) (f : Fault) → EndsBehind s file o is end → IsHeaderFault s o None → HasFault tails file end f → IsLocalFault s file f
+pub tail_fault : PartLaws → (s : Schema) (file : List ℕ) (o : Opening) (is : List Instance) (end : ℕ) (f : Fault) → EndsBehind s file o is end → IsHeaderFault s o None → HasFault tails file end f → IsLocalFaultOfFile s file f
 tail_fault laws s file o is end f h g t = fault.behind_instances (tail_stops laws file o is h.0 h.1 end f h.2.begins h.3 t) g h.2.faultless
-
--- what a piece that was not joined says of the file
-pub stop_of_piece : PartLaws → (s : Schema) (file : List ℕ) (o : Opening) (old new : List RawInstance) (place number next : ℕ) (p : Piece) (e : Stop) → IsReadUpTo s file o (plain_instances old) place → IsHeaderFault s o None → IsNext file place number (plain_piece p) next
-    → JoinsPiece s old p (Err e) new → OnFault e (IsLocalFault s file)
-stop_of_piece laws s file o old new place number next p (stop.Fault f) r g n h = piece_fault laws s file o (plain_instances old) place number next p f r g n h
-stop_of_piece laws s file o old new place number next p stop.Memory r g n h = tt

@@ -11,7 +11,7 @@ use Rattle.p21_tree.specs.Views.{plain_instance}
 use Rattle.p21_check.specs.LocalFault.{IsLocalFault}
 use Rattle.p21_check.specs.References.{IsReferenceFault, named_in}
 use Rattle.p21_join.specs.Model.{plain_instances}
-use Rattle.p21_reader.specs.InstanceFault.{IsInstanceFault, AreFaultless}
+use Rattle.p21_reader.specs.InstanceFault.{IsInstanceFault, HaveNoFault}
 use Rattle.p21_reader.specs.InstanceFault as fault
 use Rattle.p21_reader.specs.Reading.{IsFirstReferenceFault}
 
@@ -35,7 +35,7 @@ plain_there is items k i h =
 none_alone : (s : Schema) (earlier : List Instance) (i : Instance) → IsInstanceFault s earlier i None → IsLocalFault s i None
 none_alone s earlier i (fault.alone new own) = own
 
-pub no_local_fault : (s : Schema) (is items : List RawInstance) (k : ℕ) (i : RawInstance) → AreFaultless s (plain_instances is) → At is items k i → IsLocalFault s (plain_instance i) None
+pub no_local_fault : (s : Schema) (is items : List RawInstance) (k : ℕ) (i : RawInstance) → HaveNoFault s (plain_instances is) → At is items k i → IsLocalFault s (plain_instance i) None
 no_local_fault s is items k i h at =
     let all = plain_instances is in
     let p = plain_there is items k i at in

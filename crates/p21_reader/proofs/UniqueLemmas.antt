@@ -13,10 +13,10 @@ use Rattle.p21_tree.specs.Texts.{fault_kind, IsFileText, HasFault, HasPrefaceFau
 use Rattle.p21_check.specs.Laws.{HasOneHeaderFault, HasOneLocalFault, HasOneReferenceFault}
 use Rattle.p21_check.specs.Header.{IsHeaderFault}
 use Rattle.p21_check.specs.References.{IsReferenceFault, named_in}
-use Rattle.p21_reader.specs.GrammarOutcome.{BeginsWith, StopsBehind}
-use Rattle.p21_reader.specs.InstanceFault.{IsInstanceFault, AreFaultless}
+use Rattle.p21_reader.specs.GrammarOutcome.{FileBeginsWith, FileStopsBehind}
+use Rattle.p21_reader.specs.InstanceFault.{IsInstanceFault, HaveNoFault}
 use Rattle.p21_reader.specs.InstanceFault as own
-use Rattle.p21_reader.specs.LocalFault.{IsLocalFault, HasNoLocalFault}
+use Rattle.p21_reader.specs.LocalFault.{IsOpeningFault, IsLocalFaultOfFile, HasNoLocalFault}
 use Rattle.p21_reader.specs.LocalFault as fault
 use Rattle.p21_reader.specs.Reading.{AreAnswered, IsFirstReferenceFault, IsReading}
 use Rattle.p21_reader.specs.Reading as reading
@@ -76,7 +76,7 @@ module _ (laws : Laws) where
   instance_same s earlier i a b (own.alone n h) (own.alone m k) = laws.alone s i a b h k
 
   -- a faulty instance stands among no faultless ones
-  among_faultless : (s : Schema) (is earlier later : List Instance) (i : Instance) (k : FaultKind) → AreFaultless s is → is ≡ earlier ++ i ∷ later → IsInstanceFault s earlier i (Some k) → ⊥
+  among_faultless : (s : Schema) (is earlier later : List Instance) (i : Instance) (k : FaultKind) → HaveNoFault s is → is ≡ earlier ++ i ∷ later → IsInstanceFault s earlier i (Some k) → ⊥
   among_faultless s is earlier later i k h e f = some_apart k (instance_same s earlier i (Some k) None f (h earlier later i e))
 
   -- The grammar fault of a file.
@@ -102,19 +102,19 @@ module _ (laws : Laws) where
 
   -- Faults of different parts of a file exclude each other.
 
-  header_apart : (s : Schema) (file : List ℕ) (o u : Opening) (is js : List Instance) (p q : ℕ) (k : FaultKind) → BeginsWith file o is p → IsHeaderFault s o (Some k) → BeginsWith file u js q → IsHeaderFault s u None → ⊥
+  header_apart : (s : Schema) (file : List ℕ) (o u : Opening) (is js : List Instance) (p q : ℕ) (k : FaultKind) → FileBeginsWith file o is p → IsHeaderFault s o (Some k) → FileBeginsWith file u js q → IsHeaderFault s u None → ⊥
   header_apart s file o u is js p q k b h d g =
       let openings : o ≡ u = (beginnings laws.sentences file o u is js p q b d).0 in
       some_apart k (laws.header s u (Some k) None (subst (λ x. IsHeaderFault s x (Some k)) openings h) g)
 
   -- of all whole instances one with a fault is one
-  instance_apart : (s : Schema) (file : List ℕ) (o u : Opening) (earlier is : List Instance) (i : Instance) (p : ℕ) (k : FaultKind) → BeginsWith file o (earlier ++ i ∷ []) p → IsInstanceFault s earlier i (Some k) → HasAll file u is → AreFaultless s is → ⊥
+  instance_apart : (s : Schema) (file : List ℕ) (o u : Opening) (earlier is : List Instance) (i : Instance) (p : ℕ) (k : FaultKind) → FileBeginsWith file o (earlier ++ i ∷ []) p → IsInstanceFault s earlier i (Some k) → HasAll file u is → HaveNoFault s is → ⊥
   instance_apart s file o u earlier is i p k b f all h = by_end (beginnings laws.sentences file o u (earlier ++ i ∷ []) is p all.end b all.begins).1 where
     by_end : Goes file all.end (earlier ++ i ∷ []) is → ⊥
     by_end (within m e) = among_faultless s is earlier m i k h (e ∙ append_assoc earlier (i ∷ []) m) f
     by_end (beyond j m e at) = all.no_more j at
 
-  instance_fault_same : (s : Schema) (earlier front : List Instance) (i j : Instance) (x y : FaultKind) → AreFaultless s earlier → IsInstanceFault s earlier i (Some x) → AreFaultless s front → IsInstanceFault s front j (Some y) → Places earlier i front j → (x ≡ y) × (i.at ≡ j.at)
+  instance_fault_same : (s : Schema) (earlier front : List Instance) (i j : Instance) (x y : FaultKind) → HaveNoFault s earlier → IsInstanceFault s earlier i (Some x) → HaveNoFault s front → IsInstanceFault s front j (Some y) → Places earlier i front j → (x ≡ y) × (i.at ≡ j.at)
   instance_fault_same s earlier front i j x y h f g k (same d e) =
       let moved : IsInstanceFault s front j (Some x) = subst (λ z. IsInstanceFault s front z (Some x)) e (subst (λ z. IsInstanceFault s z i (Some x)) d f) in
       (some_same x y (instance_same s front j (Some x) (Some y) moved k), ap (λ z. z.at) e)
@@ -122,7 +122,7 @@ module _ (laws : Laws) where
   instance_fault_same s earlier front i j x y h f g k (behind m e) = absurd (among_faultless s earlier front m j y h e k)
 
   -- the first faulty instance of two beginnings of a file is one
-  first_faulty : (s : Schema) (file : List ℕ) (o u : Opening) (earlier front : List Instance) (i j : Instance) (p q : ℕ) (x y : FaultKind) → BeginsWith file o (earlier ++ i ∷ []) p → AreFaultless s earlier → IsInstanceFault s earlier i (Some x) → BeginsWith file u (front ++ j ∷ []) q → AreFaultless s front → IsInstanceFault s front j (Some y) → (x ≡ y) × (i.at ≡ j.at)
+  first_faulty : (s : Schema) (file : List ℕ) (o u : Opening) (earlier front : List Instance) (i j : Instance) (p q : ℕ) (x y : FaultKind) → FileBeginsWith file o (earlier ++ i ∷ []) p → HaveNoFault s earlier → IsInstanceFault s earlier i (Some x) → FileBeginsWith file u (front ++ j ∷ []) q → HaveNoFault s front → IsInstanceFault s front j (Some y) → (x ≡ y) × (i.at ≡ j.at)
   first_faulty s file o u earlier front i j p q x y b h f d g k = by_end (beginnings laws.sentences file o u (earlier ++ i ∷ []) (front ++ j ∷ []) p q b d).1 where
     by_end : Goes file q (earlier ++ i ∷ []) (front ++ j ∷ []) → (x ≡ y) × (i.at ≡ j.at)
     by_end (within m e) = instance_fault_same s earlier front i j x y h f g k (places earlier i m front j [] (sym (e ∙ append_assoc earlier (i ∷ []) m)))
@@ -133,36 +133,39 @@ module _ (laws : Laws) where
   preface_grammar : (file : List ℕ) (f : Fault) → HasPrefaceFault file f → HasFault files file 0 f
   preface_grammar file f h = record { before = h.before; place = h.place; token = h.token; kind = h.kind; tokens = h.tokens; next = h.next; is_fault = h.of_file; kind_is = h.kind_is }
 
-  stop_grammar : (file : List ℕ) (o : Opening) (is : List Instance) (f : Fault) → StopsBehind file o is f → HasFault files file 0 f
+  stop_grammar : (file : List ℕ) (o : Opening) (is : List Instance) (f : Fault) → FileStopsBehind file o is f → HasFault files file 0 f
   stop_grammar file o is f h = record { before = h.opening ++ (h.body ++ h.front); place = h.place; token = h.token; kind = h.kind; tokens = h.tokens; next = h.next; is_fault = h.stops.is_fault; kind_is = h.kind_is }
 
-  local_same : (s : Schema) (file : List ℕ) (f g : Fault) → IsLocalFault s file f → IsLocalFault s file g → f ≡ g
-  local_same s file f g (fault.in_preface h) (fault.in_preface k) = grammar_same file f g (preface_grammar file f h) (preface_grammar file g k)
-  local_same s file f g (fault.in_preface h) (fault.in_header {o = u} d y) = absurd (no_preface file f u [] u.data_at h (begins_opening file u d))
-  local_same s file f g (fault.in_preface h) (fault.in_instance {o = u} {earlier = js} {i = j} {place = q} d y ys k) = absurd (no_preface file f u (js ++ j ∷ []) q h d)
-  local_same s file f g (fault.in_preface h) (fault.behind_instances {o = u} {is = js} d y ys) = (let all = all_of_stop file u js g d in absurd (no_preface file f u js all.end h all.begins))
-  local_same s file f g (fault.in_header {o} b x) (fault.in_preface k) = absurd (no_preface file g o [] o.data_at k (begins_opening file o b))
-  local_same s file f g (fault.in_header {o} {kind = m} b x) (fault.in_header {o = u} {kind = n} d y) =
+  -- a file with a fault before its instances begins with no preface whose header has none
+  pub opening_apart : (s : Schema) (file : List ℕ) (f : Fault) (o : Opening) (is : List Instance) (place : ℕ) → IsOpeningFault s file f → FileBeginsWith file o is place → IsHeaderFault s o None → ⊥
+  opening_apart s file f o is place (fault.in_preface h) b x = no_preface file f o is place h b
+  opening_apart s file f o is place (fault.in_header {o = u} {kind} d y) b x = header_apart s file u o [] is u.data_at place kind (begins_opening file u d) y b x
+
+  opening_same : (s : Schema) (file : List ℕ) (f g : Fault) → IsOpeningFault s file f → IsOpeningFault s file g → f ≡ g
+  opening_same s file f g (fault.in_preface h) (fault.in_preface k) = grammar_same file f g (preface_grammar file f h) (preface_grammar file g k)
+  opening_same s file f g (fault.in_preface h) (fault.in_header {o = u} d y) = absurd (no_preface file f u [] u.data_at h (begins_opening file u d))
+  opening_same s file f g (fault.in_header {o} b x) (fault.in_preface k) = absurd (no_preface file g o [] o.data_at k (begins_opening file o b))
+  opening_same s file f g (fault.in_header {o} {kind = m} b x) (fault.in_header {o = u} {kind = n} d y) =
       let openings : o ≡ u = (beginnings laws.sentences file o u [] [] o.data_at u.data_at (begins_opening file o b) (begins_opening file u d)).0 in
       let kinds : m ≡ n = some_same m n (laws.header s u (Some m) (Some n) (subst (λ z. IsHeaderFault s z (Some m)) openings x) y) in
       fault_is f g kinds (ap (λ z. z.header_at) openings)
-  local_same s file f g (fault.in_header {o} {kind = m} b x) (fault.in_instance {o = u} {earlier = js} {i = j} {place = q} d y ys k) = absurd (header_apart s file o u [] (js ++ j ∷ []) o.data_at q m (begins_opening file o b) x d y)
-  local_same s file f g (fault.in_header {o} {kind = m} b x) (fault.behind_instances {o = u} {is = js} d y ys) = (let all = all_of_stop file u js g d in absurd (header_apart s file o u [] js o.data_at all.end m (begins_opening file o b) x all.begins y))
-  local_same s file f g (fault.in_instance {o} {earlier = is} {i} {place = p} b x xs h) (fault.in_preface k) = absurd (no_preface file g o (is ++ i ∷ []) p k b)
-  local_same s file f g (fault.in_instance {o} {earlier = is} {i} {place = p} b x xs h) (fault.in_header {o = u} {kind = n} d y) = absurd (header_apart s file u o [] (is ++ i ∷ []) u.data_at p n (begins_opening file u d) y b x)
+
+  local_same : (s : Schema) (file : List ℕ) (f g : Fault) → IsLocalFaultOfFile s file f → IsLocalFaultOfFile s file g → f ≡ g
+  local_same s file f g (fault.in_opening h) (fault.in_opening k) = opening_same s file f g h k
+  local_same s file f g (fault.in_opening h) (fault.in_instance {o = u} {earlier = js} {i = j} {place = q} d y ys k) = absurd (opening_apart s file f u (js ++ j ∷ []) q h d y)
+  local_same s file f g (fault.in_opening h) (fault.behind_instances {o = u} {is = js} d y ys) = (let all = all_of_stop file u js g d in absurd (opening_apart s file f u js all.end h all.begins y))
+  local_same s file f g (fault.in_instance {o} {earlier = is} {i} {place = p} b x xs h) (fault.in_opening k) = absurd (opening_apart s file g o (is ++ i ∷ []) p k b x)
   local_same s file f g (fault.in_instance {o} {earlier = is} {i} {place = p} {kind = m} b x xs h) (fault.in_instance {o = u} {earlier = js} {i = j} {place = q} {kind = n} d y ys k) =
       let one = first_faulty s file o u is js i j p q m n b xs h d ys k in
       fault_is f g one.0 one.1
   local_same s file f g (fault.in_instance {o} {earlier = is} {i} {place = p} {kind = m} b x xs h) (fault.behind_instances {o = u} {is = js} d y ys) = absurd (instance_apart s file o u is js i p m b h (all_of_stop file u js g d) ys)
-  local_same s file f g (fault.behind_instances {o} {is} b x xs) (fault.in_preface k) = (let all = all_of_stop file o is f b in absurd (no_preface file g o is all.end k all.begins))
-  local_same s file f g (fault.behind_instances {o} {is} b x xs) (fault.in_header {o = u} {kind = n} d y) = (let all = all_of_stop file o is f b in absurd (header_apart s file u o [] is u.data_at all.end n (begins_opening file u d) y all.begins x))
+  local_same s file f g (fault.behind_instances {o} {is} b x xs) (fault.in_opening k) = (let all = all_of_stop file o is f b in absurd (opening_apart s file g o is all.end k all.begins x))
   local_same s file f g (fault.behind_instances {o} {is} b x xs) (fault.in_instance {o = u} {earlier = js} {i = j} {place = q} {kind = n} d y ys k) = absurd (instance_apart s file u o js is j q n d k (all_of_stop file o is f b) xs)
   local_same s file f g (fault.behind_instances {o} {is} b x xs) (fault.behind_instances {o = u} {is = js} d y ys) = grammar_same file f g (stop_grammar file o is f b) (stop_grammar file u js g d)
 
   -- a file with a local fault is no file without one
-  local_apart : (s : Schema) (file : List ℕ) (is : List Instance) (f : Fault) → HasNoLocalFault s file is → IsLocalFault s file f → ⊥
-  local_apart s file is f w (fault.in_preface h) = (let all = all_of_file file w.opening is w.is_file in no_preface file f w.opening is all.end h all.begins)
-  local_apart s file is f w (fault.in_header {o} {kind} b x) = (let all = all_of_file file w.opening is w.is_file in header_apart s file o w.opening [] is o.data_at all.end kind (begins_opening file o b) x all.begins w.header)
+  local_apart : (s : Schema) (file : List ℕ) (is : List Instance) (f : Fault) → HasNoLocalFault s file is → IsLocalFaultOfFile s file f → ⊥
+  local_apart s file is f w (fault.in_opening h) = (let all = all_of_file file w.opening is w.is_file in opening_apart s file f w.opening is all.end h all.begins w.header)
   local_apart s file is f w (fault.in_instance {o} {earlier} {i} {place} {kind} b x xs h) = instance_apart s file o w.opening earlier is i place kind b h (all_of_file file w.opening is w.is_file) w.faultless
   local_apart s file is f w (fault.behind_instances {o} {is = js} b x xs) = not_whole file w.opening is f w.is_file (stop_grammar file o js f b)
 

@@ -9,7 +9,7 @@ use Rattle.p21_tree.specs.InOrder.{StopsAt}
 use Rattle.p21_tree.specs.Texts.{fault_kind, IsFileText, IsPieceText, HasTail, HasFault, HasPieceFault}
 
 -- The file begins with this preface and, one after the other behind it, these whole instances, up to a place.
-pub record BeginsWith (file : List ℕ) (o : Opening) (is : List Instance) (place : ℕ) : Type 0 where
+pub record FileBeginsWith (file : List ℕ) (o : Opening) (is : List Instance) (place : ℕ) : Type 0 where
   pub opening : List Placed
   pub body : List Placed
   pub tokens : TokensUpTo file 0 (opening ++ body) place
@@ -18,7 +18,7 @@ pub record BeginsWith (file : List ℕ) (o : Opening) (is : List Instance) (plac
 
 -- The first grammar fault of the file stands behind this preface and these whole instances, and no further instance
 -- stands whole before it.
-pub record StopsBehind (file : List ℕ) (o : Opening) (is : List Instance) (fault : Fault) : Type 0 where
+pub record FileStopsBehind (file : List ℕ) (o : Opening) (is : List Instance) (fault : Fault) : Type 0 where
   pub opening : List Placed
   pub body : List Placed
   pub front : List Placed
@@ -42,4 +42,4 @@ pub data ReadsParts (file : List ℕ) (end : ℕ) : List Piece → List Instance
 -- The file is this preface and these instances; or it has this grammar fault, and these stand whole before it.
 abbrev pub IsOutcomeOf : List ℕ → Opening → List Instance → Option Fault → Type 0
 IsOutcomeOf file o is None = IsFileText file o is
-IsOutcomeOf file o is (Some f) = HasFault files file 0 f × StopsBehind file o is f
+IsOutcomeOf file o is (Some f) = HasFault files file 0 f × FileStopsBehind file o is f

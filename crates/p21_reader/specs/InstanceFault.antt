@@ -10,11 +10,16 @@ use Rattle.p21_check.specs.LocalFault.{IsLocalFault}
 abbrev pub IsRepeated : List Instance → Instance → Type 0
 IsRepeated earlier i = (other : Instance) × Contains earlier other × (other.name ≡ i.name)
 
--- The fault of an instance behind earlier ones is that its name is repeated, and else the fault that it has by itself.
-pub data IsInstanceFault (s : Schema) (earlier : List Instance) (i : Instance) : Option FaultKind → Type 0 where
-  repeated : IsRepeated earlier i → IsInstanceFault s earlier i (Some kind.DuplicateName)
-  alone : {fault : Option FaultKind} → ¬ (IsRepeated earlier i) → IsLocalFault s i fault → IsInstanceFault s earlier i fault
+-- The fault of an instance behind earlier ones is that its name is repeated, and else the fault that it has by itself, if it
+-- has one. `Own` says which that is.
+pub data IsFaultAmong (Own : Option FaultKind → Type 0) (earlier : List Instance) (i : Instance) : Option FaultKind → Type 0 where
+  repeated : IsRepeated earlier i → IsFaultAmong Own earlier i (Some kind.DuplicateName)
+  alone : {fault : Option FaultKind} → ¬ (IsRepeated earlier i) → Own fault → IsFaultAmong Own earlier i fault
+
+-- the same by its local fault against a schema
+abbrev pub IsInstanceFault : Schema → List Instance → Instance → Option FaultKind → Type 0
+IsInstanceFault s earlier i fault = IsFaultAmong (IsLocalFault s i) earlier i fault
 
 -- none of the instances of a file has a fault
-abbrev pub AreFaultless : Schema → List Instance → Type 0
-AreFaultless s is = (earlier later : List Instance) (i : Instance) → is ≡ earlier ++ i ∷ later → IsInstanceFault s earlier i None
+abbrev pub HaveNoFault : Schema → List Instance → Type 0
+HaveNoFault s is = (earlier later : List Instance) (i : Instance) → is ≡ earlier ++ i ∷ later → IsInstanceFault s earlier i None

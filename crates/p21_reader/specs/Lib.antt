@@ -1,7 +1,11 @@
 pub mod GrammarOutcome
 pub mod InstanceFault
 pub mod LocalFault
-pub mod Steps
 pub mod Reading
 pub mod Answer
+pub mod Values
+pub mod Steps
+pub mod Judged
+pub mod Gathering
+pub mod PiecesOf
 pub mod Laws

@@ -4,7 +4,7 @@ use Rattle.p21_express.specs.Schema.{Schema}
 use Rattle.p21_tree.specs.declared.faults.Fault.{Fault}
 use Rattle.p21_tree.specs.Sentence.{Instance}
 use Rattle.p21_check.specs.References.{IsReferenceFault, named_in}
-use Rattle.p21_reader.specs.LocalFault.{IsLocalFault, HasNoLocalFault}
+use Rattle.p21_reader.specs.LocalFault.{IsLocalFaultOfFile, HasNoLocalFault}
 
 -- each reference of these instances is answered, among all instances of the file, as it is wanted
 abbrev pub AreAnswered : Schema → (all : List Instance) → List Instance → Type 0
@@ -22,6 +22,6 @@ pub record IsFirstReferenceFault (s : Schema) (all : List Instance) (f : Fault) 
 
 -- The reading of a file is its local fault; else its first reference fault; else its instances in their order.
 pub data IsReading (s : Schema) (file : List ℕ) : Result (List Instance) Fault → Type 0 where
-  local : {f : Fault} → IsLocalFault s file f → IsReading s file (Err f)
+  local : {f : Fault} → IsLocalFaultOfFile s file f → IsReading s file (Err f)
   reference : {is : List Instance} {f : Fault} → HasNoLocalFault s file is → IsFirstReferenceFault s is f → IsReading s file (Err f)
   read : {is : List Instance} → HasNoLocalFault s file is → AreAnswered s is is → IsReading s file (Ok is)

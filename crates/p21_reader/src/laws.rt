@@ -2,12 +2,14 @@
 
 ghost use Rattle.std.specs.Prelude.{ℕ, List};
 ghost use Rattle.p21_express.specs.Schema.{Schema};
-ghost use Rattle.p21_reader.specs.Laws.{HasOneReadingAtMost, PiecesGiveFile};
+ghost use Rattle.p21_reader.specs.Laws.{HasOneReadingAtMost, PiecesAreInstances, PiecesGiveFile, PiecesOfFileAreInstances, ValuesGiveReading};
 
 use p21_check::{one_header_fault, one_local_fault, one_reference_fault};
-use p21_cut::first_tokens_of_file;
+use p21_cut::{first_tokens_of_file, tokens_of_next_piece};
 use p21_text::tokens_are_unique;
-use p21_tree::{faults_of_tokens, one_beginning, one_fault_at_most, one_tree, parts_up_to_fault};
+use p21_tree::{
+    faults_of_tokens, one_beginning, one_fault_at_most, one_semicolon, one_tree, parts_up_to_fault,
+};
 
 /// A file has at most one reading against a schema.
 pub fn one_reading()
@@ -30,4 +32,25 @@ pub fn pieces_in_order()
 {
     first_tokens_of_file();
     parts_up_to_fault();
+}
+
+/// Behind a preface whose header has no fault, the answer to what the pieces of a file are by themselves is the reading of the
+/// file: the first fault of the pieces, else that of the tail, else the first reference fault, else the instances.
+pub fn values_give_reading()
+    ensures { (s : Schema) → (file : List ℕ) → ValuesGiveReading s file }
+{
+    first_tokens_of_file();
+    parts_up_to_fault();
+}
+
+/// The pieces of a file that is a sentence are its instances, one by one in their order, and its tail stands behind them: those
+/// behind its preface, and so those of the file against a schema, where no fault stands before the instances.
+pub fn pieces_are_instances()
+    ensures behind_preface { (file : List ℕ) → PiecesAreInstances file }
+    ensures of_file { (s : Schema) → (file : List ℕ) → PiecesOfFileAreInstances s file }
+{
+    tokens_of_next_piece();
+    one_semicolon();
+    one_tree();
+    one_beginning();
 }

@@ -1,6 +1,8 @@
 //! The reading of a whole file against a schema: the list of its instances, or its first fault.
 #![tactic(auto)]
 
+mod gathering;
+mod judged;
 mod laws;
 mod local;
 mod reading;
@@ -11,6 +13,7 @@ mod stop;
 #[cfg(test)]
 mod tests;
 
-pub use laws::{one_reading, pieces_in_order};
+pub use judged::{Judge, Judged, LocalReader};
+pub use laws::{one_reading, pieces_are_instances, pieces_in_order, values_give_reading};
 pub use reading::{ReadError, Reading};
 pub use serial::read_serial;

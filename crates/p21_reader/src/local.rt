@@ -1,24 +1,23 @@
 //! The instances of a file without a local fault, or that fault.
 
-ghost use Rattle.std.specs.Prelude.{◌≡◌, ◌≤◌, ℕ, [], length, IfOk, IfErr, OnOk, None};
+ghost use Rattle.std.specs.Prelude.{◌≤◌, length, IfOk, IfErr, None};
 ghost use Rattle.p21_tree.specs.Views.{plain_preface};
 ghost use Rattle.p21_tree.specs.Texts.{BeginsPreface};
 ghost use Rattle.p21_check.specs.EntityOf.{AreSimpleEntities};
 ghost use Rattle.p21_check.specs.Header.{IsHeaderFault};
-ghost use Rattle.p21_cut.specs.Pieces.{PiecesAre};
 ghost use Rattle.p21_join.specs.Joined.{joined};
-ghost use Rattle.p21_reader.specs.LocalFault.{IsLocalFault, HasNoLocalFault};
-ghost use Rattle.p21_reader.specs.Steps.{EndsBehind, IsReadUpTo, JoinsPiece, OnFault};
+ghost use Rattle.p21_reader.specs.LocalFault.{IsOpeningFault, IsLocalFaultOfFile, HasNoLocalFault};
+ghost use Rattle.p21_reader.specs.Steps.{EndsBehind, OnFault};
 ghost use Rattle.p21_join.specs.Model.{instances_of, plain_instances};
 
+use crate::gathering::add_value;
+use crate::judged::judge_local;
 use crate::stop::Stop;
-use p21_check::{check_header, check_local_entity};
+use p21_check::check_header;
 use p21_cut::{Cut, Cutter, first_tokens_of_file};
-use p21_join::{JoinError, Joiner, Model};
+use p21_join::{Joiner, Model};
 use p21_schema::{EntityId, Schema};
-use p21_tree::{
-    Fault, FaultKind, InstanceReader, Piece, Preface, parts_up_to_fault, read_preface, read_tail,
-};
+use p21_tree::{Fault, InstanceReader, Preface, parts_up_to_fault, read_preface, read_tail};
 use std::alloc::Global;
 
 /// The instances of a file that has no local fault, and the entity of each; else that fault.
@@ -29,7 +28,7 @@ pub(crate) fn local_model<'a>(
 ) -> Result<(Model<'a>, Vec<Option<EntityId>>), Stop>
     ensures ok { IfOk result (λ r. HasNoLocalFault schema.now file.now (plain_instances (instances_of r.0))) }
     ensures entities { IfOk result (λ r. AreSimpleEntities schema.now (plain_instances (instances_of r.0)) r.1.items) }
-    ensures fault { IfErr result (λ stop. OnFault stop (IsLocalFault schema.now file.now)) }
+    ensures fault { IfErr result (λ stop. OnFault stop (IsLocalFaultOfFile schema.now file.now)) }
 {
     first_tokens_of_file();
     parts_up_to_fault();
@@ -44,7 +43,7 @@ fn checked_preface<'a>(alloc: Global, schema: &Schema, file: &'a [u8]) -> Result
     ensures begins { IfOk result (λ preface. BeginsPreface file.now (plain_preface preface)) }
     ensures within { IfOk result (λ preface. preface.data_at ≤ length file.now) }
     ensures header { IfOk result (λ preface. IsHeaderFault schema.now (plain_preface preface) None) }
-    ensures fault { IfErr result (λ stop. OnFault stop (IsLocalFault schema.now file.now)) }
+    ensures fault { IfErr result (λ stop. OnFault stop (IsOpeningFault schema.now file.now)) }
 {
     let preface = read_preface(alloc, file)?;
     match check_header(schema, &preface) {
@@ -69,7 +68,7 @@ fn join_pieces<'a>(
     ensures ok { IfOk result (λ r. EndsBehind schema.now file.now (plain_preface preface.now) (plain_instances (joined r.0)) r.2) }
     ensures entities { IfOk result (λ r. AreSimpleEntities schema.now (plain_instances (joined r.0)) r.1.items) }
     ensures within { IfOk result (λ r. r.2 ≤ length file.now) }
-    ensures fault { IfErr result (λ stop. OnFault stop (IsLocalFault schema.now file.now)) }
+    ensures fault { IfErr result (λ stop. OnFault stop (IsLocalFaultOfFile schema.now file.now)) }
 {
     first_tokens_of_file();
     parts_up_to_fault();
@@ -80,40 +79,10 @@ fn join_pieces<'a>(
     loop {
         match cutter.next() {
             Cut::Piece(piece) => {
-                join_piece(&mut reader, schema, &mut joiner, &mut entities, piece)?
+                let judgement = judge_local(schema, &mut reader, piece)?;
+                add_value(&mut joiner, &mut entities, judgement)?;
             }
             Cut::Tail(at) => return Ok((joiner, entities, at as usize)),
         }
-    }
-}
-
-/// Joins the instance that a piece is, where it has no fault, and puts its entity behind those of the others.
-fn join_piece<'a>(
-    reader: &mut InstanceReader<'a>,
-    schema: &Schema,
-    joiner: &mut Joiner<'a>,
-    entities: &mut Vec<Option<EntityId>>,
-    piece: Piece<'a>,
-) -> Result<(), Stop>
-    requires { AreSimpleEntities schema.now (plain_instances (joined joiner.now)) entities.now.items }
-    ensures joins { JoinsPiece schema.now (joined joiner.old) piece.entry result (joined joiner.new) }
-    ensures entities { OnOk result (AreSimpleEntities schema.now (plain_instances (joined joiner.new)) entities.new.items) }
-{
-    let instance = reader.read(piece)?;
-    let at = instance.at;
-    let checked = check_local_entity(schema, &instance);
-    match joiner.add(instance) {
-        Ok(()) => match checked {
-            Ok(entity) => {
-                entities.push(entity)?;
-                Ok(())
-            }
-            Err(kind) => Err(Stop::Fault(Fault { kind, at })),
-        },
-        Err(JoinError::Duplicate(_)) => Err(Stop::Fault(Fault {
-            kind: FaultKind::DuplicateName,
-            at,
-        })),
-        Err(JoinError::Memory(_)) => Err(Stop::Memory),
     }
 }

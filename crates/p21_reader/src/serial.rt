@@ -4,7 +4,7 @@ ghost use Rattle.std.specs.Prelude.{◌≡◌, IfOk, OnOk, IfErr};
 ghost use Rattle.p21_check.specs.EntityOf.{AreSimpleEntities};
 ghost use Rattle.p21_join.specs.Model.{instances_of, plain_instances};
 ghost use Rattle.p21_reader.specs.Answer.{plain_answer};
-ghost use Rattle.p21_reader.specs.InstanceFault.{AreFaultless};
+ghost use Rattle.p21_reader.specs.InstanceFault.{HaveNoFault};
 ghost use Rattle.p21_reader.specs.Reading.{AreAnswered, IsFirstReferenceFault, IsReading};
 ghost use Rattle.p21_reader.specs.Steps.{OnFault};
 
@@ -55,7 +55,7 @@ fn references(
     model: &Model<'_>,
     entities: Vec<Option<EntityId>>,
 ) -> Result<(), Fault>
-    requires faultless { AreFaultless schema.now (plain_instances (instances_of model.now)) }
+    requires faultless { HaveNoFault schema.now (plain_instances (instances_of model.now)) }
     requires entities { AreSimpleEntities schema.now (plain_instances (instances_of model.now)) entities.items }
     ensures ok { OnOk result (AreAnswered schema.now (plain_instances (instances_of model.now)) (plain_instances (instances_of model.now))) }
     ensures fault { IfErr result (λ fault. IsFirstReferenceFault schema.now (plain_instances (instances_of model.now)) fault) }

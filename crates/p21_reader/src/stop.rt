@@ -1,7 +1,7 @@
 //! Why a reading ends early.
 
 use p21_tree::{Fault, TreeError};
-use std::alloc::AllocFailed;
+use std::alloc::{AllocError, AllocFailed};
 
 /// Why a file gave no model.
 pub(crate) enum Stop {
@@ -9,6 +9,17 @@ pub(crate) enum Stop {
     Fault(Fault),
     /// There was no memory left.
     Memory,
+}
+
+impl From<AllocError> for Stop {
+    ghost use Rattle.p21_reader.specs.declared.stop.Stop.TheVariants.{Memory as MemoryVariant};
+    ghost use Rattle.std.specs.Prelude.{◌≡◌};
+
+    ghost from_gives = { λ _ e. e ≡ MemoryVariant };
+
+    fn from(_: AllocError) -> Stop {
+        Stop::Memory
+    }
 }
 
 impl<T: Drop> From<AllocFailed<T>> for Stop {

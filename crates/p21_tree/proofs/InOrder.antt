@@ -1,6 +1,6 @@
 -- Reading the parts of a file in order gives the tree or the fault of the file.
-use Rattle.std.proofs.Common.{◌≡◌, ◌≢◌, ◌⊎◌, inl, inr, ℕ, List, [], ◌∷◌, ◌++◌, refl, sym, ap, subst, ◌∙◌, append_assoc, append-nil}
-use Rattle.std.proofs.lemmas.List.Elements.{All-head, All-tail}
+use Rattle.std.proofs.Common.{◌≡◌, ◌≢◌, ◌⊎◌, inl, inr, ℕ, List, [], ◌∷◌, ◌++◌, refl, sym, ap, subst, ◌∙◌, append_assoc, append-nil, arith}
+use Rattle.std.proofs.lemmas.List.Elements.{All-cons, All-head, All-tail}
 use Rattle.p21_text.specs.Spelling.{Symbol}
 use Rattle.p21_text.specs.Spelling as token
 use Rattle.p21_text.specs.Tokens.{Placed, IsLast}
@@ -12,7 +12,7 @@ use Rattle.p21_tree.specs.Fault.{Kind, files, pieces, tails}
 use Rattle.p21_tree.specs.Languages.{Then, Either, Stuck}
 use Rattle.p21_tree.specs.Laws.{IsTokenList, FaultOf, SameFault}
 use Rattle.p21_tree.specs.Parts.{Is, Terminal, NameToken, Instances, Tails, IsBody, Bodies, Prefaces, Files, Pieces}
-use Rattle.p21_tree.specs.InOrder.{BeginsWithName, HasNoSemi, Joined, Outcome, read, stopped, behind, ReadsInOrder, StopsBehind, IsOutcome, PartsGiveFile}
+use Rattle.p21_tree.specs.InOrder.{BeginsWithName, HasNoSemi, InstanceHasOneSemi, Joined, Outcome, read, stopped, behind, ReadsInOrder, StopsBehind, IsOutcome, PartsGiveFile}
 use Rattle.p21_tree.specs.InOrder as parts
 use Rattle.p21_tree.proofs.LanguageLemmas.{FirstIs, stuck_first, stuck_second, stuck_same}
 use Rattle.p21_tree.proofs.Combined.{stuck_is_fault, stuck_many, starts_then}
@@ -71,6 +71,21 @@ ending l ts h =
       none = (λ f. let g : token.name h.first.fits.0 ≡ token.semi = sym h.first.fits.1 ∙ f in cc, (λ f. let g : token.equals ≡ token.semi = sym h.second.first.fits ∙ f in cc, avoids_form Semi semi_outer l form h.second.second.first));
       is_semi = h.second.second.second.fits;
     }
+
+none_of_semi : (ts : List Placed) → NoneOf Semi ts → HasNoSemi ts
+none_of_semi [] h = λ k d less. absurd (omega arith)
+none_of_semi (t ∷ ts) h = All-cons (λ (x : Placed). x.token ≢ token.semi) t ts h.0 (none_of_semi ts h.1)
+
+pub has_one_semi : InstanceHasOneSemi
+has_one_semi ts i h =
+    let e : Ending ts = ending deepest ts (instance_into deepest ts i h) in
+    (e.inner, e.semi, e.parts, begins ts i h e.inner e.semi e.parts, none_of_semi e.inner e.none, e.is_semi)
+  where
+    begins : (ts : List Placed) (i : Instance) → IsInstance deepest ts i → (inner : List Placed) (semi : Placed) → ts ≡ inner ++ semi ∷ [] → BeginsWithName inner
+    begins _ i (sentence.simple {name} n e us s hn he h hs) [] semi f = absurd (cc)
+    begins _ i (sentence.simple {name} n e us s hn he h hs) (t ∷ inner) semi f = (name, (let same : n ≡ t = cc in ap (λ x. x.token) (sym same) ∙ hn))
+    begins _ i (sentence.complex {name} {ts = us} n e o c s hn he ho h hc hs) [] semi f = absurd (cc)
+    begins _ i (sentence.complex {name} {ts = us} n e o c s hn he ho h hc hs) (t ∷ inner) semi f = (name, (let same : n ≡ t = cc in ap (λ x. x.token) (sym same) ∙ hn))
 
 -- what stands behind a semicolon of an instance
 pub nothing_behind : (l : ℕ) (ts a : List Placed) (s : Placed) (rest : List Placed) → Instances l ts → ts ≡ a ++ s ∷ rest → s.token ≡ token.semi → rest ≡ []

@@ -99,3 +99,7 @@ PieceIsInstance = (front : List Placed) (end : Placed) (i : Instance) → IsPiec
 -- an End behind the first semicolon is no fault of a piece
 abbrev pub NoFaultBehindSemi : Type 0
 NoFaultBehindSemi = (body : List Placed) (semi end : Placed) (kind : Kind) (at : ℕ) → HasNoSemi body → semi.token ≡ token.semi → end.token ≡ token.end → ¬ (IsFault pieces (body ++ semi ∷ []) end kind at)
+
+-- an instance begins with a name, and of its tokens the last, and no other, is a semicolon
+abbrev pub InstanceHasOneSemi : Type 0
+InstanceHasOneSemi = (ts : List Placed) (i : Instance) → IsInstance deepest ts i → (body : List Placed) × (semi : Placed) × (ts ≡ body ++ semi ∷ []) × BeginsWithName body × HasNoSemi body × (semi.token ≡ token.semi)

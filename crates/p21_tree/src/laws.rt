@@ -2,7 +2,7 @@
 
 ghost use Rattle.p21_tree.specs.Fault.{files, instances, pieces, prefaces, tails};
 ghost use Rattle.p21_tree.specs.Laws.{FaultsAreOfTokens, HasAnswer, HasOneFaultAtMost, HasOneTree, NoneBeginsAnother, PieceFaultsAreOfTokens, PrefaceFaultsAreOfTokens};
-ghost use Rattle.p21_tree.specs.InOrder.{NoFaultBehindSemi, PartsGiveFile, PieceFaultIsOfFile, PieceIsInstance, PrefaceFaultIsOfFile, PrefaceOrFault, TailFaultIsOfFile};
+ghost use Rattle.p21_tree.specs.InOrder.{InstanceHasOneSemi, NoFaultBehindSemi, PartsGiveFile, PieceFaultIsOfFile, PieceIsInstance, PrefaceFaultIsOfFile, PrefaceOrFault, TailFaultIsOfFile};
 
 /// A list of tokens that ends with the end of the text, or where no token begins, is a file or has a fault; the same
 /// of prefaces, pieces and tails.
@@ -51,6 +51,11 @@ pub fn parts_up_to_fault()
     ensures of_tails { TailFaultIsOfFile }
     ensures whole { PieceIsInstance }
     ensures behind { NoFaultBehindSemi }
+{}
+
+/// An instance begins with a name, and of its tokens the last, and no other, is a semicolon.
+pub fn one_semicolon()
+    ensures { InstanceHasOneSemi }
 {}
 
 /// A fault that a reader finds in a text is the fault of the text's tokens.

@@ -31,8 +31,8 @@ pub use headers::{HeaderEntity, Preface};
 pub use instance_reader::InstanceReader;
 pub use instances::{RawInstance, Record};
 pub use laws::{
-    faults_of_tokens, one_answer, one_beginning, one_fault_at_most, one_tree, parts_in_order,
-    parts_up_to_fault,
+    faults_of_tokens, one_answer, one_beginning, one_fault_at_most, one_semicolon, one_tree,
+    parts_in_order, parts_up_to_fault,
 };
 pub use params::Param;
 pub use pieces::Piece;

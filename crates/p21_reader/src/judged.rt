@@ -1,0 +1,110 @@
+//! What pieces are by themselves.
+
+ghost use Rattle.std.specs.Prelude.{IfOk};
+ghost use Rattle.p21_tree.specs.declared.pieces.Piece.{Piece};
+ghost use Rattle.p21_reader.specs.Values.{IsJudged};
+ghost use Rattle.p21_reader.specs.Judged.{HasOwnEntity, value_of};
+ghost use Rattle.p21_reader.specs.declared.judged.Judged.{Judged};
+
+use p21_check::{check_local_entity, simple_entity};
+use p21_schema::{EntityId, Schema};
+use p21_tree::{Fault, FaultKind, InstanceReader, Piece, RawInstance, TreeError};
+use std::alloc::AllocError;
+
+/// What a piece is by itself.
+#[derive(Debug, Drop)]
+pub enum Judged<'a> {
+    /// No instance: its first grammar fault.
+    Grammar(Fault),
+    /// An instance, and the kind of the fault that it has by itself, or none.
+    Whole(RawInstance<'a>, Option<FaultKind>),
+}
+
+/// Judges pieces by themselves.
+pub trait Judge {
+    /// What a piece may be judged to be.
+    ghost judges: { Self → Piece → Judged → Type 0 };
+
+    /// Judges a piece by itself. The reader may have read any pieces before. An error is want of memory.
+    fn judge<'a>(
+        &self,
+        reader: &mut InstanceReader<'a>,
+        piece: Piece<'a>,
+    ) -> Result<Judged<'a>, AllocError>
+        ensures { IfOk result (λ judged. judges self.now piece.entry judged) };
+}
+
+/// Reads a piece as an instance, and checks it by itself against a schema.
+#[derive(Clone, Copy)]
+pub struct LocalReader<'s> {
+    /// The schema.
+    pub schema: &'s Schema,
+}
+
+impl Judge for LocalReader<'_> {
+    ghost judges = { λ reader piece judged. IsJudged reader.schema.now piece (value_of judged) };
+
+    fn judge<'a>(
+        &self,
+        reader: &mut InstanceReader<'a>,
+        piece: Piece<'a>,
+    ) -> Result<Judged<'a>, AllocError> {
+        Ok(judge_local(self.schema, reader, piece)?.judged)
+    }
+}
+
+/// What a piece is by itself, and the entity of its instance.
+#[derive(Debug, Drop)]
+pub(crate) struct Judgement<'a> {
+    pub(crate) judged: Judged<'a>,
+    /// The entity of the instance; none of a complex one, nor where its keyword names none.
+    pub(crate) entity: Option<EntityId>,
+}
+
+/// Reads a piece as an instance, and checks it by itself against a schema. The keyword of an instance without a fault is looked
+/// up once.
+pub(crate) fn judge_local<'a>(
+    schema: &Schema,
+    reader: &mut InstanceReader<'a>,
+    piece: Piece<'a>,
+) -> Result<Judgement<'a>, AllocError>
+    ensures judged { IfOk result (λ judgement. IsJudged schema.now piece.entry (value_of judgement.judged)) }
+    ensures entity { IfOk result (HasOwnEntity schema.now) }
+{
+    let instance = match reader.read(piece) {
+        Ok(instance) => instance,
+        Err(TreeError::Grammar(fault)) => {
+            return Ok(Judgement {
+                judged: Judged::Grammar(fault),
+                entity: None,
+            });
+        }
+        Err(TreeError::Memory) => return Err(AllocError),
+    };
+    let (own, entity) = match check_local_entity(schema, &instance) {
+        Ok(entity) => (None, entity),
+        Err(kind) => (Some(kind), simple_entity(schema, &instance)),
+    };
+    Ok(Judgement {
+        judged: Judged::Whole(instance, own),
+        entity,
+    })
+}
+
+/// Judges a piece by any judge, and looks the keyword of its instance up.
+pub(crate) fn judge_by<'a, J: Judge>(
+    judge: &J,
+    schema: &Schema,
+    reader: &mut InstanceReader<'a>,
+    piece: Piece<'a>,
+) -> Result<Judgement<'a>, AllocError>
+    ensures judged { IfOk result (λ judgement. J.judges judge.now piece.entry judgement.judged) }
+    ensures entity { IfOk result (HasOwnEntity schema.now) }
+{
+    let judged = judge.judge(reader, piece)?;
+    let entity = match &judged {
+        Judged::Grammar(_) => None,
+        Judged::Whole(instance, _) => simple_entity(schema, instance),
+    };
+    Ok(Judgement { judged, entity })
+}
