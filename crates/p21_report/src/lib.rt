@@ -12,8 +12,6 @@ mod program_error;
 mod reading_text;
 mod references;
 mod report;
-#[cfg(test)]
-mod rows_tests;
 mod runner;
 #[cfg(test)]
 mod runner_tests;
