@@ -1,15 +1,13 @@
 //! The program, over its words and any readers and writers.
 
 ghost use Rattle.std.specs.Prelude.{◌≡◌, Ok, Err};
-ghost use Rattle.p21_report.specs.declared.outcome.Outcome.TheVariants.{Complete, Faulty, SchemaRefused, Device as Failed, Memory as NoMemory};
+ghost use Rattle.p21_run.specs.declared.outcome.Outcome.TheVariants.{Complete, Faulty, SchemaRefused, Device as Failed, Memory as NoMemory};
 ghost use Rattle.p21_report.specs.declared.program_error.ProgramError.TheVariants.{Device, Memory};
 
 use crate::opened::Opened;
-use crate::outcome::Outcome;
 use crate::program_error::ProgramError;
-use crate::runner::run;
-use crate::source::Stream;
 use crate::words::{not_text, paths_named};
+use p21_run::{Outcome, Stream, run};
 use std::alloc::{AllocError, Global};
 use std::fs::Files;
 use std::io::{self, Read, Write};

@@ -1,36 +1,11 @@
-//! The report of a reading, and the program that prints it.
+//! The program that prints the report of a reading.
 #![tactic(auto)]
 
 mod command_line;
-mod count_text;
-mod fault_text;
-mod input;
 mod opened;
-mod outcome;
-mod output;
 mod program_error;
-mod reading_text;
-mod references;
-mod report;
-#[cfg(test)]
-mod rows_tests;
-mod runner;
-#[cfg(test)]
-mod runner_tests;
-mod schema_fault_text;
-mod source;
-mod tally;
-#[cfg(test)]
-mod test_streams;
-#[cfg(test)]
-mod tests;
-mod text;
 mod words;
 
 pub use command_line::{program, unreadable_words};
-pub use count_text::counts;
-pub use fault_text::fault_line;
-pub use outcome::Outcome;
-pub use reading_text::render;
-pub use runner::run;
-pub use source::{IoFault, Sink, Source, Stream};
+pub use p21_render::{counts, fault_line, render};
+pub use p21_run::{IoFault, Outcome, Sink, Source, Stream, run};

@@ -3,7 +3,7 @@
 ghost use Rattle.std.specs.Prelude.{◌≡◌, false};
 ghost use Rattle.std.specs.Io.{ReadsAtMost};
 
-use crate::source::{IoFault, Source, Stream};
+use p21_run::{IoFault, Source, Stream};
 use std::fs::{File, Files};
 
 /// A file that is opened at its first read. One that cannot be opened, from whatever cause, failed.
@@ -16,7 +16,7 @@ pub(crate) struct Opened<'a, R: Files> {
 }
 
 impl<'a, R: Files> Opened<'a, R> {
-    ghost use Rattle.p21_report.specs.Stream.{mark_of_opened};
+    ghost use Rattle.p21_report.specs.Opened.{mark_of_opened};
 
     /// The file of a path, which is not opened yet.
     pub(crate) fn new(rt: &'a R, path: &'a str) -> Opened<'a, R>
@@ -46,7 +46,7 @@ impl<'a, R: Files> Opened<'a, R> {
 }
 
 impl<R: Files> Source for Opened<'_, R> {
-    ghost use Rattle.p21_report.specs.Stream.{mark_of_opened};
+    ghost use Rattle.p21_report.specs.Opened.{mark_of_opened};
 
     ghost marked = { mark_of_opened };
 

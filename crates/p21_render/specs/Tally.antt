@@ -1,0 +1,38 @@
+-- What the code keeps of the records that it has counted.
+use Rattle.std.specs.Prelude.{◌≡◌, ℕ, zero, suc, Bool, List, [], ◌∷◌, ◌++◌, Option, None, Some, nat_eq}
+use Rattle.std.specs.Borrow.{Bor}
+use Rattle.indexmap.specs.IndexMap.{IndexMap, get}
+use Rattle.std.specs.Cmp.Lexicographic.{slice_cmp, pointwise}
+use Rattle.std.specs.Ordering.{nat_cmp}
+use Rattle.std.specs.declared.cmp.Ordering.{Ordering}
+use Rattle.p21_render.specs.Counts.{capped, count_line, complex_count, keyword_count, keywords_of, reference_count}
+use Rattle.p21_render.specs.declared.tally.Tally.{Tally}
+use Rattle.p21_tree.specs.Sentence.{Instance}
+
+-- a count that is kept: none of what was not met
+abbrev pub kept : ℕ → Option ℕ
+kept zero = None
+kept (suc n) = Some (capped (suc n))
+
+-- which keys are one
+abbrev pub key_eq : Bor (List ℕ) → Bor (List ℕ) → Bool
+key_eq a b = pointwise nat_eq a.now b.now
+
+-- the order of the keys
+abbrev pub key_cmp : Bor (List ℕ) → Bor (List ℕ) → Ordering
+key_cmp a b = slice_cmp nat_cmp a.now b.now
+
+-- the map has the count of each keyword among these
+abbrev pub CountsOf : {S : Type 0} → IndexMap (Bor (List ℕ)) ℕ S → List (List ℕ) → Type 0
+CountsOf m ks = (k : Bor (List ℕ)) → get key_eq m k ≡ kept (keyword_count k.now ks)
+
+-- what is counted of these instances
+pub record IsTallyOf (t : Tally) (is : List Instance) : Type 0 where
+  pub complex : t.complex ≡ capped (complex_count is)
+  pub references : t.references ≡ capped (reference_count is)
+  pub keywords : CountsOf t.keywords (keywords_of is)
+
+-- the lines of the keywords that are kept
+abbrev pub entry_lines : List (Bor (List ℕ) × ℕ) → List ℕ
+entry_lines [] = []
+entry_lines (e ∷ es) = count_line e.0.now e.1 ++ entry_lines es

@@ -1,0 +1,60 @@
+//! The report of some instances.
+
+ghost use Rattle.std.specs.Prelude.{◌≡◌, ◌++◌, map, IfOk, OnOk};
+ghost use Rattle.p21_render.specs.Counts.{IsCounts, count_line};
+ghost use Rattle.p21_render.specs.Tally.{IsTallyOf, entry_lines, key_cmp, key_eq};
+ghost use Rattle.indexmap.specs.IndexMap.{keys, IsUnique};
+ghost use Rattle.p21_tree.specs.Views.{plain_instance};
+
+use crate::tally::{Keywords, Tally, add_instance, empty_tally};
+use crate::text::{push, push_number};
+use p21_tree::RawInstance;
+use std::alloc::{AllocError, Global};
+
+/// The counts of some instances, a line each: how many there are, how many are complex, how many instance names are
+/// written as parameters, and how many records have each keyword, in byte order. A number above 2^64 - 1 is written as
+/// 2^64 - 1. Memory alone can fail.
+pub fn counts(alloc: Global, instances: &[RawInstance<'_>]) -> Result<Vec<u8>, AllocError>
+    ensures { IfOk result (λ text. IsCounts (map plain_instance instances.now) text.items) }
+{
+    let mut tally = tally_of(alloc, instances)?;
+    tally.keywords.sort_keys()?;
+    let mut text = Vec::new(alloc);
+    push_count(&mut text, b"instances", instances.len() as u64)?;
+    push_count(&mut text, b"complex", tally.complex)?;
+    push_count(&mut text, b"references", tally.references)?;
+    push_keywords(&mut text, &tally.keywords)?;
+    Ok(text)
+}
+
+/// What is counted of some instances.
+fn tally_of<'a>(alloc: Global, instances: &[RawInstance<'a>]) -> Result<Tally<'a>, AllocError>
+    ensures { IfOk result (λ tally. IsTallyOf tally (map plain_instance instances.now)) }
+{
+    let mut tally = empty_tally(alloc);
+    for instance in instances {
+        add_instance(&mut tally, instance)?;
+    }
+    Ok(tally)
+}
+
+/// Adds the lines of the keywords.
+fn push_keywords(text: &mut Vec<u8>, keywords: &Keywords<'_>) -> Result<(), AllocError>
+    ensures lines { OnOk result (text.new.items ≡ text.old.items ++ entry_lines keywords.now.entries) }
+    ensures unique { IsUnique key_eq keywords.now }
+{
+    for (keyword, count) in keywords {
+        push_count(text, keyword, *count)?;
+    }
+    Ok(())
+}
+
+/// Adds a line.
+fn push_count(text: &mut Vec<u8>, word: &[u8], number: u64) -> Result<(), AllocError>
+    ensures { OnOk result (text.new.items ≡ text.old.items ++ count_line word.now number) }
+{
+    push(text, word)?;
+    push(text, b" ")?;
+    push_number(text, number)?;
+    push(text, b"\n")
+}

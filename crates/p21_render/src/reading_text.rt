@@ -1,0 +1,42 @@
+//! The report of a reading.
+
+ghost use Rattle.std.specs.Prelude.{◌≡◌, ◌++◌, map, IfOk};
+ghost use Rattle.p21_tree.specs.Views.{plain_instance};
+ghost use Rattle.p21_reader.specs.Answer.{plain_answer};
+ghost use Rattle.p21_render.specs.ReadingText.{IsModelText, IsReadingText};
+
+use crate::count_text::counts;
+use crate::fault_text::fault_line;
+use crate::text::push;
+use p21_reader::Reading;
+use p21_schema::Schema;
+use p21_tree::RawInstance;
+use std::alloc::{AllocError, Global};
+
+/// The report of a reading: the schema's name and the counts of the model's instances, or the line of the fault. Memory alone
+/// can fail.
+pub fn render(alloc: Global, schema: &Schema, reading: &Reading<'_>) -> Result<Vec<u8>, AllocError>
+    ensures { IfOk result (λ text. IsReadingText schema.now (plain_answer reading.now.answer) text.items) }
+{
+    match &reading.answer {
+        Ok(model) => model_text(alloc, schema, model.instances()),
+        Err(fault) => fault_line(alloc, fault),
+    }
+}
+
+/// The report of the instances of a model: the schema's name, and their counts.
+fn model_text(
+    alloc: Global,
+    schema: &Schema,
+    instances: &[RawInstance<'_>],
+) -> Result<Vec<u8>, AllocError>
+    ensures { IfOk result (λ text. IsModelText schema.now (map plain_instance instances.now) text.items) }
+{
+    let mut text = Vec::new(alloc);
+    push(&mut text, b"schema ")?;
+    push(&mut text, schema.name())?;
+    push(&mut text, b"\n")?;
+    let lines = counts(alloc, instances)?;
+    push(&mut text, lines.as_slice())?;
+    Ok(text)
+}

@@ -1,0 +1,58 @@
+-- What a run over a schema and a file writes.
+use Rattle.std.specs.Prelude.{◌≡◌, ◌≤◌, ◌⊎◌, ℕ, List, Option, Ok, Err, Some, length, take}
+use Rattle.std.specs.Io.KnownBytes.{Keeps, Appends}
+use Rattle.p21_express.specs.Schema.{Schema}
+use Rattle.p21_express.specs.Reading as express
+use Rattle.p21_express.specs.Answer.{HasNoReading}
+use Rattle.p21_express.specs.declared.error.SchemaError.{SchemaError}
+use Rattle.p21_tree.specs.Sentence.{Instance}
+use Rattle.p21_tree.specs.declared.faults.Fault.{Fault}
+use Rattle.p21_reader.specs.Reading.{IsReading}
+use Rattle.p21_render.specs.ReadingText.{IsReadingText}
+use Rattle.p21_render.specs.SchemaFaultLine.{schema_fault_text}
+use Rattle.p21_run.specs.declared.outcome.Outcome.{Outcome}
+use Rattle.p21_run.specs.declared.outcome.Outcome.TheVariants as outcome
+
+-- The text is the report of the file's reading against the schema, and the outcome is that of a model or of a fault.
+abbrev pub IsReportOf : Schema → List ℕ → Outcome → List ℕ → Type 0
+IsReportOf s file outcome.Complete text = (is : List Instance) × IsReading s file (Ok is) × IsReadingText s (Ok is) text
+IsReportOf s file outcome.Faulty text = (fault : Fault) × IsReading s file (Err fault) × IsReadingText s (Err fault) text
+IsReportOf s file _ text = ⊥
+
+-- The text is the line of a fault of a schema's text that declares no schema.
+pub record IsRefusal (schema_text text : List ℕ) : Type 0 where
+  pub declares_nothing : HasNoReading schema_text
+  pub fault : SchemaError
+  pub told : schema_fault_text fault ≡ Some text
+
+-- The text that is due with an outcome: the line of the schema's fault where it declares nothing, and otherwise the report of
+-- the file against the schema that it declares.
+abbrev pub IsDue : List ℕ → List ℕ → Outcome → List ℕ → Type 0
+IsDue schema_text file outcome.SchemaRefused text = IsRefusal schema_text text
+IsDue schema_text file o text = (s : Schema) × express.IsReading schema_text s × IsReportOf s file o text
+
+-- The text that is due is written, and nothing else; nothing is written for want of memory; where a reader or the writer failed,
+-- or a bound was passed, a front of a text that is due is written, or nothing.
+abbrev pub Writes : List ℕ → List ℕ → Outcome → Option (List ℕ) → Option (List ℕ) → Type 0
+Writes schema_text file outcome.Device old new = Keeps old new ⊎ ((o : Outcome) × (text : List ℕ) × (n : ℕ) × IsDue schema_text file o text × Appends old new (take n text))
+Writes schema_text file outcome.Memory old new = Keeps old new
+Writes schema_text file o old new = (text : List ℕ) × IsDue schema_text file o text × Appends old new text
+
+-- the most calls of a reader or of the writer
+abbrev pub most_calls : ℕ
+most_calls = 16777216
+
+-- the most bytes of a schema, and of a file
+abbrev pub most_schema_bytes : ℕ
+most_schema_bytes = 16777216
+
+abbrev pub most_file_bytes : ℕ
+most_file_bytes = 4294967296
+
+-- a text that is due has at least as many bytes as there may be calls
+abbrev pub IsLongText : List ℕ → List ℕ → Type 0
+IsLongText schema_text file = (o : Outcome) × (text : List ℕ) × IsDue schema_text file o text × (most_calls ≤ length text)
+
+-- an input has at least as many bytes as there may be calls, or a text that is due has
+abbrev pub IsLong : List ℕ → List ℕ → Type 0
+IsLong schema_text file = (most_calls ≤ length schema_text) ⊎ ((most_calls ≤ length file) ⊎ IsLongText schema_text file)

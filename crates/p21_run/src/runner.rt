@@ -1,0 +1,83 @@
+//! A run over a schema and a file.
+
+ghost use Rattle.std.specs.Prelude.{◌≡◌, ◌≤◌, ◌⊎◌, ℕ, List, Some, Err, false, length, IfOk};
+ghost use Rattle.p21_express.specs.Plain.{plain_schema};
+ghost use Rattle.p21_express.specs.WellFormed.{IsWellFormed};
+ghost use Rattle.p21_run.specs.Due.{IsDue, IsReportOf, Writes, IsLong, IsLongText, most_calls, most_file_bytes, most_schema_bytes};
+ghost use Rattle.std.specs.Io.KnownBytes.{Keeps};
+ghost use Rattle.p21_express.specs.Answer.{HasNoReading};
+ghost use Rattle.p21_run.specs.declared.outcome.Outcome.TheVariants.{Complete, Device, Faulty, SchemaRefused};
+ghost use Rattle.p21_run.specs.declared.input.InputError.TheVariants.{Device as Failed};
+
+use crate::input::{FILE_BOUNDS, InputError, SCHEMA_BOUNDS, read_bounded};
+use crate::outcome::Outcome;
+use crate::output::{OutputError, WRITE_CALLS, write_bounded};
+use crate::report::{Report, report_of_file, report_of_refusal};
+use crate::source::{Sink, Source};
+use p21_express::{Declarations, read_declarations};
+use p21_schema::Schema;
+use std::alloc::Global;
+
+/// Reads a schema and then a file, checks the file against the schema, and writes the report: that of the file's model, the
+/// line of its first fault, or the line of the schema's.
+///
+/// A schema of more than 16777216 bytes, a file of more than 4294967296, or more than 16777216 calls of one reader or of the
+/// writer, is answered as `Device`; a call that was interrupted, or a write that took no byte, counts and is made again. The
+/// file is not read where the schema is refused.
+pub fn run<S: Source, F: Source, K: Sink>(
+    alloc: Global,
+    schema_in: &mut S,
+    file_in: &mut F,
+    out: &mut K,
+) -> Outcome
+    ensures written { (schema_text file : List ℕ) → S.remaining schema_in.old ≡ Some schema_text → F.remaining file_in.old ≡ Some file → Writes schema_text file result (K.taken out.old) (K.taken out.new) }
+    ensures schema_bounded { result ≡ Complete ⊎ (result ≡ Faulty ⊎ result ≡ SchemaRefused) → (schema_text : List ℕ) → S.remaining schema_in.old ≡ Some schema_text → length schema_text ≤ most_schema_bytes }
+    ensures file_bounded { result ≡ Complete ⊎ result ≡ Faulty → (file : List ℕ) → F.remaining file_in.old ≡ Some file → length file ≤ most_file_bytes }
+    ensures unread { (schema_text : List ℕ) → S.remaining schema_in.old ≡ Some schema_text → HasNoReading schema_text → file_in.new ≡ file_in.old }
+    ensures unwritten { result ≡ Device → K.marked out.new ≡ false → (schema_text file : List ℕ) → S.remaining schema_in.old ≡ Some schema_text → F.remaining file_in.old ≡ Some file → Keeps (K.taken out.old) (K.taken out.new) ⊎ IsLongText schema_text file }
+    ensures cause { result ≡ Device → S.marked schema_in.new ≡ false → F.marked file_in.new ≡ false → K.marked out.new ≡ false → (schema_text file : List ℕ) → S.remaining schema_in.old ≡ Some schema_text → F.remaining file_in.old ≡ Some file → IsLong schema_text file }
+{
+    match report(alloc, schema_in, file_in) {
+        Ok(report) => match write_bounded(out, report.text.as_slice(), WRITE_CALLS) {
+            Ok(()) => report.outcome,
+            Err(OutputError) => Outcome::Device,
+        },
+        Err(InputError::Device) => Outcome::Device,
+        Err(InputError::Memory) => Outcome::Memory,
+    }
+}
+
+/// What is to be written of a schema and a file.
+fn report<S: Source, F: Source>(
+    alloc: Global,
+    schema_in: &mut S,
+    file_in: &mut F,
+) -> Result<Report, InputError>
+    ensures due { (schema_text file : List ℕ) → S.remaining schema_in.old ≡ Some schema_text → F.remaining file_in.old ≡ Some file → IfOk result (λ report. IsDue schema_text file report.outcome report.text.items) }
+    ensures schema_bounded { IfOk result (λ _. (schema_text : List ℕ) → S.remaining schema_in.old ≡ Some schema_text → length schema_text ≤ most_schema_bytes) }
+    ensures file_bounded { IfOk result (λ report. report.outcome ≡ Complete ⊎ report.outcome ≡ Faulty → (file : List ℕ) → F.remaining file_in.old ≡ Some file → length file ≤ most_file_bytes) }
+    ensures unread { (schema_text : List ℕ) → S.remaining schema_in.old ≡ Some schema_text → HasNoReading schema_text → file_in.new ≡ file_in.old }
+    ensures cause { result ≡ Err Failed → S.marked schema_in.new ≡ false → F.marked file_in.new ≡ false → (schema_text file : List ℕ) → S.remaining schema_in.old ≡ Some schema_text → F.remaining file_in.old ≡ Some file → (most_calls ≤ length schema_text) ⊎ (most_calls ≤ length file) }
+{
+    let schema_text = read_bounded(alloc, schema_in, SCHEMA_BOUNDS)?;
+    match read_declarations(alloc, schema_text.as_slice()) {
+        Ok(declarations) => report_against(alloc, declarations, file_in),
+        Err(error) => Ok(report_of_refusal(alloc, error)?),
+    }
+}
+
+/// What is to be written of a file against a schema.
+fn report_against<F: Source>(
+    alloc: Global,
+    declarations: Declarations,
+    file_in: &mut F,
+) -> Result<Report, InputError>
+    requires { IsWellFormed (plain_schema declarations) }
+    ensures due { (file : List ℕ) → F.remaining file_in.old ≡ Some file → IfOk result (λ report. IsReportOf (plain_schema declarations) file report.outcome report.text.items) }
+    ensures bounded { IfOk result (λ _. (file : List ℕ) → F.remaining file_in.old ≡ Some file → length file ≤ most_file_bytes) }
+    ensures cause { result ≡ Err Failed → F.marked file_in.new ≡ false → (file : List ℕ) → F.remaining file_in.old ≡ Some file → most_calls ≤ length file }
+{
+    let schema = Schema::build(alloc, declarations)?;
+    let file = read_bounded(alloc, file_in, FILE_BOUNDS)?;
+    Ok(report_of_file(alloc, &schema, file.as_slice())?)
+}

@@ -1,0 +1,105 @@
+//! What gives bytes and what takes them, and what each says of itself.
+
+ghost use Rattle.std.specs.Prelude.{◌≡◌, ◌||◌, Bool, false, ℕ, List, Option, None};
+ghost use Rattle.std.specs.Io.{ReadsAtMost, WritesAtMost};
+ghost use Rattle.std.specs.Io.KnownBytes.{ReadConsumes, WriteAppends};
+ghost use Rattle.p21_run.specs.Marks.{is_fault, is_fault_or_nothing};
+
+use std::io::{self, ErrorKind, Read, Write};
+
+/// Why a call moved no byte.
+#[derive(Clone, Copy, Debug, PartialEq, Eq)]
+pub enum IoFault {
+    /// It was interrupted, and may be made again.
+    Interrupted,
+    /// The device failed.
+    Failed,
+}
+
+/// What gives bytes.
+pub trait Source {
+    // Whether it ever answered a fault.
+    ghost marked: { Self → Bool };
+
+    // The bytes that are left, where it tells them.
+    ghost remaining: { Self → Option (List ℕ) } = { λ _. None };
+
+    /// Gives the next bytes, at most as many as there is room for, and says how many: 0 into some room is the end. A fault
+    /// leaves the bytes as they were.
+    fn read(&mut self, into: &mut [u8]) -> Result<usize, IoFault>
+        ensures bound { ReadsAtMost result into.new }
+        ensures bytes { ReadConsumes (remaining self.old) (remaining self.new) result into.new }
+        ensures mark { marked self.new ≡ (marked self.old || is_fault result) };
+}
+
+/// What takes bytes.
+pub trait Sink {
+    // Whether it ever answered a fault, or took no byte of some.
+    ghost marked: { Self → Bool };
+
+    // The bytes that it has taken, where it tells them.
+    ghost taken: { Self → Option (List ℕ) } = { λ _. None };
+
+    /// Takes the first of some bytes, and says how many. A fault leaves what was taken as it was.
+    fn write(&mut self, from: &[u8]) -> Result<usize, IoFault>
+        ensures bound { WritesAtMost result from.now }
+        ensures bytes { WriteAppends (taken self.old) (taken self.new) result from.now }
+        ensures mark { marked self.new ≡ (marked self.old || is_fault_or_nothing result from.now) };
+}
+
+/// A reader or a writer of the standard library as a `Source` or a `Sink`. It tells no bytes.
+#[derive(Debug, Drop)]
+pub struct Stream<T> {
+    inner: T,
+    marked: bool,
+}
+
+impl<T> Stream<T> {
+    ghost use Rattle.p21_run.specs.Stream.{mark_of};
+
+    /// Neither a fault nor a write of no byte has happened yet.
+    pub fn new(inner: T) -> Stream<T>
+        ensures { mark_of result ≡ false }
+    {
+        Stream {
+            inner,
+            marked: false,
+        }
+    }
+}
+
+impl<R: Read> Source for Stream<R> {
+    ghost use Rattle.p21_run.specs.Stream.{mark_of};
+
+    ghost marked = { mark_of };
+
+    fn read(&mut self, into: &mut [u8]) -> Result<usize, IoFault> {
+        let result = self.inner.read(into).map_err(|error| fault_of(&error));
+        self.marked |= result.is_err();
+        result
+    }
+}
+
+impl<W: Write> Sink for Stream<W> {
+    ghost use Rattle.p21_run.specs.Stream.{mark_of};
+
+    ghost marked = { mark_of };
+
+    fn write(&mut self, from: &[u8]) -> Result<usize, IoFault> {
+        let result = self.inner.write(from).map_err(|error| fault_of(&error));
+        self.marked |= match result {
+            Ok(count) => count == 0 && !from.is_empty(),
+            Err(_) => true,
+        };
+        result
+    }
+}
+
+/// What an error of the standard library says.
+fn fault_of(error: &io::Error) -> IoFault {
+    if error.kind() == ErrorKind::Interrupted {
+        IoFault::Interrupted
+    } else {
+        IoFault::Failed
+    }
+}

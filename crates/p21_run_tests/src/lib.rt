@@ -1,0 +1,7 @@
+//! The tests of p21_run.
+#![tactic(auto)]
+
+#[cfg(test)]
+mod runner_tests;
+#[cfg(test)]
+mod streams;
