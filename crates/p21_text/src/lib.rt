@@ -14,8 +14,6 @@ mod separators;
 mod shape;
 mod str_items;
 mod string;
-#[cfg(test)]
-mod tests;
 mod token;
 mod units;
 mod word;

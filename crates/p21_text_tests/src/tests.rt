@@ -1,7 +1,7 @@
 //! Tokens and where they stand, and the items of strings, by example.
 
-use crate::StrItem::{Page, Scalar};
-use crate::{
+use p21_text::StrItem::{Page, Scalar};
+use p21_text::{
     Lexed, StrItem, Token, binary_bits, items, items_are_unique, next_token, one_first, one_list,
     separators_len, string_items, string_len,
 };
