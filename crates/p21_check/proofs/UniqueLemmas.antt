@@ -2,7 +2,7 @@
 use Rattle.std.proofs.Common.{◌≡◌, ℕ, ◌+◌, ◌<◌, inl, inr, cond, eqb, List, [], ◌∷◌, ◌++◌, length, get_or, Option, Some, None, refl, sym, ap, subst, ◌∙◌, arith, length-append}
 use Rattle.std.proofs.lemmas.List.{get_or_append_left, get_or-append-add}
 use Rattle.p21_text.specs.Items.{Item, ItemsOf}
-use Rattle.p21_text.proofs.ValueLemmas.{items_once}
+use Rattle.p21_text.specs.Laws.{HasOneItemListAtMost}
 use Rattle.p21_express.specs.Schema.{Schema, Expr}
 use Rattle.p21_tree.specs.Tree.{Tree, Trees, absent, derived, int, real, str, enumeration, binary, reference, items, typed, nil, cons}
 use Rattle.p21_tree.specs.Sentence.{Instance, Opening}
@@ -41,25 +41,29 @@ body_once : (o : Opening) (a b : List ℕ) → HasSchemaString o a → HasSchema
 unfolding body_of
 body_once o a b h k = ap body_of (same_params o (only (items (only (str a)))) (only (items (only (str b)))) h k)
 
+-- no body has two lists of items
+abbrev pub OneItemList : Type 0
+OneItemList = (raw : List ℕ) → HasOneItemListAtMost raw
+
 -- one string does not name the schema and name it not
-both_names : (s : Schema) (o : Opening) (a b : List ℕ) (xs ys : List Item) → HasSchemaString o a → HasSchemaString o b → ItemsOf a xs → ItemsOf b ys → ¬ (NameSchema xs s.name) → NameSchema ys s.name → ⊥
-both_names s o a b xs ys h k x y other named =
-    let same : xs ≡ ys = items_once 1 b xs ys (subst (λ z. ItemsOf z xs) (body_once o a b h k) x) y in
+both_names : OneItemList → (s : Schema) (o : Opening) (a b : List ℕ) (xs ys : List Item) → HasSchemaString o a → HasSchemaString o b → ItemsOf a xs → ItemsOf b ys → ¬ (NameSchema xs s.name) → NameSchema ys s.name → ⊥
+both_names one s o a b xs ys h k x y other named =
+    let same : xs ≡ ys = one b xs ys (subst (λ z. ItemsOf z xs) (body_once o a b h k) x) y in
     other (subst (λ z. NameSchema z s.name) (sym same) named)
 
-header_same : (s : Schema) (o : Opening) (a b : Option FaultKind) → Header s o a → Header s o b → a ≡ b
-header_same s o _ _ (entities n) (entities m) = refl
-header_same s o _ _ (entities n) (wrong body found h i w) = absurd (n body h)
-header_same s o _ _ (entities n) (right body found h i w) = absurd (n body h)
-header_same s o _ _ (wrong body found h i w) (entities n) = absurd (n body h)
-header_same s o _ _ (wrong a xs h x n) (wrong b ys k y m) = refl
-header_same s o _ _ (wrong a xs h x n) (right b ys k y m) = absurd (both_names s o a b xs ys h k x y n m)
-header_same s o _ _ (right body found h i w) (entities n) = absurd (n body h)
-header_same s o _ _ (right a xs h x n) (wrong b ys k y m) = absurd (both_names s o b a ys xs k h y x m n)
-header_same s o _ _ (right a xs h x n) (right b ys k y m) = refl
+header_same : OneItemList → (s : Schema) (o : Opening) (a b : Option FaultKind) → Header s o a → Header s o b → a ≡ b
+header_same one s o _ _ (entities n) (entities m) = refl
+header_same one s o _ _ (entities n) (wrong body found h i w) = absurd (n body h)
+header_same one s o _ _ (entities n) (right body found h i w) = absurd (n body h)
+header_same one s o _ _ (wrong body found h i w) (entities n) = absurd (n body h)
+header_same one s o _ _ (wrong a xs h x n) (wrong b ys k y m) = refl
+header_same one s o _ _ (wrong a xs h x n) (right b ys k y m) = absurd (both_names one s o a b xs ys h k x y n m)
+header_same one s o _ _ (right body found h i w) (entities n) = absurd (n body h)
+header_same one s o _ _ (right a xs h x n) (wrong b ys k y m) = absurd (both_names one s o b a ys xs k h y x m n)
+header_same one s o _ _ (right a xs h x n) (right b ys k y m) = refl
 
-pub header_once : (s : Schema) (o : Opening) → HasOneHeaderFault s o
-header_once s o a b h k = header_same s o a b (header_case s o a h) (header_case s o b k)
+pub header_once : OneItemList → (s : Schema) (o : Opening) → HasOneHeaderFault s o
+header_once one s o a b h k = header_same one s o a b (header_case s o a h) (header_case s o b k)
 
 -- An instance by itself.
 

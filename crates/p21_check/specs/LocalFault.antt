@@ -95,7 +95,15 @@ HasFault s i kind.AbstractEntity = HasAbstractEntity s i
 HasFault s i kind.BadComplex = IsBadComplex s i
 HasFault s i (kind.WrongCount r) = HasWrongCount s i r
 HasFault s i (kind.BadAttribute r a) = HasBadAttribute s i r a
-HasFault s i _ = ⊥
+HasFault s i kind.BadToken = ⊥
+HasFault s i kind.Unexpected = ⊥
+HasFault s i kind.Truncated = ⊥
+HasFault s i kind.TooDeep = ⊥
+HasFault s i kind.HeaderEntities = ⊥
+HasFault s i kind.WrongSchema = ⊥
+HasFault s i kind.DuplicateName = ⊥
+HasFault s i (kind.MissingReference r a n) = ⊥
+HasFault s i (kind.WrongReference r a n) = ⊥
 
 -- the number of a kind that an instance may have by itself
 abbrev pub kind_number : FaultKind → ℕ
@@ -104,18 +112,49 @@ kind_number kind.AbstractEntity = 9
 kind_number kind.BadComplex = 10
 kind_number (kind.WrongCount r) = 11
 kind_number (kind.BadAttribute r a) = 12
-kind_number _ = 0
+kind_number kind.BadToken = 0
+kind_number kind.Unexpected = 0
+kind_number kind.Truncated = 0
+kind_number kind.TooDeep = 0
+kind_number kind.HeaderEntities = 0
+kind_number kind.WrongSchema = 0
+kind_number kind.DuplicateName = 0
+kind_number (kind.MissingReference r a n) = 0
+kind_number (kind.WrongReference r a n) = 0
 
 -- the record that a kind speaks of
 abbrev pub kind_record : FaultKind → ℕ
 kind_record (kind.WrongCount r) = r
 kind_record (kind.BadAttribute r a) = r
-kind_record _ = 0
+kind_record kind.BadToken = 0
+kind_record kind.Unexpected = 0
+kind_record kind.Truncated = 0
+kind_record kind.TooDeep = 0
+kind_record kind.HeaderEntities = 0
+kind_record kind.WrongSchema = 0
+kind_record kind.DuplicateName = 0
+kind_record kind.UnknownEntity = 0
+kind_record kind.AbstractEntity = 0
+kind_record kind.BadComplex = 0
+kind_record (kind.MissingReference r a n) = 0
+kind_record (kind.WrongReference r a n) = 0
 
 -- the attribute that a kind speaks of
 abbrev pub kind_attribute : FaultKind → ℕ
 kind_attribute (kind.BadAttribute r a) = a
-kind_attribute _ = 0
+kind_attribute kind.BadToken = 0
+kind_attribute kind.Unexpected = 0
+kind_attribute kind.Truncated = 0
+kind_attribute kind.TooDeep = 0
+kind_attribute kind.HeaderEntities = 0
+kind_attribute kind.WrongSchema = 0
+kind_attribute kind.DuplicateName = 0
+kind_attribute kind.UnknownEntity = 0
+kind_attribute kind.AbstractEntity = 0
+kind_attribute kind.BadComplex = 0
+kind_attribute (kind.WrongCount r) = 0
+kind_attribute (kind.MissingReference r a n) = 0
+kind_attribute (kind.WrongReference r a n) = 0
 
 -- The one is looked for before the other: by the number of the kind, then by the record, then by the attribute.
 pub data ComesBefore (a b : FaultKind) : Type 0 where

@@ -24,7 +24,7 @@ pub(crate) fn is_as_wide(width: Width, raw: &[u8]) -> bool
     requires { IsBody raw.now }
     ensures { IsTrue result ↔ IsString width raw.now }
 {
-    items_are_unique(raw);
+    items_are_unique();
     match width.count {
         Some(count) => is_allowed(width.fixed, count, u128::from(string_len(raw))),
         None => true,

@@ -5,8 +5,8 @@ ghost use Rattle.p21_tree.specs.Views.{plain_instance};
 ghost use Rattle.p21_schema.specs.Place.{IsEntityOf};
 ghost use Rattle.p21_check.specs.EntityOf.{IsSimpleEntity};
 
+use crate::tables::table;
 use p21_check::{EntityOf, Named, check_local_entity, check_references_among, simple_entity};
-use p21_express::read_declarations;
 use p21_schema::{EntityId, Schema};
 use p21_tree::{FaultKind, Piece, RawInstance, read_piece};
 use std::alloc::Global;
@@ -49,19 +49,13 @@ impl<'a> EntityOf<'a> for Two<'a> {
     }
 }
 
-/// The table of a schema's text.
-fn table(alloc: Global, text: &[u8]) -> Option<Schema> {
-    let declarations = read_declarations(alloc, text).ok()?;
-    Schema::build(alloc, declarations).ok()
-}
-
-fn instance(alloc: Global, text: &[u8]) -> Option<RawInstance<'_>> {
+fn instance(alloc: Global, text: &[u8]) -> Result<RawInstance<'_>, Fail> {
     let piece = Piece {
         number: 0,
         at: 0,
         bytes: text,
     };
-    read_piece(alloc, piece).ok()
+    Ok(read_piece(alloc, piece).ok().ok_or("an instance")?)
 }
 
 /// The reference fault of an instance among two.
@@ -73,18 +67,25 @@ fn fault(instance: &RawInstance<'_>, two: &Two<'_>) -> Result<Option<FaultKind>,
 }
 
 /// `#2` of this entity, and `#3` a complex one.
-fn with_entity(alloc: Global, entity: &[u8]) -> Option<Two<'static>> {
+fn with_entity(alloc: Global, entity: &[u8]) -> Result<Two<'static>, Fail> {
     let schema = table(alloc, TOY)?;
-    let entity = schema.entity(entity)?;
+    let entity = schema.entity(entity).ok_or("an entity")?;
     let other = instance(alloc, b"#3=(ITEM()SPECIAL());")?;
     if simple_entity(&schema, &other).is_some() {
-        return None;
+        return Err("a complex instance")?;
     }
-    Some(Two {
+    Ok(Two {
         schema,
         entity,
         other,
     })
+}
+
+/// The reference fault of the instance that a text spells, where `#2` is one of this entity.
+fn fault_among(alloc: Global, entity: &[u8], text: &[u8]) -> Result<Option<FaultKind>, Fail> {
+    let two = with_entity(alloc, entity)?;
+    let one = instance(alloc, text)?;
+    fault(&one, &two)
 }
 
 #[test]
@@ -104,9 +105,7 @@ fn references_among_two(rt: HostRuntime) -> Result<(), Fail> {
         (b"OWNER", b"#1=GROUP((#3,#2,#4),());", wrong(0, 2)),
     ];
     for (entity, text, want) in rows {
-        let two = with_entity(alloc, entity).ok_or("two instances")?;
-        let one = instance(alloc, text).ok_or("an instance")?;
-        assert_eq!(rt; fault(&one, &two)?, want);
+        assert_eq!(rt; fault_among(alloc, entity, text)?, want);
     }
     Ok(())
 }

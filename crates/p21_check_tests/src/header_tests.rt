@@ -1,19 +1,13 @@
 //! Headers by example.
 
+use crate::tables::table;
 use p21_check::check_header;
-use p21_express::read_declarations;
 use p21_schema::Schema;
 use p21_tree::{FaultKind, read_preface};
 use std::alloc::{AllocError, Global};
 use std::test::Fail;
 
 const TOY: &[u8] = b"SCHEMA Toy; TYPE Label = STRING; END_TYPE; END_SCHEMA;";
-
-/// The table of a schema's text.
-fn table(alloc: Global, text: &[u8]) -> Option<Schema> {
-    let declarations = read_declarations(alloc, text).ok()?;
-    Schema::build(alloc, declarations).ok()
-}
 
 /// The texts, one behind the other.
 fn joined(alloc: Global, parts: &[&[u8]]) -> Result<Vec<u8>, AllocError> {
@@ -44,7 +38,7 @@ const SCHEMA: &[u8] = b"FILE_SCHEMA(('TOY'));";
 #[test]
 fn header_entities(rt: HostRuntime) -> Result<(), Fail> {
     let alloc = rt.alloc();
-    let toy = table(alloc, TOY).ok_or("the schema is read and built")?;
+    let toy = table(alloc, TOY)?;
     let entities = Some(FaultKind::HeaderEntities);
     let rows: [(&[&[u8]], Option<FaultKind>); 18] = [
         (&[DESCRIPTION, NAME, SCHEMA], None),
@@ -87,7 +81,7 @@ fn header_entities(rt: HostRuntime) -> Result<(), Fail> {
 #[test]
 fn schema_name(rt: HostRuntime) -> Result<(), Fail> {
     let alloc = rt.alloc();
-    let toy = table(alloc, TOY).ok_or("the schema is read and built")?;
+    let toy = table(alloc, TOY)?;
     let other = Some(FaultKind::WrongSchema);
     let rows: [(&[u8], Option<FaultKind>); 18] = [
         (b"toy { 1 0 }", None),

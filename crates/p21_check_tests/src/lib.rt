@@ -7,3 +7,5 @@ mod among_tests;
 mod header_tests;
 #[cfg(test)]
 mod local_tests;
+#[cfg(test)]
+mod tables;

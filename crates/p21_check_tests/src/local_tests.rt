@@ -1,10 +1,11 @@
 //! Instances by example: each row is the text of an instance, and its fault.
 
+use crate::tables::table;
 use p21_check::check_local;
-use p21_express::read_declarations;
 use p21_schema::Schema;
 use p21_tree::{FaultKind, Piece, read_piece};
 use std::alloc::Global;
+use std::process::Abort;
 use std::test::Fail;
 
 /// A small schema of two dozen declarations.
@@ -83,12 +84,6 @@ ENTITY other_part SUBTYPE OF (whole); SELF\\whole.v : NUMBER; SELF\\whole.o : NU
 ENTITY lower_part SUBTYPE OF (one_part); SELF\\one_part.v : REAL; END_ENTITY;\n\
 END_SCHEMA;\n";
 
-/// The table of a schema's text.
-fn table(alloc: Global, text: &[u8]) -> Option<Schema> {
-    let declarations = read_declarations(alloc, text).ok()?;
-    Schema::build(alloc, declarations).ok()
-}
-
 /// The fault of the instance that a text spells.
 fn fault(alloc: Global, schema: &Schema, text: &[u8]) -> Result<Option<FaultKind>, Fail> {
     let piece = Piece {
@@ -103,6 +98,15 @@ fn fault(alloc: Global, schema: &Schema, text: &[u8]) -> Result<Option<FaultKind
 /// The text of an instance, and its fault.
 type Row = (&'static [u8], Option<FaultKind>);
 
+/// Each row against the table of a schema's text.
+fn check(rt: &impl Abort, alloc: Global, schema: &[u8], rows: &[Row]) -> Result<(), Fail> {
+    let schema = table(alloc, schema)?;
+    for (text, want) in rows {
+        assert_eq!(rt; fault(alloc, &schema, text)?, *want, "{text:?}");
+    }
+    Ok(())
+}
+
 const SURROGATES: [Row; 3] = [
     (b"#1=MARK('\\X2\\D83DDE00\\X0\\');", None),
     (b"#1=MARK('\\X2\\D83D\\X0\\');", None),
@@ -114,11 +118,7 @@ const SURROGATES: [Row; 3] = [
 
 #[test]
 fn surrogates(rt: HostRuntime) -> Result<(), Fail> {
-    let schema = table(rt.alloc(), TOY).ok_or("a schema")?;
-    for (text, want) in SURROGATES {
-        assert_eq!(rt; fault(rt.alloc(), &schema, text)?, want);
-    }
-    Ok(())
+    check(&rt, rt.alloc(), TOY, &SURROGATES)
 }
 
 const DERIVED_SLOTS: [Row; 7] = [
@@ -148,11 +148,7 @@ const DERIVED_SLOTS: [Row; 7] = [
 
 #[test]
 fn derived_slots(rt: HostRuntime) -> Result<(), Fail> {
-    let schema = table(rt.alloc(), TOY).ok_or("a schema")?;
-    for (text, want) in DERIVED_SLOTS {
-        assert_eq!(rt; fault(rt.alloc(), &schema, text)?, want);
-    }
-    Ok(())
+    check(&rt, rt.alloc(), TOY, &DERIVED_SLOTS)
 }
 
 const DIAMOND: [Row; 3] = [
@@ -169,11 +165,7 @@ const DIAMOND: [Row; 3] = [
 
 #[test]
 fn diamond(rt: HostRuntime) -> Result<(), Fail> {
-    let schema = table(rt.alloc(), TOY).ok_or("a schema")?;
-    for (text, want) in DIAMOND {
-        assert_eq!(rt; fault(rt.alloc(), &schema, text)?, want);
-    }
-    Ok(())
+    check(&rt, rt.alloc(), TOY, &DIAMOND)
 }
 
 const COMPLEX_INSTANCES: [Row; 9] = [
@@ -205,11 +197,7 @@ const COMPLEX_INSTANCES: [Row; 9] = [
 
 #[test]
 fn complex_instances(rt: HostRuntime) -> Result<(), Fail> {
-    let schema = table(rt.alloc(), TOY).ok_or("a schema")?;
-    for (text, want) in COMPLEX_INSTANCES {
-        assert_eq!(rt; fault(rt.alloc(), &schema, text)?, want);
-    }
-    Ok(())
+    check(&rt, rt.alloc(), TOY, &COMPLEX_INSTANCES)
 }
 
 const SELECTS: [Row; 8] = [
@@ -240,11 +228,7 @@ const SELECTS: [Row; 8] = [
 
 #[test]
 fn selects(rt: HostRuntime) -> Result<(), Fail> {
-    let schema = table(rt.alloc(), TOY).ok_or("a schema")?;
-    for (text, want) in SELECTS {
-        assert_eq!(rt; fault(rt.alloc(), &schema, text)?, want);
-    }
-    Ok(())
+    check(&rt, rt.alloc(), TOY, &SELECTS)
 }
 
 const SIZES: [Row; 10] = [
@@ -280,11 +264,7 @@ const SIZES: [Row; 10] = [
 
 #[test]
 fn sizes(rt: HostRuntime) -> Result<(), Fail> {
-    let schema = table(rt.alloc(), TOY).ok_or("a schema")?;
-    for (text, want) in SIZES {
-        assert_eq!(rt; fault(rt.alloc(), &schema, text)?, want);
-    }
-    Ok(())
+    check(&rt, rt.alloc(), TOY, &SIZES)
 }
 
 const SETS_AND_BOUNDS: [Row; 6] = [
@@ -310,11 +290,7 @@ const SETS_AND_BOUNDS: [Row; 6] = [
 
 #[test]
 fn sets_and_bounds(rt: HostRuntime) -> Result<(), Fail> {
-    let schema = table(rt.alloc(), TOY).ok_or("a schema")?;
-    for (text, want) in SETS_AND_BOUNDS {
-        assert_eq!(rt; fault(rt.alloc(), &schema, text)?, want);
-    }
-    Ok(())
+    check(&rt, rt.alloc(), TOY, &SETS_AND_BOUNDS)
 }
 
 const REDECLARED: [Row; 4] = [
@@ -332,11 +308,7 @@ const REDECLARED: [Row; 4] = [
 
 #[test]
 fn redeclared(rt: HostRuntime) -> Result<(), Fail> {
-    let schema = table(rt.alloc(), TOY).ok_or("a schema")?;
-    for (text, want) in REDECLARED {
-        assert_eq!(rt; fault(rt.alloc(), &schema, text)?, want);
-    }
-    Ok(())
+    check(&rt, rt.alloc(), TOY, &REDECLARED)
 }
 
 const DEEP_PARAMETERS: [Row; 1] = [(
@@ -346,11 +318,7 @@ const DEEP_PARAMETERS: [Row; 1] = [(
 
 #[test]
 fn deep_parameters(rt: HostRuntime) -> Result<(), Fail> {
-    let schema = table(rt.alloc(), TOY).ok_or("a schema")?;
-    for (text, want) in DEEP_PARAMETERS {
-        assert_eq!(rt; fault(rt.alloc(), &schema, text)?, want);
-    }
-    Ok(())
+    check(&rt, rt.alloc(), TOY, &DEEP_PARAMETERS)
 }
 
 const BOUNDS_AND_WIDTHS: [Row; 14] = [
@@ -396,11 +364,7 @@ const BOUNDS_AND_WIDTHS: [Row; 14] = [
 
 #[test]
 fn bounds_and_widths(rt: HostRuntime) -> Result<(), Fail> {
-    let schema = table(rt.alloc(), LARGE).ok_or("a schema")?;
-    for (text, want) in BOUNDS_AND_WIDTHS {
-        assert_eq!(rt; fault(rt.alloc(), &schema, text)?, want);
-    }
-    Ok(())
+    check(&rt, rt.alloc(), LARGE, &BOUNDS_AND_WIDTHS)
 }
 
 const SELECTS_OF_SELECTS: [Row; 12] = [
@@ -441,11 +405,7 @@ const SELECTS_OF_SELECTS: [Row; 12] = [
 
 #[test]
 fn selects_of_selects(rt: HostRuntime) -> Result<(), Fail> {
-    let schema = table(rt.alloc(), LARGE).ok_or("a schema")?;
-    for (text, want) in SELECTS_OF_SELECTS {
-        assert_eq!(rt; fault(rt.alloc(), &schema, text)?, want);
-    }
-    Ok(())
+    check(&rt, rt.alloc(), LARGE, &SELECTS_OF_SELECTS)
 }
 
 const TWO_THAT_COUNT: [Row; 10] = [
@@ -478,9 +438,5 @@ const TWO_THAT_COUNT: [Row; 10] = [
 
 #[test]
 fn two_that_count(rt: HostRuntime) -> Result<(), Fail> {
-    let schema = table(rt.alloc(), LARGE).ok_or("a schema")?;
-    for (text, want) in TWO_THAT_COUNT {
-        assert_eq!(rt; fault(rt.alloc(), &schema, text)?, want);
-    }
-    Ok(())
+    check(&rt, rt.alloc(), LARGE, &TWO_THAT_COUNT)
 }

@@ -4,8 +4,6 @@
 mod cutter;
 mod laws;
 mod parts;
-#[cfg(test)]
-mod tests;
 
 pub use cutter::{Cut, Cutter};
 pub use laws::{first_tokens_of_file, one_cutting, pieces_hold_tokens, tokens_of_next_piece};

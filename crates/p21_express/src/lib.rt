@@ -26,6 +26,3 @@ pub use declarations::{
 };
 pub use error::SchemaError;
 pub use reading::{one_reading, read_declarations};
-
-#[cfg(test)]
-mod tests;

@@ -5,8 +5,6 @@ mod entities;
 mod joiner;
 mod model;
 mod names;
-#[cfg(test)]
-mod tests;
 
 pub use entities::{EntityView, ModelEntities};
 pub use joiner::{JoinError, Joiner};

@@ -12,9 +12,14 @@ use std::hash::BuildHasherDefault;
 use std::marker::Model;
 
 /// Names that differ from each other, in order.
-#[derive(Drop)]
 pub(crate) struct Names {
     set: IndexSet<Vec<u8>, BuildHasherDefault<KeywordHasher>>,
+}
+
+impl Drop for Names {
+    fn drop(self) {
+        let Self { set: _ } = self;
+    }
 }
 
 impl Model for Names {

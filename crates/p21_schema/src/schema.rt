@@ -16,7 +16,6 @@ use std::alloc::{AllocError, Global};
 use std::marker::Model;
 
 /// A schema whose declarations fit together, as a table.
-#[derive(Drop)]
 pub struct Schema {
     declarations: Declarations,
     entity_names: Names,
@@ -49,6 +48,26 @@ impl Model for Schema {
     ghost view = { λ a. plain_schema a.declarations };
 
     ghost invariant = { AreTables };
+}
+
+/// As a derive would; written out, it is one call wherever a schema is let go, which a derive takes apart in each such place.
+impl Drop for Schema {
+    fn drop(self) {
+        let Self {
+            declarations: _,
+            entity_names: _,
+            type_names: _,
+            supertypes: _,
+            ancestors: _,
+            own: _,
+            rows: _,
+            attributes: _,
+            ends: _,
+            unders: _,
+            selects: _,
+            admitting: _,
+        } = self;
+    }
 }
 
 impl Schema {

@@ -5,6 +5,7 @@ ghost use Rattle.p21_schema.specs.Row.{IsAttributeOf};
 use p21_express::{SchemaError, read_declarations};
 use p21_schema::{AttrId, EntityId, Form, Resolved, ResolvedExpr, Schema, Target, TypeId};
 use std::alloc::Global;
+use std::process::Abort;
 use std::test::*;
 
 /// A small schema of two dozen declarations.
@@ -60,9 +61,11 @@ END_FUNCTION;\n\
 END_SCHEMA;\n";
 
 /// The table of a schema's text.
-fn table(alloc: Global, text: &[u8]) -> Option<Schema> {
-    let declarations = read_declarations(alloc, text).ok()?;
-    Schema::build(alloc, declarations).ok()
+fn table(alloc: Global, text: &[u8]) -> Result<Schema, Fail> {
+    let Ok(declarations) = read_declarations(alloc, text) else {
+        return Err("a schema")?;
+    };
+    Ok(Schema::build(alloc, declarations)?)
 }
 
 /// The entity of this name.
@@ -72,35 +75,59 @@ fn entity(schema: &Schema, name: &[u8]) -> Result<EntityId, Fail>
     Ok(schema.entity(name).ok_or("an entity")?)
 }
 
-#[test]
-fn ancestry(rt: HostRuntime) -> Result<(), Fail> {
-    let toy = table(rt.alloc(), TOY).ok_or("the schema is read and built")?;
-    assert_eq!(rt; toy.name(), b"TOY".as_slice());
-    assert_eq!(rt; toy.entity(b"LABEL"), None);
-    let rows: [(&[u8], &[u8], bool); 6] = [
-        (b"EXTRA", b"ROOT", true),
-        (b"ROOT", b"ITEM", false),
-        (b"ITEM", b"ITEM", true),
-        (b"BOTH", b"BASE", true),
-        (b"BOTH", b"LEFT", true),
-        (b"LEFT", b"RIGHT", false),
-    ];
-    for (sub, sup, expected) in rows {
-        let sub = entity(&toy, sub)?;
-        let sup = entity(&toy, sup)?;
-        assert_eq!(rt; toy.is_a(sub, sup), expected);
+/// Two entities, and whether the first is the second one.
+const ANCESTRY: &[(&[u8], &[u8], bool)] = &[
+    (b"EXTRA", b"ROOT", true),
+    (b"ROOT", b"ITEM", false),
+    (b"ITEM", b"ITEM", true),
+    (b"BOTH", b"BASE", true),
+    (b"BOTH", b"LEFT", true),
+    (b"LEFT", b"RIGHT", false),
+];
+
+/// Whether the one entity is the other, by their names.
+fn is_a(schema: &Schema, sub: &[u8], sup: &[u8]) -> Result<bool, Fail> {
+    let sub = entity(schema, sub)?;
+    let sup = entity(schema, sup)?;
+    Ok(schema.is_a(sub, sup))
+}
+
+fn check_ancestry(rt: &impl Abort, schema: &Schema) -> Result<(), Fail> {
+    for (sub, sup, expected) in ANCESTRY {
+        assert_eq!(rt; is_a(schema, sub, sup)?, *expected, "{sub:?} {sup:?}");
     }
     Ok(())
 }
 
+#[test]
+fn ancestry(rt: HostRuntime) -> Result<(), Fail> {
+    let toy = table(rt.alloc(), TOY)?;
+    assert_eq!(rt; toy.name(), b"TOY".as_slice());
+    assert_eq!(rt; toy.entity(b"LABEL"), None);
+    check_ancestry(&rt, &toy)
+}
+
 /// An attribute, by the entity that newly declares it and its place among the own ones.
 type Attribute = (&'static [u8], usize);
+
+/// An entity, and the attributes of its row.
+type EntityRow = (&'static [u8], &'static [Attribute]);
 
 const ITEM: &[Attribute] = &[(b"ROOT", 0), (b"ROOT", 1), (b"ITEM", 0)];
 
 const NAMED_UNIT: &[Attribute] = &[(b"NAMED_UNIT", 0), (b"NAMED_UNIT", 1)];
 
 const BOTH: &[Attribute] = &[(b"BASE", 0), (b"LEFT", 0), (b"RIGHT", 0), (b"BOTH", 0)];
+
+const ROWS: &[EntityRow] = &[
+    (b"ITEM", ITEM),
+    (b"SPECIAL", ITEM),
+    (b"EXTRA", ITEM),
+    (b"CHAIN", ITEM),
+    (b"NAMED_UNIT", NAMED_UNIT),
+    (b"SIUNIT", NAMED_UNIT),
+    (b"BOTH", BOTH),
+];
 
 /// Whether the row of an entity is these attributes.
 fn has_row(schema: &Schema, name: &[u8], expected: &[Attribute]) -> Result<bool, Fail> {
@@ -119,26 +146,30 @@ fn has_row(schema: &Schema, name: &[u8], expected: &[Attribute]) -> Result<bool,
     Ok(true)
 }
 
+/// How many attributes an entity newly declares.
+fn own_count(schema: &Schema, name: &[u8]) -> Result<usize, Fail> {
+    Ok(schema.own_count(entity(schema, name)?))
+}
+
+fn check_rows(rt: &impl Abort, schema: &Schema) -> Result<(), Fail> {
+    for (name, expected) in ROWS {
+        assert!(rt; has_row(schema, name, expected)?, "{name:?}");
+    }
+    assert_eq!(rt; own_count(schema, b"SIUNIT")?, 0);
+    Ok(())
+}
+
 #[test]
 fn rows(rt: HostRuntime) -> Result<(), Fail> {
-    let toy = table(rt.alloc(), TOY).ok_or("the schema is read and built")?;
-    assert!(rt; has_row(&toy, b"ITEM", ITEM)?);
-    assert!(rt; has_row(&toy, b"SPECIAL", ITEM)?);
-    assert!(rt; has_row(&toy, b"EXTRA", ITEM)?);
-    assert!(rt; has_row(&toy, b"CHAIN", ITEM)?);
-    assert!(rt; has_row(&toy, b"NAMED_UNIT", NAMED_UNIT)?);
-    assert!(rt; has_row(&toy, b"SIUNIT", NAMED_UNIT)?);
-    assert!(rt; has_row(&toy, b"BOTH", BOTH)?);
-    let siunit = entity(&toy, b"SIUNIT")?;
-    assert_eq!(rt; toy.own_count(siunit), 0);
-    Ok(())
+    let toy = table(rt.alloc(), TOY)?;
+    check_rows(&rt, &toy)
 }
 
 #[test]
 fn one_name_in_two_supertypes(rt: HostRuntime) -> Result<(), Fail> {
     let text =
         b"SCHEMA s; ENTITY c SUBTYPE OF (b, a); END_ENTITY; ENTITY a; x : REAL; END_ENTITY; ENTITY b; x : REAL; END_ENTITY; END_SCHEMA;";
-    let schema = table(rt.alloc(), text).ok_or("the schema is read and built")?;
+    let schema = table(rt.alloc(), text)?;
     assert!(rt; has_row(&schema, b"C", &[(b"B", 0), (b"A", 0)])?);
     Ok(())
 }
@@ -191,7 +222,7 @@ fn is_declared(schema: &Schema, owner: &[u8], expected: &[Declared]) -> Result<b
 
 #[test]
 fn declarations(rt: HostRuntime) -> Result<(), Fail> {
-    let toy = table(rt.alloc(), TOY).ok_or("the schema is read and built")?;
+    let toy = table(rt.alloc(), TOY)?;
     assert!(rt;
         is_declared(
             &toy,
@@ -225,7 +256,7 @@ END_SCHEMA;\n";
 
 #[test]
 fn declared_again(rt: HostRuntime) -> Result<(), Fail> {
-    let schema = table(rt.alloc(), AGAIN).ok_or("the schema is read and built")?;
+    let schema = table(rt.alloc(), AGAIN)?;
     assert!(rt;
         is_declared(
             &schema,
@@ -293,27 +324,45 @@ fn reach(schema: &Schema, owner: &[u8], name: &[u8]) -> Result<(bool, bool, bool
     Ok((is_type, is_entity, any_entity))
 }
 
+/// An entity whose first own attribute is a SELECT, a name, and what the SELECT reaches of it.
+type Reached = (&'static [u8], &'static [u8], (bool, bool, bool));
+
+fn check_reached(rt: &impl Abort, schema: &Schema, rows: &[Reached]) -> Result<(), Fail> {
+    for (owner, name, expected) in rows {
+        assert_eq!(rt;
+            reach(schema, owner, name)?,
+            *expected,
+            "{owner:?} {name:?}"
+        );
+    }
+    Ok(())
+}
+
+const REACHED_BY_ANY_VALUE: &[Reached] = &[
+    (b"PROP", b"LABEL", (true, false, true)),
+    (b"PROP", b"TALLY", (true, false, true)),
+    (b"PROP", b"COLOUR", (true, false, true)),
+    (b"PROP", b"SIMPLE", (false, false, true)),
+    (b"PROP", b"ANY_VALUE", (false, false, true)),
+    (b"PROP", b"UNIT_NAME", (false, false, true)),
+    (b"PROP", b"ITEM", (false, true, true)),
+    (b"PROP", b"SPECIAL", (false, false, true)),
+];
+
+/// Of the SELECT that is the first item of that of PROP.
+fn check_first_item(rt: &impl Abort, schema: &Schema) -> Result<(), Fail> {
+    let simple = first_item(schema, type_of(schema, b"PROP")?)?;
+    assert!(rt; schema.select_has(simple, b"TALLY").is_some());
+    assert_eq!(rt; schema.select_has(simple, b"COLOUR"), None);
+    assert!(rt; !schema.select_has_entity(simple));
+    Ok(())
+}
+
 #[test]
 fn selects(rt: HostRuntime) -> Result<(), Fail> {
-    let toy = table(rt.alloc(), TOY).ok_or("the schema is read and built")?;
-    let rows: [(&[u8], bool, bool); 8] = [
-        (b"LABEL", true, false),
-        (b"TALLY", true, false),
-        (b"COLOUR", true, false),
-        (b"SIMPLE", false, false),
-        (b"ANY_VALUE", false, false),
-        (b"UNIT_NAME", false, false),
-        (b"ITEM", false, true),
-        (b"SPECIAL", false, false),
-    ];
-    for (name, is_type, is_entity) in rows {
-        assert_eq!(rt; reach(&toy, b"PROP", name)?, (is_type, is_entity, true));
-    }
-    let simple = first_item(&toy, type_of(&toy, b"PROP")?)?;
-    assert!(rt; toy.select_has(simple, b"TALLY").is_some());
-    assert_eq!(rt; toy.select_has(simple, b"COLOUR"), None);
-    assert!(rt; !toy.select_has_entity(simple));
-    Ok(())
+    let toy = table(rt.alloc(), TOY)?;
+    check_reached(&rt, &toy, REACHED_BY_ANY_VALUE)?;
+    check_first_item(&rt, &toy)
 }
 
 /// Selects of selects; what stands in an aggregate or in a defined type is not reached.
@@ -334,30 +383,28 @@ ENTITY b SUBTYPE OF (a); i : o; END_ENTITY;\n\
 ENTITY c; j : w; END_ENTITY;\n\
 END_SCHEMA;\n";
 
+const REACHED: &[Reached] = &[
+    (b"A", b"L", (true, false, true)),
+    (b"A", b"M", (true, false, true)),
+    (b"A", b"E", (true, false, true)),
+    (b"A", b"K", (true, false, true)),
+    (b"A", b"N", (false, false, true)),
+    (b"A", b"Q", (false, false, true)),
+    (b"A", b"R", (false, false, true)),
+    (b"A", b"A", (false, true, true)),
+    (b"A", b"B", (false, false, true)),
+    (b"A", b"C", (false, false, true)),
+    (b"A", b"NONE", (false, false, true)),
+    (b"B", b"M", (true, false, false)),
+    (b"B", b"E", (false, false, false)),
+    (b"B", b"A", (false, false, false)),
+    (b"C", b"C", (false, true, true)),
+];
+
 #[test]
 fn selects_of_selects(rt: HostRuntime) -> Result<(), Fail> {
-    let schema = table(rt.alloc(), SELECTS).ok_or("the schema is read and built")?;
-    let rows: [(&[u8], &[u8], (bool, bool, bool)); 15] = [
-        (b"A", b"L", (true, false, true)),
-        (b"A", b"M", (true, false, true)),
-        (b"A", b"E", (true, false, true)),
-        (b"A", b"K", (true, false, true)),
-        (b"A", b"N", (false, false, true)),
-        (b"A", b"Q", (false, false, true)),
-        (b"A", b"R", (false, false, true)),
-        (b"A", b"A", (false, true, true)),
-        (b"A", b"B", (false, false, true)),
-        (b"A", b"C", (false, false, true)),
-        (b"A", b"NONE", (false, false, true)),
-        (b"B", b"M", (true, false, false)),
-        (b"B", b"E", (false, false, false)),
-        (b"B", b"A", (false, false, false)),
-        (b"C", b"C", (false, true, true)),
-    ];
-    for (owner, name, expected) in rows {
-        assert_eq!(rt; reach(&schema, owner, name)?, expected);
-    }
-    Ok(())
+    let schema = table(rt.alloc(), SELECTS)?;
+    check_reached(&rt, &schema, REACHED)
 }
 
 /// Whether the SELECT that is the type of an entity's first own attribute reaches the entity of this name or an ancestor of it.
@@ -367,34 +414,45 @@ fn admits(schema: &Schema, owner: &[u8], name: &[u8]) -> Result<bool, Fail> {
     Ok(schema.select_admits(select, entity))
 }
 
-#[test]
-fn admitted_entities(rt: HostRuntime) -> Result<(), Fail> {
-    let toy = table(rt.alloc(), TOY).ok_or("the schema is read and built")?;
-    let rows: [(&[u8], bool); 6] = [
-        (b"ITEM", true),
-        (b"SPECIAL", true),
-        (b"EXTRA", true),
-        (b"CHAIN", true),
-        (b"ROOT", false),
-        (b"OWNER", false),
-    ];
-    for (name, expected) in rows {
-        assert_eq!(rt; admits(&toy, b"PROP", name)?, expected);
-    }
-    let schema = table(rt.alloc(), SELECTS).ok_or("the schema is read and built")?;
-    let rows: [(&[u8], &[u8], bool); 7] = [
-        (b"A", b"A", true),
-        (b"A", b"B", true),
-        (b"A", b"C", false),
-        (b"B", b"A", false),
-        (b"B", b"B", false),
-        (b"C", b"C", true),
-        (b"C", b"B", false),
-    ];
+/// An entity whose first own attribute is a SELECT, an entity, and whether the SELECT admits it.
+type Admitted = (&'static [u8], &'static [u8], bool);
+
+fn check_admitted(rt: &impl Abort, schema: &Schema, rows: &[Admitted]) -> Result<(), Fail> {
     for (owner, name, expected) in rows {
-        assert_eq!(rt; admits(&schema, owner, name)?, expected);
+        assert_eq!(rt;
+            admits(schema, owner, name)?,
+            *expected,
+            "{owner:?} {name:?}"
+        );
     }
     Ok(())
+}
+
+const ADMITTED_BY_ANY_VALUE: &[Admitted] = &[
+    (b"PROP", b"ITEM", true),
+    (b"PROP", b"SPECIAL", true),
+    (b"PROP", b"EXTRA", true),
+    (b"PROP", b"CHAIN", true),
+    (b"PROP", b"ROOT", false),
+    (b"PROP", b"OWNER", false),
+];
+
+const ADMITTED: &[Admitted] = &[
+    (b"A", b"A", true),
+    (b"A", b"B", true),
+    (b"A", b"C", false),
+    (b"B", b"A", false),
+    (b"B", b"B", false),
+    (b"C", b"C", true),
+    (b"C", b"B", false),
+];
+
+#[test]
+fn admitted_entities(rt: HostRuntime) -> Result<(), Fail> {
+    let toy = table(rt.alloc(), TOY)?;
+    check_admitted(&rt, &toy, ADMITTED_BY_ANY_VALUE)?;
+    let schema = table(rt.alloc(), SELECTS)?;
+    check_admitted(&rt, &schema, ADMITTED)
 }
 
 /// Its answer is right also where a request for memory is refused, which `tests/refused_memory` does in turn.

@@ -1,8 +1,7 @@
 //! Laws of the definitions: what each function ensures holds of every text. A caller calls one to learn its law.
 
-ghost use Rattle.std.specs.Prelude.{◌≡◌, ◌≤◌, ℕ, List, length};
-ghost use Rattle.p21_text.specs.Items.{Item, ItemsOf};
-ghost use Rattle.p21_text.specs.Laws.{HasOneFirst, HasOneList, HasOneListAtMost, HasOneString};
+ghost use Rattle.std.specs.Prelude.{◌≤◌, ℕ, List, length};
+ghost use Rattle.p21_text.specs.Laws.{HasContent, HasOneFirst, HasOneFirstAtMost, HasOneItemListAtMost, HasOneList, HasOneListAtMost, HasOneString};
 
 use crate::next::next_token;
 use crate::token::Token;
@@ -33,8 +32,19 @@ pub fn one_list(text: &[u8], at: usize)
 }
 
 /// A body has the items of one list at most.
-pub fn items_are_unique(raw: &[u8])
-    ensures { (a b : List Item) → ItemsOf raw.now a → ItemsOf raw.now b → a ≡ b }
+pub fn items_are_unique()
+    ensures { (raw : List ℕ) → HasOneItemListAtMost raw }
+{}
+
+/// From one place of a text on one token at most is the first.
+pub fn first_is_unique()
+    ensures { (text : List ℕ) → (at : ℕ) → HasOneFirstAtMost text at }
+{}
+
+/// The first token from a place of a text on carries a text of its kind.
+#[inline]
+pub fn first_has_content()
+    ensures { (text : List ℕ) → (at : ℕ) → HasContent text at }
 {}
 
 /// From one place of a text on there is one list of tokens at most.

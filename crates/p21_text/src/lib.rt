@@ -14,15 +14,16 @@ mod separators;
 mod shape;
 mod str_items;
 mod string;
-#[cfg(test)]
-mod tests;
 mod token;
 mod units;
 mod word;
 
 pub use binary::binary_bits;
 pub use body::{items, string_items, string_len};
-pub use laws::{items_are_unique, one_first, one_list, one_string, tokens_are_unique};
+pub use laws::{
+    first_has_content, first_is_unique, items_are_unique, one_first, one_list, one_string,
+    tokens_are_unique,
+};
 pub use meaning::StrItem;
 pub use next::next_token;
 pub use separators::separators_len;

@@ -1,12 +1,12 @@
 -- The strings and binaries of a tree are those of tokens, so they hold the bodies of such.
-use Rattle.std.proofs.Common.{◌≡◌, ℕ, List, [], ◌∷◌, ◌++◌, drop, refl, sym, ap, subst, ◌∙◌, Vec, Box, Bor, Global}
+use Rattle.std.proofs.Common.{◌≡◌, ℕ, List, [], ◌∷◌, ◌++◌, refl, sym, ap, subst, ◌∙◌, Vec, Box, Bor, Global}
 use Rattle.std.proofs.lemmas.List.Elements.{All-nil, All-cons}
 use Rattle.p21_text.specs.Contents.{IsContent}
+use Rattle.p21_text.specs.Laws.{HasContent}
 use Rattle.p21_text.specs.Spelling.{Symbol}
 use Rattle.p21_text.specs.Spelling as token
 use Rattle.p21_text.specs.Tokens.{Placed, TokensUpTo, symbols}
 use Rattle.p21_text.specs.Tokens as text
-use Rattle.p21_text.proofs.FrontLemmas.{front_content}
 use Rattle.p21_tree.specs.declared.source.Source.{Source}
 use Rattle.p21_tree.specs.declared.params.Param.{Param}
 use Rattle.p21_tree.specs.declared.params.Param.TheViews.{Items, Typed}
@@ -25,16 +25,20 @@ abbrev pub HaveContents : List Symbol → Type 0
 HaveContents [] = Unit {0}
 HaveContents (s ∷ ss) = IsContent s × HaveContents ss
 
-pub tokens_contents : {bytes : List ℕ} {at end : ℕ} {ts : List Placed} → TokensUpTo bytes at ts end → HaveContents (symbols ts)
-tokens_contents text.none = tt
-tokens_contents {bytes} {at} (text.more {t} f n r) = (front_content (drop f.gap (drop at bytes)) f.len t.token f.front, tokens_contents r)
+-- each first token of a text carries a text of its kind
+abbrev pub FirstsHaveContents : Type 0
+FirstsHaveContents = (text : List ℕ) (at : ℕ) → HasContent text at
+
+pub tokens_contents : FirstsHaveContents → {bytes : List ℕ} {at end : ℕ} {ts : List Placed} → TokensUpTo bytes at ts end → HaveContents (symbols ts)
+tokens_contents law text.none = tt
+tokens_contents law {bytes} {at} (text.more {t} f n r) = (law bytes at t f, tokens_contents law r)
 
 pub symbols_shifted : (base : ℕ) (ts : List Placed) → symbols (shifted base ts) ≡ symbols ts
 symbols_shifted base [] = refl
 symbols_shifted base (t ∷ ts) = ap (λ x. t.token ∷ x) (symbols_shifted base ts)
 
-pub chain_contents : (s : Source) (at end : ℕ) (ts : List Placed) → Chain s at ts end → HaveContents (symbols ts)
-chain_contents s at end ts c = subst HaveContents (sym (ap symbols c.in_file ∙ symbols_shifted s.base c.tokens)) (tokens_contents c.are)
+pub chain_contents : FirstsHaveContents → (s : Source) (at end : ℕ) (ts : List Placed) → Chain s at ts end → HaveContents (symbols ts)
+chain_contents law s at end ts c = subst HaveContents (sym (ap symbols c.in_file ∙ symbols_shifted s.base c.tokens)) (tokens_contents law c.are)
 
 pub front_contents : (a b : List Symbol) → HaveContents (a ++ b) → HaveContents a
 front_contents [] b h = tt
@@ -82,9 +86,9 @@ items_have v h = all_have v.items (subst HasBodies (plain_items v) h)
 pub typed_has : (k : Bor (List ℕ)) (p : Box Param Global) → HasBodies (plain (Typed k p)) → HasBodies (plain p.value)
 typed_has k p h = subst HasBodies (plain_typed k p) h
 
-pub arguments_bodies : (s : Source) (at end left : ℕ) (ps : List Param) → Covers (λ ts. IsArguments left ts (plain_all ps)) s at end → AllHaveBodies ps
-arguments_bodies s at end left ps c =
-    let a : HaveContents (symbols c.tokens) = chain_contents s at end c.tokens c.chain in
+pub arguments_bodies : FirstsHaveContents → (s : Source) (at end left : ℕ) (ps : List Param) → Covers (λ ts. IsArguments left ts (plain_all ps)) s at end → AllHaveBodies ps
+arguments_bodies law s at end left ps c =
+    let a : HaveContents (symbols c.tokens) = chain_contents law s at end c.tokens c.chain in
     let b : HaveContents (symbols (c.are.open_ ∷ c.are.rest)) = subst (λ x. HaveContents (symbols x)) c.are.parts a in
     let d : HaveContents (c.are.closed.inner ++ token.rparen ∷ []) = subst HaveContents c.are.closed.parts b.1 in
     all_have ps (optional_bodies c.are.closed.params (front_contents c.are.closed.inner (token.rparen ∷ []) d))

@@ -17,6 +17,7 @@ use crate::nest::Nest;
 use crate::source::Source;
 use crate::terminals::Terminal;
 use crate::tokens::{expect, is, refused, token};
+use p21_text::first_has_content;
 use std::alloc::Global;
 
 /// Reads a header entity behind its keyword, and gives it with the place behind it.
@@ -33,6 +34,7 @@ fn entity<'a>(
     ensures within { IfOk result (λ r. r.1 ≤ length source.entry.text.now) }
     ensures fault { IfErr result (λ e. OnGrammar e (Fails EntityRest 63 source.entry at)) }
 {
+    first_has_content();
     let (params, after) = arguments(alloc, nest, source, at, 63)?;
     let semi = expect(source, after, Terminal::Semi)?;
     Ok((HeaderEntity { keyword, params }, semi.after))

@@ -4,6 +4,8 @@ ghost use Rattle.p21_tree.specs.Fault.{files, instances, pieces, prefaces, tails
 ghost use Rattle.p21_tree.specs.Laws.{FaultsAreOfTokens, HasAnswer, HasOneFaultAtMost, HasOneTree, NoneBeginsAnother, PieceFaultsAreOfTokens, PrefaceFaultsAreOfTokens};
 ghost use Rattle.p21_tree.specs.InOrder.{InstanceHasOneSemi, NoFaultBehindSemi, PartsGiveFile, PieceFaultIsOfFile, PieceIsInstance, PrefaceFaultIsOfFile, PrefaceOrFault, TailFaultIsOfFile};
 
+use p21_text::first_is_unique;
+
 /// A list of tokens that ends with the end of the text, or where no token begins, is a file or has a fault; the same
 /// of prefaces, pieces and tails.
 pub fn one_answer()
@@ -64,4 +66,6 @@ pub fn faults_of_tokens()
     ensures of_prefaces { PrefaceFaultsAreOfTokens }
     ensures of_pieces { PieceFaultsAreOfTokens }
     ensures of_tails { FaultsAreOfTokens tails }
-{}
+{
+    first_is_unique();
+}

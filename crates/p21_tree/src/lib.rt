@@ -21,8 +21,6 @@ mod records;
 mod source;
 mod steps;
 mod terminals;
-#[cfg(test)]
-mod tests;
 mod tokens;
 
 pub use faults::{Fault, FaultKind, TreeError};

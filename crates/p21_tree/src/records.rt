@@ -19,7 +19,7 @@ use crate::keywords::keyword;
 use crate::nest::Nest;
 use crate::source::Source;
 use crate::tokens::{refused, token};
-use p21_text::Token;
+use p21_text::{Token, first_has_content};
 use std::alloc::Global;
 
 /// Reads the parameters behind a keyword, and gives the record with the place behind it. Inside, at most `left` more
@@ -39,6 +39,7 @@ fn keyed<'a>(
     ensures within { IfOk result (λ r. r.1 ≤ length source.entry.text.now) }
     ensures fault { IfErr result (λ e. OnGrammar e (Fails Arguments left source.entry at)) }
 {
+    first_has_content();
     let (params, after) = arguments(alloc, nest, source, at, left)?;
     Ok((Record { keyword, params }, after))
 }

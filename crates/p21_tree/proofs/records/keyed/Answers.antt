@@ -13,7 +13,7 @@ returns-in_err-params-clause-fault c =
 
 pub invariant_of-result : goal.invariant_of-result
 invariant_of-result c = record {
-  bodies = arguments_bodies c.args.source c.args.at c.in_ok-params.after c.args.left c.in_ok-params.params c.in_ok-params.ensures.ok;
+  bodies = arguments_bodies c.first_has_content.ensures c.args.source c.args.at c.in_ok-params.after c.args.left c.in_ok-params.params c.in_ok-params.ensures.ok;
 }
 
 pub returns-clause-ok : goal.returns-clause-ok

@@ -1,6 +1,6 @@
 //! Cutting by example: each row is a file, its pieces and its tail.
 
-use crate::{Cut, Cutter};
+use p21_cut::{Cut, Cutter};
 use std::alloc::{AllocError, Global};
 use std::test::Fail;
 

@@ -1,6 +1,6 @@
 //! Declarations as text, so that a test can tell all of them at once.
 
-use crate::{
+use p21_express::{
     AttrDecl, Bounds, Declarations, DeriveDecl, EntityDecl, TypeDecl, TypeExpr, Under, Width,
 };
 use std::alloc::{AllocError, Global};

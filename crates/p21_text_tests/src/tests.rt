@@ -1,9 +1,9 @@
 //! Tokens and where they stand, and the items of strings, by example.
 
-use crate::StrItem::{Page, Scalar};
-use crate::{
-    Lexed, StrItem, Token, binary_bits, items, items_are_unique, next_token, one_first, one_list,
-    separators_len, string_items, string_len,
+use p21_text::StrItem::{Page, Scalar};
+use p21_text::{
+    Lexed, StrItem, Token, binary_bits, first_has_content, first_is_unique, items,
+    items_are_unique, next_token, one_first, one_list, separators_len, string_items, string_len,
 };
 use std::alloc::{AllocError, Global};
 use std::process::Abort;
@@ -194,7 +194,9 @@ fn from_a_place(rt: HostRuntime) {
     );
     one_first(text, 3);
     one_list(text, 0);
-    items_are_unique(text);
+    items_are_unique();
+    first_is_unique();
+    first_has_content();
 }
 
 /// How many bits the binary has that a text begins with.

@@ -3,11 +3,11 @@
 ghost use Rattle.p21_tree.specs.Plain.{plain};
 ghost use Rattle.p21_tree.specs.Bodies.{AllHaveBodies, HasBodies};
 
-use crate::{
+use p21_text::{binary_bits, string_len};
+use p21_tree::{
     Fault, FaultKind, Few, InstanceReader, Param, Piece, RawInstance, Record, TreeError,
     read_piece, read_preface, read_tail, read_whole,
 };
-use p21_text::{binary_bits, string_len};
 use std::alloc::{AllocError, Global};
 use std::process::Abort;
 use std::test::Fail;

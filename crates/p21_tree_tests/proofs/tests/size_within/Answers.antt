@@ -1,8 +1,8 @@
 use Rattle.std.proofs.Common.{sym, subst}
 use Rattle.p21_tree.specs.Plain.{plain}
 use Rattle.p21_tree.specs.Bodies.{AllHaveBodies, HasBodies}
-use Rattle.p21_tree.proofs.BodyLemmas.{items_have}
-use Rattle.p21_tree.proofs.tests.size_within.Goals as goal
+use Rattle.p21_tree_tests.proofs.ListLemmas.{items_have}
+use Rattle.p21_tree_tests.proofs.tests.size_within.Goals as goal
 
 pub sizes-requires : goal.sizes-requires
 sizes-requires c =

@@ -1,5 +1,5 @@
 use self::listing::listed;
-use super::*;
+use p21_express::{SchemaError, read_declarations};
 use std::alloc::Global;
 use std::test::*;
 

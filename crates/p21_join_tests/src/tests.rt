@@ -3,12 +3,13 @@
 ghost use Rattle.std.specs.Prelude.{◌≡◌};
 ghost use Rattle.p21_join.specs.Entities.{model_of};
 
-use crate::{JoinError, Joiner, Model, ModelEntities};
 use p21_check::{EntityOf, Named};
 use p21_express::read_declarations;
+use p21_join::{JoinError, Joiner, Model, ModelEntities};
 use p21_schema::{EntityId, Schema};
 use p21_tree::{Piece, RawInstance, TreeError, read_piece};
 use std::alloc::Global;
+use std::process::Abort;
 use std::test::Fail;
 
 fn instance_of(alloc: Global, text: &[u8]) -> Result<RawInstance<'_>, TreeError> {
@@ -30,29 +31,28 @@ enum Answer {
     Memory,
 }
 
-fn add<'a>(joiner: &mut Joiner<'a>, instance: RawInstance<'a>) -> Answer {
-    match joiner.add(instance) {
+/// Adds the instance that a text spells.
+fn add<'a>(alloc: Global, joiner: &mut Joiner<'a>, text: &'a [u8]) -> Result<Answer, Fail> {
+    Ok(match joiner.add(instance_of(alloc, text)?) {
         Ok(()) => Answer::Joined,
         Err(JoinError::Duplicate(back)) => Answer::Duplicate(back.name),
         Err(JoinError::Memory(_)) => Answer::Memory,
-    }
+    })
 }
 
-#[test]
-fn joins_each_name_once(rt: HostRuntime) -> Result<(), Fail> {
-    let alloc = rt.alloc();
+/// The text of an instance, and what `add` answers to it.
+type Row = (&'static [u8], Answer);
+
+/// The model of some instances, each of which is answered as its row says.
+fn model_of_rows(rt: &impl Abort, alloc: Global, rows: &[Row]) -> Result<Model<'static>, Fail> {
     let mut joiner = Joiner::new(alloc);
-    for (text, want) in [
-        (b"#7=MARK('a');".as_slice(), Answer::Joined),
-        (b"#3=MARK('b');".as_slice(), Answer::Joined),
-        (b"#007=MARK('c');".as_slice(), Answer::Duplicate(7)),
-    ] {
-        let Ok(instance) = instance_of(alloc, text) else {
-            panic!(rt; "a row is no instance");
-        };
-        assert_eq!(rt; add(&mut joiner, instance), want);
+    for (text, want) in rows {
+        assert_eq!(rt; add(alloc, &mut joiner, text)?, *want, "{text:?}");
     }
-    let model = joiner.into_model();
+    Ok(joiner.into_model())
+}
+
+fn check_names(rt: &impl Abort, model: &Model<'_>) {
     assert_eq!(rt; model.len(), 2);
     assert!(rt; !model.is_empty());
     assert_eq!(rt; model.instances().len(), 2);
@@ -63,13 +63,26 @@ fn joins_each_name_once(rt: HostRuntime) -> Result<(), Fail> {
     assert!(rt; model.find(8).is_none());
     assert_eq!(rt; model.position(3), Some(1));
     assert_eq!(rt; model.position(8), None);
+}
+
+#[test]
+fn joins_each_name_once(rt: HostRuntime) -> Result<(), Fail> {
+    let rows: [Row; 3] = [
+        (b"#7=MARK('a');", Answer::Joined),
+        (b"#3=MARK('b');", Answer::Joined),
+        (b"#007=MARK('c');", Answer::Duplicate(7)),
+    ];
+    let model = model_of_rows(&rt, rt.alloc(), &rows)?;
+    check_names(&rt, &model);
     Ok(())
 }
 
 /// The table of a schema's text.
-fn table(alloc: Global, text: &[u8]) -> Option<Schema> {
-    let declarations = read_declarations(alloc, text).ok()?;
-    Schema::build(alloc, declarations).ok()
+fn table(alloc: Global, text: &[u8]) -> Result<Schema, Fail> {
+    let Ok(declarations) = read_declarations(alloc, text) else {
+        return Err("a schema")?;
+    };
+    Ok(Schema::build(alloc, declarations)?)
 }
 
 /// What is known of the instance of a name.
@@ -99,35 +112,42 @@ fn entity_at(entities: &ModelEntities<'_, '_>, model: &Model<'_>, place: usize) 
     }
 }
 
+/// Of the model whose instances `#70` and `#4` are simple ones of these entities.
+fn check_entities(
+    rt: &impl Abort,
+    entities: &ModelEntities<'_, '_>,
+    model: &Model<'_>,
+    mark: EntityId,
+    item: EntityId,
+)
+    requires { model_of entities.now ≡ model.now }
+{
+    assert_eq!(rt; answer_of(entities, 70), Known::Simple(mark));
+    assert_eq!(rt; answer_of(entities, 3), Known::Other(3));
+    assert_eq!(rt; answer_of(entities, 1000), Known::Other(1000));
+    assert_eq!(rt; answer_of(entities, 4), Known::Simple(item));
+    assert_eq!(rt; answer_of(entities, 5), Known::Missing);
+    let own = [Some(mark), None, None, Some(item)];
+    for (place, expected) in own.into_iter().enumerate() {
+        assert_eq!(rt; entity_at(entities, model, place), expected, "at {place}");
+    }
+}
+
 #[test]
 fn knows_the_entities_of_simple_instances(rt: HostRuntime) -> Result<(), Fail> {
     let alloc = rt.alloc();
     let text = b"SCHEMA Toy; ENTITY Item; END_ENTITY; ENTITY Mark; END_ENTITY; END_SCHEMA;";
-    let schema = table(alloc, text).ok_or("a schema")?;
+    let schema = table(alloc, text)?;
     let item = schema.entity(b"ITEM").ok_or("an entity")?;
     let mark = schema.entity(b"MARK").ok_or("an entity")?;
-    let mut joiner = Joiner::new(alloc);
-    for text in [
-        b"#70=MARK();".as_slice(),
-        b"#3=(ITEM()MARK());".as_slice(),
-        b"#1000=NONE();".as_slice(),
-        b"#4=ITEM();".as_slice(),
-    ] {
-        let Ok(instance) = instance_of(alloc, text) else {
-            panic!(rt; "a row is no instance");
-        };
-        assert_eq!(rt; add(&mut joiner, instance), Answer::Joined);
-    }
-    let model = joiner.into_model();
+    let rows: [Row; 4] = [
+        (b"#70=MARK();", Answer::Joined),
+        (b"#3=(ITEM()MARK());", Answer::Joined),
+        (b"#1000=NONE();", Answer::Joined),
+        (b"#4=ITEM();", Answer::Joined),
+    ];
+    let model = model_of_rows(&rt, alloc, &rows)?;
     let entities = ModelEntities::new(alloc, &schema, &model)?;
-    assert_eq!(rt; answer_of(&entities, 70), Known::Simple(mark));
-    assert_eq!(rt; answer_of(&entities, 3), Known::Other(3));
-    assert_eq!(rt; answer_of(&entities, 1000), Known::Other(1000));
-    assert_eq!(rt; answer_of(&entities, 4), Known::Simple(item));
-    assert_eq!(rt; answer_of(&entities, 5), Known::Missing);
-    let own = [Some(mark), None, None, Some(item)];
-    for (place, expected) in own.into_iter().enumerate() {
-        assert_eq!(rt; entity_at(&entities, &model, place), expected, "at {place}");
-    }
+    check_entities(&rt, &entities, &model, mark, item);
     Ok(())
 }
