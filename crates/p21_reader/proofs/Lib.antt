@@ -10,3 +10,4 @@ pub mod FrontLemmas
 pub mod UniqueLemmas
 pub mod EntityLemmas
 pub mod PieceLemmas
+pub mod LaneLemmas

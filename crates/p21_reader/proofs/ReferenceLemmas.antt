@@ -13,7 +13,7 @@ use Rattle.p21_check.specs.References.{IsReferenceFault, named_in}
 use Rattle.p21_join.specs.Model.{plain_instances}
 use Rattle.p21_reader.specs.InstanceFault.{IsInstanceFault, HaveNoFault}
 use Rattle.p21_reader.specs.InstanceFault as fault
-use Rattle.p21_reader.specs.Reading.{IsFirstReferenceFault}
+use Rattle.p21_refs.specs.FirstReferenceFault.{IsFirstReferenceFault}
 
 -- an element stands behind those before it
 stands : (xs : List Instance) (k : ℕ) (x : Instance) → k < length xs → get_or xs k x ≡ x → xs ≡ take k xs ++ x ∷ drop (suc k) xs

@@ -18,7 +18,8 @@ use Rattle.p21_reader.specs.InstanceFault.{IsInstanceFault, HaveNoFault}
 use Rattle.p21_reader.specs.InstanceFault as own
 use Rattle.p21_reader.specs.LocalFault.{IsOpeningFault, IsLocalFaultOfFile, HasNoLocalFault}
 use Rattle.p21_reader.specs.LocalFault as fault
-use Rattle.p21_reader.specs.Reading.{AreAnswered, IsFirstReferenceFault, IsReading}
+use Rattle.p21_refs.specs.FirstReferenceFault.{AreAnswered, IsFirstReferenceFault}
+use Rattle.p21_reader.specs.Reading.{IsReading}
 use Rattle.p21_reader.specs.Reading as reading
 use Rattle.p21_reader.specs.Laws.{HasOneReadingAtMost}
 use Rattle.p21_reader.proofs.ReadLemmas.{begins_opening}

@@ -9,3 +9,4 @@ pub mod Judged
 pub mod Gathering
 pub mod PiecesOf
 pub mod Laws
+pub mod Lanes

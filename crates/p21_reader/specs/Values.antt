@@ -9,7 +9,7 @@ use Rattle.p21_tree.specs.Fault.{tails}
 use Rattle.p21_tree.specs.Texts.{IsPieceText, HasPieceFault, HasTail, HasFault}
 use Rattle.p21_check.specs.LocalFault.{IsLocalFault}
 use Rattle.p21_reader.specs.InstanceFault.{IsFaultAmong}
-use Rattle.p21_reader.specs.Reading.{AreAnswered, IsFirstReferenceFault}
+use Rattle.p21_refs.specs.FirstReferenceFault.{AreAnswered, IsFirstReferenceFault}
 
 -- an instance that stands whole in its piece, and the fault that it is said to have by itself, if any
 pub record Whole : Type 0 where

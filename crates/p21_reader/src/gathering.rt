@@ -12,6 +12,7 @@ ghost use Rattle.p21_reader.specs.declared.judged.Judgement.{Judgement};
 
 use crate::judged::{Judged, Judgement};
 use crate::stop::Stop;
+use p21_crew::Gathers;
 use p21_join::{JoinError, Joiner, Model};
 use p21_schema::EntityId;
 use p21_tree::{Fault, FaultKind, RawInstance, read_tail};
@@ -79,6 +80,16 @@ impl<'a> Gathering<'a> {
         }
         read_tail(file, tail)?;
         Ok((self.joiner.into_model(), self.entities))
+    }
+}
+
+impl<'a> Gathers<Judgement<'a>> for Gathering<'a> {
+    ghost use Rattle.p21_reader.specs.Gathering.{IsGathered};
+
+    ghost holds = { IsGathered };
+
+    fn gather(&mut self, out: Judgement<'a>) -> Result<(), AllocError> {
+        Gathering::gather(self, out)
     }
 }
 

@@ -3,8 +3,11 @@
 
 mod gathering;
 mod judged;
+mod judging;
+mod lanes;
 mod laws;
 mod local;
+mod pieces;
 mod reading;
 #[cfg(test)]
 mod reference_tests;
@@ -14,6 +17,7 @@ mod stop;
 mod tests;
 
 pub use judged::{Judge, Judged, LocalReader};
+pub use lanes::{read_lanes, read_lanes_by};
 pub use laws::{one_reading, pieces_are_instances, pieces_in_order, values_give_reading};
 pub use reading::{ReadError, Reading};
 pub use serial::read_serial;

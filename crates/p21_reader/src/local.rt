@@ -39,7 +39,11 @@ pub(crate) fn local_model<'a>(
 }
 
 /// The preface of a file, whose header section is that of a file of the schema.
-fn checked_preface<'a>(alloc: Global, schema: &Schema, file: &'a [u8]) -> Result<Preface<'a>, Stop>
+pub(crate) fn checked_preface<'a>(
+    alloc: Global,
+    schema: &Schema,
+    file: &'a [u8],
+) -> Result<Preface<'a>, Stop>
     ensures begins { IfOk result (λ preface. BeginsPreface file.now (plain_preface preface)) }
     ensures within { IfOk result (λ preface. preface.data_at ≤ length file.now) }
     ensures header { IfOk result (λ preface. IsHeaderFault schema.now (plain_preface preface) None) }

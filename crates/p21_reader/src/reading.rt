@@ -1,13 +1,35 @@
 //! What reading a file gives.
 
 use p21_join::Model;
-use p21_tree::Fault;
+use p21_lanes::Receipt;
+use p21_tree::{Fault, Piece};
+use std::alloc::Global;
 
 /// What reading a file gave.
 #[derive(Drop)]
 pub struct Reading<'a> {
     /// The instances of the file in their order, or its first fault.
     pub answer: Result<Model<'a>, Fault>,
+    /// What each lane received, by its number; none of a file that was read by one thread, or has a fault before its instances.
+    pub receipts: Vec<Receipt<Piece<'a>>>,
+    /// The lane that each piece of the file was dealt to; none where there are no receipts.
+    pub dealt: Vec<u32>,
+}
+
+impl<'a> Reading<'a> {
+    ghost use Rattle.std.specs.Prelude.{◌≡◌, []};
+
+    /// An answer without lanes. This takes no memory.
+    pub(crate) fn without_lanes(alloc: Global, answer: Result<Model<'a>, Fault>) -> Reading<'a>
+        ensures answer { result.answer ≡ answer.entry }
+        ensures lanes { (result.receipts.items ≡ []) × (result.dealt.items ≡ []) }
+    {
+        Reading {
+            answer,
+            receipts: Vec::new(alloc),
+            dealt: Vec::new(alloc),
+        }
+    }
 }
 
 /// Why a reading gave no answer.

@@ -1,11 +1,12 @@
 //! Reading a file from its first byte to its last, on one thread.
 
-ghost use Rattle.std.specs.Prelude.{◌≡◌, IfOk, OnOk, IfErr};
+ghost use Rattle.std.specs.Prelude.{◌≡◌, [], IfOk, OnOk, IfErr};
 ghost use Rattle.p21_check.specs.EntityOf.{AreSimpleEntities};
 ghost use Rattle.p21_join.specs.Model.{instances_of, plain_instances};
 ghost use Rattle.p21_reader.specs.Answer.{plain_answer};
 ghost use Rattle.p21_reader.specs.InstanceFault.{HaveNoFault};
-ghost use Rattle.p21_reader.specs.Reading.{AreAnswered, IsFirstReferenceFault, IsReading};
+ghost use Rattle.p21_refs.specs.FirstReferenceFault.{AreAnswered, IsFirstReferenceFault};
+ghost use Rattle.p21_reader.specs.Reading.{IsReading};
 ghost use Rattle.p21_reader.specs.Steps.{OnFault};
 
 use crate::local::local_model;
@@ -22,17 +23,18 @@ use std::alloc::Global;
 /// The answer is the first fault of the file, or its instances in their order. The faults stand in this order: a grammar
 /// fault up to and including `DATA;`; a fault of the header entities, then of the schema's name; of the instances that stand
 /// whole before the first grammar fault, the fault of the first that has one; the first grammar fault; the first reference
-/// fault. An error is want of memory.
+/// fault. There are no receipts, and nothing is dealt. An error is want of memory.
 pub fn read_serial<'a>(
     alloc: Global,
     schema: &Schema,
     file: &'a [u8],
 ) -> Result<Reading<'a>, ReadError>
-    ensures { IfOk result (λ reading. IsReading schema.now file.now (plain_answer reading.answer)) }
+    ensures answer { IfOk result (λ reading. IsReading schema.now file.now (plain_answer reading.answer)) }
+    ensures lanes { IfOk result (λ reading. (reading.receipts.items ≡ []) × (reading.dealt.items ≡ [])) }
 {
     match checked_model(alloc, schema, file) {
-        Ok(model) => Ok(Reading { answer: Ok(model) }),
-        Err(Stop::Fault(fault)) => Ok(Reading { answer: Err(fault) }),
+        Ok(model) => Ok(Reading::without_lanes(alloc, Ok(model))),
+        Err(Stop::Fault(fault)) => Ok(Reading::without_lanes(alloc, Err(fault))),
         Err(Stop::Memory) => Err(ReadError::Memory),
     }
 }

@@ -6,13 +6,17 @@ ghost use Rattle.p21_report.specs.declared.program_error.ProgramError.TheVariant
 
 use crate::opened::Opened;
 use crate::program_error::ProgramError;
-use crate::words::{not_text, paths_named};
+use crate::words::{not_text, wanted};
+use p21_crew::OpenGate;
 use p21_run::{Outcome, Stream, run};
 use std::alloc::{AllocError, Global};
 use std::fs::Files;
 use std::io::{self, Read, Write};
+use std::sync::Wait;
+use std::thread::Threads;
 
-/// The program `p21check SCHEMA FILE`: reads the schema, checks the file against it, and writes the report to `output`.
+/// The program `p21check SCHEMA FILE [--lanes N] [--capacity N]`: reads the schema, checks the file against it by so many lanes (4,
+/// if not said) of this capacity (256), and writes the report to `output`.
 /// `words` are the words of the command line, the program's own name first; FILE `-` is `input`, and `rt` opens the others,
 /// FILE only where the schema was read. The answer is the status to end with: 0 where the file was read, 1 where it has a
 /// fault, 2 where the words were refused (clap's text goes to `errors`), 3 where the schema was refused, 4 where a path cannot
@@ -27,7 +31,7 @@ pub fn program<R, I, O, E>(
     errors: &mut E,
 ) -> u8
 where
-    R: Files,
+    R: Files + Threads + Wait + Sync,
     I: Read,
     O: Write,
     E: Write,
@@ -50,21 +54,23 @@ pub fn unreadable_words<E: Write>(alloc: Global, error: &io::Error, errors: &mut
 }
 
 /// Runs over the schema and the file that the words name.
-fn report<R: Files, I: Read, O: Write>(
+fn report<R: Files + Threads + Wait + Sync, I: Read, O: Write>(
     rt: &R,
     alloc: Global,
     words: &[String],
     input: &mut I,
     output: &mut O,
 ) -> Result<u8, ProgramError> {
-    let paths = paths_named(alloc, words)?;
-    let mut schema = Opened::new(rt, paths.schema);
+    let wanted = wanted(alloc, words)?;
+    let mut schema = Opened::new(rt, wanted.schema);
     let mut out = Stream::new(output);
-    let outcome = if paths.file == "-" {
-        run(alloc, &mut schema, &mut Stream::new(input), &mut out)
+    let (lanes, capacity) = (wanted.lanes, wanted.capacity);
+    let outcome = if wanted.file == "-" {
+        let mut file = Stream::new(input);
+        run(rt, alloc, &OpenGate, &mut schema, &mut file, &mut out, lanes, capacity)
     } else {
-        let mut file = Opened::new(rt, paths.file);
-        run(alloc, &mut schema, &mut file, &mut out)
+        let mut file = Opened::new(rt, wanted.file);
+        run(rt, alloc, &OpenGate, &mut schema, &mut file, &mut out, lanes, capacity)
     };
     status_of(outcome)
 }

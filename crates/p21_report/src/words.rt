@@ -2,25 +2,35 @@
 
 use crate::program_error::ProgramError;
 use clap::error::ErrorKind;
-use clap::{Arg, Command};
+use clap::{Arg, Command, value_parser};
+use p21_desk::LaneCount;
+use p21_lanes::Capacity;
 use std::alloc::Global;
 
-/// The paths that the words name.
+/// What the words ask for.
 #[derive(Clone, Copy, Debug)]
-pub(crate) struct Paths<'a> {
+pub(crate) struct Wanted<'a> {
+    /// The path of the schema.
     pub(crate) schema: &'a str,
-    /// `-` is the standard input.
+    /// The path of the file; `-` is the standard input.
     pub(crate) file: &'a str,
+    pub(crate) lanes: LaneCount,
+    pub(crate) capacity: Capacity,
 }
 
-/// The paths that the words name; the first word is the program's own name.
-pub(crate) fn paths_named<'a>(
-    alloc: Global,
-    words: &'a [String],
-) -> Result<Paths<'a>, ProgramError> {
+/// What the words ask for; the first word is the program's own name.
+pub(crate) fn wanted<'a>(alloc: Global, words: &'a [String]) -> Result<Wanted<'a>, ProgramError> {
     let matches = command(alloc)?.try_get_matches_from(words)?;
-    match (matches.get_str("SCHEMA"), matches.get_str("FILE")) {
-        (Some(schema), Some(file)) => Ok(Paths { schema, file }),
+    let paths = (matches.get_str("SCHEMA"), matches.get_str("FILE"));
+    let lanes = matches.get_one("lanes").and_then(LaneCount::new);
+    let capacity = matches.get_one("capacity").and_then(Capacity::new);
+    match (paths, lanes, capacity) {
+        ((Some(schema), Some(file)), Some(lanes), Some(capacity)) => Ok(Wanted {
+            schema,
+            file,
+            lanes,
+            capacity,
+        }),
         _ => Err(refused(
             alloc,
             ErrorKind::MissingRequiredArgument,
@@ -55,9 +65,23 @@ fn command<'a>(alloc: Global) -> Result<Command<'a>, ProgramError> {
     let file = Arg::new(alloc, "FILE")
         .required(true)
         .help("the exchange structure to read; - is standard input");
+    let lanes = Arg::new(alloc, "lanes")
+        .long("lanes")
+        .value_name("N")
+        .default_value("4")
+        .value_parser(value_parser!(u32).range(1..=64))
+        .help("how many threads read the file beside the one that deals it, 1 to 64");
+    let capacity = Arg::new(alloc, "capacity")
+        .long("capacity")
+        .value_name("N")
+        .default_value("256")
+        .value_parser(value_parser!(u32).range(1..=4096))
+        .help("how many instances may be out with one of them, 1 to 4096");
     let command = Command::new(alloc, "p21check")
         .about("Reads a STEP file (ISO 10303-21) and checks it against an EXPRESS schema")
         .arg(schema)?
-        .arg(file)?;
+        .arg(file)?
+        .arg(lanes)?
+        .arg(capacity)?;
     Ok(command)
 }

@@ -6,11 +6,16 @@ ghost use Rattle.p21_render.specs.SchemaFaultLine.{schema_fault_text};
 ghost use Rattle.p21_run.specs.declared.outcome.Outcome.TheVariants.{SchemaRefused};
 
 use crate::outcome::Outcome;
+use p21_crew::Gate;
+use p21_desk::LaneCount;
 use p21_express::SchemaError;
-use p21_reader::{ReadError, read_serial};
+use p21_lanes::Capacity;
+use p21_reader::{ReadError, read_lanes};
 use p21_render::{render, schema_fault_line};
 use p21_schema::Schema;
 use std::alloc::{AllocError, Global};
+use std::sync::Wait;
+use std::thread::Threads;
 
 /// What is to be written, and the outcome when it is written.
 #[derive(Debug, Drop)]
@@ -19,15 +24,25 @@ pub(crate) struct Report {
     pub(crate) text: Vec<u8>,
 }
 
-/// The report of a file. Memory alone can fail.
-pub(crate) fn report_of_file(
+/// By how many lanes a file is read, how many pieces may be out on one, and what a worker passes before each.
+#[derive(Drop)]
+pub(crate) struct Lanes<'g, G> {
+    pub(crate) gate: &'g G,
+    pub(crate) lanes: LaneCount,
+    pub(crate) capacity: Capacity,
+}
+
+/// The report of a file. Memory alone, or a thread, can be refused.
+pub(crate) fn report_of_file<R: Threads + Wait + Sync, G: Gate + Sync>(
+    rt: &R,
     alloc: Global,
     schema: &Schema,
     file: &[u8],
+    by: Lanes<'_, G>,
 ) -> Result<Report, AllocError>
     ensures { IfOk result (λ report. IsReportOf schema.now file.now report.outcome report.text.items) }
 {
-    let reading = match read_serial(alloc, schema, file) {
+    let reading = match read_lanes(rt, alloc, schema, by.gate, file, by.lanes, by.capacity) {
         Ok(reading) => reading,
         Err(ReadError::Memory) => return Err(AllocError),
     };

@@ -12,11 +12,16 @@ ghost use Rattle.p21_run.specs.declared.input.InputError.TheVariants.{Device as 
 use crate::input::{FILE_BOUNDS, InputError, SCHEMA_BOUNDS, read_bounded};
 use crate::outcome::Outcome;
 use crate::output::{OutputError, WRITE_CALLS, write_bounded};
-use crate::report::{Report, report_of_file, report_of_refusal};
+use crate::report::{Lanes, Report, report_of_file, report_of_refusal};
 use crate::source::{Sink, Source};
 use p21_express::{Declarations, read_declarations};
+use p21_crew::Gate;
+use p21_desk::LaneCount;
+use p21_lanes::Capacity;
 use p21_schema::Schema;
 use std::alloc::Global;
+use std::sync::Wait;
+use std::thread::Threads;
 
 /// Reads a schema and then a file, checks the file against the schema, and writes the report: that of the file's model, the
 /// line of its first fault, or the line of the schema's.
@@ -24,11 +29,18 @@ use std::alloc::Global;
 /// A schema of more than 16777216 bytes, a file of more than 4294967296, or more than 16777216 calls of one reader or of the
 /// writer, is answered as `Device`; a call that was interrupted, or a write that took no byte, counts and is made again. The
 /// file is not read where the schema is refused.
-pub fn run<S: Source, F: Source, K: Sink>(
+///
+/// The file is read by so many lanes, whose workers pass the gate before each piece; on no lane are more pieces out at a time
+/// than the capacity. What is written hangs on neither.
+pub fn run<R: Threads + Wait + Sync, G: Gate + Sync, S: Source, F: Source, K: Sink>(
+    rt: &R,
     alloc: Global,
+    gate: &G,
     schema_in: &mut S,
     file_in: &mut F,
     out: &mut K,
+    lanes: LaneCount,
+    capacity: Capacity,
 ) -> Outcome
     ensures written { (schema_text file : List ℕ) → S.remaining schema_in.old ≡ Some schema_text → F.remaining file_in.old ≡ Some file → Writes schema_text file result (K.taken out.old) (K.taken out.new) }
     ensures schema_bounded { result ≡ Complete ⊎ (result ≡ Faulty ⊎ result ≡ SchemaRefused) → (schema_text : List ℕ) → S.remaining schema_in.old ≡ Some schema_text → length schema_text ≤ most_schema_bytes }
@@ -37,7 +49,12 @@ pub fn run<S: Source, F: Source, K: Sink>(
     ensures unwritten { result ≡ Device → K.marked out.new ≡ false → (schema_text file : List ℕ) → S.remaining schema_in.old ≡ Some schema_text → F.remaining file_in.old ≡ Some file → Keeps (K.taken out.old) (K.taken out.new) ⊎ IsLongText schema_text file }
     ensures cause { result ≡ Device → S.marked schema_in.new ≡ false → F.marked file_in.new ≡ false → K.marked out.new ≡ false → (schema_text file : List ℕ) → S.remaining schema_in.old ≡ Some schema_text → F.remaining file_in.old ≡ Some file → IsLong schema_text file }
 {
-    match report(alloc, schema_in, file_in) {
+    let by = Lanes {
+        gate,
+        lanes,
+        capacity,
+    };
+    match report(rt, alloc, schema_in, file_in, by) {
         Ok(report) => match write_bounded(out, report.text.as_slice(), WRITE_CALLS) {
             Ok(()) => report.outcome,
             Err(OutputError) => Outcome::Device,
@@ -48,10 +65,12 @@ pub fn run<S: Source, F: Source, K: Sink>(
 }
 
 /// What is to be written of a schema and a file.
-fn report<S: Source, F: Source>(
+fn report<R: Threads + Wait + Sync, G: Gate + Sync, S: Source, F: Source>(
+    rt: &R,
     alloc: Global,
     schema_in: &mut S,
     file_in: &mut F,
+    by: Lanes<'_, G>,
 ) -> Result<Report, InputError>
     ensures due { (schema_text file : List ℕ) → S.remaining schema_in.old ≡ Some schema_text → F.remaining file_in.old ≡ Some file → IfOk result (λ report. IsDue schema_text file report.outcome report.text.items) }
     ensures schema_bounded { IfOk result (λ _. (schema_text : List ℕ) → S.remaining schema_in.old ≡ Some schema_text → length schema_text ≤ most_schema_bytes) }
@@ -61,16 +80,18 @@ fn report<S: Source, F: Source>(
 {
     let schema_text = read_bounded(alloc, schema_in, SCHEMA_BOUNDS)?;
     match read_declarations(alloc, schema_text.as_slice()) {
-        Ok(declarations) => report_against(alloc, declarations, file_in),
+        Ok(declarations) => report_against(rt, alloc, declarations, file_in, by),
         Err(error) => Ok(report_of_refusal(alloc, error)?),
     }
 }
 
 /// What is to be written of a file against a schema.
-fn report_against<F: Source>(
+fn report_against<R: Threads + Wait + Sync, G: Gate + Sync, F: Source>(
+    rt: &R,
     alloc: Global,
     declarations: Declarations,
     file_in: &mut F,
+    by: Lanes<'_, G>,
 ) -> Result<Report, InputError>
     requires { IsWellFormed (plain_schema declarations) }
     ensures due { (file : List ℕ) → F.remaining file_in.old ≡ Some file → IfOk result (λ report. IsReportOf (plain_schema declarations) file report.outcome report.text.items) }
@@ -79,5 +100,5 @@ fn report_against<F: Source>(
 {
     let schema = Schema::build(alloc, declarations)?;
     let file = read_bounded(alloc, file_in, FILE_BOUNDS)?;
-    Ok(report_of_file(alloc, &schema, file.as_slice())?)
+    Ok(report_of_file(rt, alloc, &schema, file.as_slice(), by)?)
 }

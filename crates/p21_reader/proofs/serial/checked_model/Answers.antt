@@ -1,6 +1,7 @@
 use Rattle.std.proofs.Common.{Err}
 use Rattle.p21_reader.specs.LocalFault.{IsLocalFaultOfFile}
-use Rattle.p21_reader.specs.Reading.{IsFirstReferenceFault, IsReading}
+use Rattle.p21_refs.specs.FirstReferenceFault.{IsFirstReferenceFault}
+use Rattle.p21_reader.specs.Reading.{IsReading}
 use Rattle.p21_reader.specs.Reading as reading
 use Rattle.p21_reader.proofs.ExitLemmas.{exit_stop, fault_gives}
 use Rattle.p21_reader.proofs.serial.checked_model.Goals as goal

@@ -1,0 +1,4 @@
+use Rattle.p21_reader.proofs.lanes.first_reference_fault.Goals as goal
+
+pub returns : goal.returns
+returns g c = ?

@@ -1,0 +1,61 @@
+-- What a reading by lanes is.
+use Rattle.std.specs.Prelude.{◌≡◌, ℕ, List, [], length, map, Err, Option, None}
+use Rattle.std.specs.List.{AllZip}
+use Rattle.p21_express.specs.Schema.{Schema}
+use Rattle.p21_tree.specs.declared.faults.Fault.{Fault}
+use Rattle.p21_tree.specs.declared.instances.RawInstance.{RawInstance}
+use Rattle.p21_tree.specs.declared.pieces.Piece.{Piece}
+use Rattle.p21_tree.specs.Sentence.{Opening}
+use Rattle.p21_tree.specs.Texts.{BeginsPreface}
+use Rattle.p21_tree.specs.Views.{plain_instance}
+use Rattle.p21_cut.specs.Pieces.{PiecesAre}
+use Rattle.p21_cut.specs.Cutter.{plain_piece}
+use Rattle.p21_check.specs.Header.{IsHeaderFault}
+use Rattle.p21_check.specs.LocalFault.{IsLocalFault}
+use Rattle.p21_lanes.specs.declared.receipt.Receipt.{Receipt}
+use Rattle.p21_lanes.specs.Receipt.{passed}
+use Rattle.p21_desk.specs.Dealing.{share, IsDealing}
+use Rattle.p21_crew.specs.Each.{EachAt}
+use Rattle.p21_reader.specs.declared.judged.Judged.{Judged}
+use Rattle.p21_reader.specs.declared.judged.Judged.TheVariants as judged
+use Rattle.p21_reader.specs.declared.judged.Judgement.{Judgement}
+use Rattle.p21_reader.specs.declared.reading.Reading.{Reading}
+use Rattle.p21_reader.specs.Answer.{plain_answer}
+use Rattle.p21_reader.specs.declared.gathering.Gathering.{Gathering}
+use Rattle.p21_reader.specs.Gathering.{IsGathered}
+use Rattle.p21_reader.specs.Judged.{HasOwnEntity, value_of}
+use Rattle.p21_reader.specs.LocalFault.{IsOpeningFault}
+use Rattle.p21_reader.specs.PiecesOf.{ArePiecesOf}
+use Rattle.p21_reader.specs.Reading.{IsReading}
+use Rattle.p21_reader.specs.Values.{IsAnswerTo}
+
+-- what a worker may say of a piece: what its judge may, and beside it the instance's own entity
+abbrev pub IsStated : (Piece → Judged → Type 0) → Schema → Piece → Judgement → Type 0
+IsStated judges s p j = judges p j.judged × HasOwnEntity s j
+
+-- a judge finds no fault only in an instance that has none by itself
+abbrev pub FindsEachFault : (Piece → Judged → Type 0) → Schema → Type 0
+FindsEachFault judges s = (p : Piece) (i : RawInstance) → judges p (judged.Whole i None) → IsLocalFault s (plain_instance i) None
+
+-- this was gathered of what the workers said of some pieces
+abbrev pub AreGathered : (Piece → Judged → Type 0) → Schema → Gathering → Type 0
+AreGathered judges s g = (pieces : List Piece) × (js : List Judgement) × IsGathered g js × AllZip (IsStated judges s) pieces js
+
+-- Each piece was dealt to exactly one lane, and each lane received exactly its pieces, once, in file order, and then its end.
+pub record AreDealt (lanes : ℕ) (pieces : List Piece) (dealt : List ℕ) (receipts : List (Receipt Piece)) : Type 0 where
+  pub dealing : IsDealing lanes dealt pieces
+  pub one_each : length receipts ≡ lanes
+  pub shares : EachAt (λ lane receipt. passed receipt ≡ share dealt lane pieces) 0 receipts
+
+-- The reading of a file by lanes whose workers judge its pieces: a fault before the instances stands alone, and no piece is dealt;
+-- else all pieces behind the preface are dealt and judged, one by one, and the answer is that to their values.
+pub data IsReadBy (judges : Piece → Judged → Type 0) (s : Schema) (file : List ℕ) (lanes : ℕ) (r : Reading) : Type 0 where
+  opening : {f : Fault} → IsOpeningFault s file f → r.answer ≡ Err f → r.dealt.items ≡ [] → r.receipts.items ≡ [] → IsReadBy judges s file lanes r
+  by_values : {o : Opening} {pieces : List Piece} {end : ℕ} (values : List Judged) → BeginsPreface file o → IsHeaderFault s o None → PiecesAre file o.data_at 0 (map plain_piece pieces) end
+      → AreDealt lanes pieces r.dealt.items r.receipts.items → AllZip judges pieces values → IsAnswerTo s file end (map value_of values) (plain_answer r.answer) → IsReadBy judges s file lanes r
+
+-- The pieces of the file against the schema were dealt to the lanes; where a fault stands before the instances there are none, and no
+-- receipts.
+pub data PiecesAreDealt (s : Schema) (file : List ℕ) (lanes : ℕ) (r : Reading) : Type 0 where
+  none : {f : Fault} → IsOpeningFault s file f → r.dealt.items ≡ [] → r.receipts.items ≡ [] → PiecesAreDealt s file lanes r
+  all : {pieces : List Piece} → ArePiecesOf s file (map plain_piece pieces) → AreDealt lanes pieces r.dealt.items r.receipts.items → PiecesAreDealt s file lanes r

@@ -1,0 +1,144 @@
+//! Reading a file by lanes: each piece by one worker of several, the answer by one dealer.
+
+ghost use Rattle.std.specs.Prelude.{◌≤◌, IfOk, List, length, MatchOption};
+ghost use Rattle.std.specs.List.{AllZip};
+ghost use Rattle.p21_tree.specs.declared.pieces.Piece.{Piece};
+ghost use Rattle.p21_check.specs.EntityOf.{AreSimpleEntities};
+ghost use Rattle.p21_join.specs.Model.{instances_of, plain_instances};
+ghost use Rattle.p21_refs.specs.FirstReferenceFault.{AreAnswered, AreSound, IsFirstReferenceFault};
+ghost use Rattle.p21_reader.specs.Answer.{plain_answer};
+ghost use Rattle.p21_reader.specs.Gathering.{IsGathered};
+ghost use Rattle.p21_reader.specs.Judged.{values_of};
+ghost use Rattle.p21_reader.specs.Lanes.{AreGathered, IsStated, FindsEachFault, IsReadBy, PiecesAreDealt};
+ghost use Rattle.p21_reader.specs.Reading.{IsReading};
+ghost use Rattle.p21_reader.specs.Values.{IsAnswerTo};
+ghost use Rattle.p21_reader.specs.declared.judged.Judgement.{Judgement};
+
+use crate::gathering::Gathering;
+use crate::judged::{Judge, LocalReader};
+use crate::judging::Judging;
+use crate::laws::values_give_reading;
+use crate::local::checked_preface;
+use crate::pieces::Pieces;
+use crate::reading::{ReadError, Reading};
+use crate::stop::Stop;
+use p21_crew::{Gate, run_crew};
+use p21_cut::Cutter;
+use p21_desk::LaneCount;
+use p21_join::{Model, ModelEntities};
+use p21_lanes::Capacity;
+use p21_refs::first_bad_among;
+use p21_schema::{EntityId, Schema};
+use p21_tree::Fault;
+use std::alloc::Global;
+use std::sync::Wait;
+use std::thread::Threads;
+
+/// Reads a whole file against a schema, by so many lanes.
+///
+/// Each piece of the data section is dealt to one lane, and read and checked there by a worker in a thread of its own, while on
+/// no lane more pieces are out than the capacity. Behind a fault too all pieces are dealt. `dealt` has the lane of each piece
+/// and `receipts` what each lane received; both are empty where a fault stands before the data section. The answer is that of
+/// `read_serial`, whatever the lanes. An error is want of memory, or of a thread.
+pub fn read_lanes<'a, G: Gate + Sync, R: Threads + Wait + Sync>(
+    rt: &R,
+    alloc: Global,
+    schema: &Schema,
+    gate: &G,
+    file: &'a [u8],
+    lanes: LaneCount,
+    capacity: Capacity,
+) -> Result<Reading<'a>, ReadError>
+    ensures pieces { IfOk result (PiecesAreDealt schema.now file.now lanes) }
+    ensures answer { IfOk result (λ reading. IsReading schema.now file.now (plain_answer reading.answer)) }
+{
+    values_give_reading();
+    read_lanes_by(
+        rt,
+        alloc,
+        schema,
+        &LocalReader { schema },
+        gate,
+        file,
+        lanes,
+        capacity,
+    )
+}
+
+/// Reads a whole file against a schema, by so many lanes whose workers ask a judge.
+///
+/// The answer is the first fault of what the judge says of the pieces: a grammar fault, a name that an earlier instance has, or
+/// the fault that an instance is said to have by itself; else the fault of the tail; else the first reference fault; else the
+/// instances. All else is as `read_lanes` does it.
+pub fn read_lanes_by<'a, J: Judge + Sync, G: Gate + Sync, R: Threads + Wait + Sync>(
+    rt: &R,
+    alloc: Global,
+    schema: &Schema,
+    judge: &J,
+    gate: &G,
+    file: &'a [u8],
+    lanes: LaneCount,
+    capacity: Capacity,
+) -> Result<Reading<'a>, ReadError>
+    requires { FindsEachFault (J.judges judge.now) schema.now }
+    ensures { IfOk result (IsReadBy (J.judges judge.now) schema.now file.now lanes) }
+{
+    let preface = match checked_preface(alloc, schema, file) {
+        Ok(preface) => preface,
+        Err(Stop::Fault(fault)) => return Ok(Reading::without_lanes(alloc, Err(fault))),
+        Err(Stop::Memory) => return Err(ReadError::Memory),
+    };
+    let pieces = Pieces {
+        cutter: Cutter::new(file, preface.data_at as usize),
+    };
+    let work = Judging { judge, schema };
+    let gathering = Gathering::new(alloc);
+    let Ok(run) = run_crew(rt, alloc, &work, gate, pieces, gathering, lanes, capacity) else {
+        return Err(ReadError::Memory);
+    };
+    let answer = conclude::<J, R>(rt, schema, judge, file, run.tail as usize, run.gatherer);
+    Ok(Reading {
+        answer,
+        receipts: run.receipts,
+        dealt: run.dealt,
+    })
+}
+
+/// The answer to what was gathered of the pieces of a file.
+fn conclude<'a, J: Judge, R: Threads + Sync>(
+    rt: &R,
+    schema: &Schema,
+    judge: &J,
+    file: &[u8],
+    tail: usize,
+    gathering: Gathering<'a>,
+) -> Result<Model<'a>, Fault>
+    requires finds { FindsEachFault (J.judges judge.now) schema.now }
+    requires within { tail ≤ length file.now }
+    requires gathered { AreGathered (J.judges judge.now) schema.now gathering }
+    ensures { (pieces : List Piece) (js : List Judgement) → IsGathered gathering.entry js → AllZip (IsStated (J.judges judge.now) schema.now) pieces js
+        → IsAnswerTo schema.now file.now tail (values_of js) (plain_answer result) }
+{
+    let (model, entities) = gathering.conclude(file, tail)?;
+    match first_reference_fault(rt, schema, &model, entities) {
+        None => Ok(model),
+        Some(fault) => Err(fault),
+    }
+}
+
+/// The first reference fault of a model, by the entity of each instance; none where each reference is answered as it is wanted.
+fn first_reference_fault<R: Threads + Sync>(
+    rt: &R,
+    schema: &Schema,
+    model: &Model<'_>,
+    entities: Vec<Option<EntityId>>,
+) -> Option<Fault>
+    requires sound { AreSound schema.now (plain_instances (instances_of model.now)) }
+    requires entities { AreSimpleEntities schema.now (plain_instances (instances_of model.now)) entities.items }
+    ensures { MatchOption result
+        (AreAnswered schema.now (plain_instances (instances_of model.now)) (plain_instances (instances_of model.now)))
+        (IsFirstReferenceFault schema.now (plain_instances (instances_of model.now))) }
+{
+    let entities = ModelEntities::of(schema, model, entities);
+    first_bad_among(rt, &entities)
+}
