@@ -97,6 +97,17 @@ pub answered_all : (s : Schema) (m : Model) (end : ℕ) → length (instances_of
     → AreAnswered s (plain_instances (instances_of m)) (plain_instances (instances_of m))
 answered_all s m end whole before k d less = before k (omega (arith, less, length-map (instances_of m) plain_instance)) d
 
+-- one more instance without a fault by itself
+pub sound_more : (s : Schema) (m : Model) (place : ℕ) (i : RawInstance) → StandsAt m place i
+    → ((k : ℕ) (d : Instance) → k < place → IsLocalFault s (get_or (plain_instances (instances_of m)) k d) None) → IsLocalFault s (plain_instance i) None
+    → (k : ℕ) (d : Instance) → k < place + 1 → IsLocalFault s (get_or (plain_instances (instances_of m)) k d) None
+sound_more s m place i h before sound k d less = elim (cases_lt k place) [
+  | inl earlier ↦ before k d earlier
+  | inr here ↦
+      let same : place ≡ k = omega arith in
+      subst (λ x. IsLocalFault s x None) (sym (ap (λ x. get_or (plain_instances (instances_of m)) x d) (sym same) ∙ plain_there m place i h d)) sound
+]
+
 -- an instance that is answered is not the first at fault
 pub not_both : (s : Schema) (m : Model) (place : ℕ) (i : RawInstance)
     → ((a b : Option FaultKind) → IsReferenceFault s (named_in (plain_instances (instances_of m))) (plain_instance i) a → IsReferenceFault s (named_in (plain_instances (instances_of m))) (plain_instance i) b → a ≡ b)
