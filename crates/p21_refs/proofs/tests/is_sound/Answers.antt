@@ -1,4 +1,4 @@
-use Rattle.std.proofs.Common.{◌≡◌, false, None, Some, arith, length, sym, ◌∙◌}
+use Rattle.std.proofs.Common.{◌≡◌, false, None, Some, arith, sym, ◌∙◌}
 use Rattle.std.specs.Prelude.{Result, Ok, Err, MatchResult, is_err}
 use Rattle.std.proofs.lemmas.List.{length-map}
 use Rattle.p21_express.specs.Schema.{Schema}
