@@ -1,6 +1,6 @@
 -- Instances by their places, and what is said of their references.
-use Rattle.std.proofs.Common.{◌≡◌, inl, inr, ℕ, suc, ◌+◌, ◌<◌, ◌≤◌, Bool, true, false, Option, None, Some, List, [], ◌∷◌, ◌++◌, length, take, drop, get_or, refl, sym, ap, subst, ◌∙◌, arith, length-take-le, take-append-drop}
-use Rattle.std.specs.Prelude.{All, Result, Ok, Err, MatchResult, is_err}
+use Rattle.std.proofs.Common.{◌≡◌, inl, inr, ℕ, suc, ◌+◌, ◌<◌, ◌≤◌, Bool, Option, None, Some, List, [], ◌∷◌, ◌++◌, length, take, drop, get_or, refl, sym, ap, subst, ◌∙◌, arith, length-take-le, take-append-drop}
+use Rattle.std.specs.Prelude.{Result, Ok, Err, MatchResult, is_err}
 use Rattle.std.specs.List.{AllZip}
 use Rattle.std.proofs.lemmas.Bool.{cases_lt}
 use Rattle.std.proofs.lemmas.List.{get_or-map, get_or-take, get_or_default, length-map}
@@ -96,6 +96,17 @@ answered_more s m place i h before answered k less = elim (cases_lt k place) [
 pub answered_all : (s : Schema) (m : Model) (end : ℕ) → length (instances_of m) ≤ end → AreAnsweredBefore s (plain_instances (instances_of m)) end
     → AreAnswered s (plain_instances (instances_of m)) (plain_instances (instances_of m))
 answered_all s m end whole before k d less = before k (omega (arith, less, length-map (instances_of m) plain_instance)) d
+
+-- one more instance without a fault by itself
+pub sound_more : (s : Schema) (m : Model) (place : ℕ) (i : RawInstance) → StandsAt m place i
+    → ((k : ℕ) (d : Instance) → k < place → IsLocalFault s (get_or (plain_instances (instances_of m)) k d) None) → IsLocalFault s (plain_instance i) None
+    → (k : ℕ) (d : Instance) → k < place + 1 → IsLocalFault s (get_or (plain_instances (instances_of m)) k d) None
+sound_more s m place i h before sound k d less = elim (cases_lt k place) [
+  | inl earlier ↦ before k d earlier
+  | inr here ↦
+      let same : place ≡ k = omega arith in
+      subst (λ x. IsLocalFault s x None) (sym (ap (λ x. get_or (plain_instances (instances_of m)) x d) (sym same) ∙ plain_there m place i h d)) sound
+]
 
 -- an instance that is answered is not the first at fault
 pub not_both : (s : Schema) (m : Model) (place : ℕ) (i : RawInstance)

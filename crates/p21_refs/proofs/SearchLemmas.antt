@@ -1,5 +1,5 @@
 -- What a search for the first place, by answers, says of the numbers that were asked.
-use Rattle.std.proofs.Common.{◌≡◌, inl, inr, ℕ, zero, suc, ◌+◌, ◌-◌, ◌^◌, ◌<◌, ◌≤◌, Bool, true, false, Option, Some, None, List, [], ◌∷◌, length, refl, sym, subst, arith}
+use Rattle.std.proofs.Common.{◌≡◌, inl, inr, ℕ, zero, suc, ◌+◌, ◌-◌, ◌^◌, ◌<◌, ◌≤◌, Bool, true, false, Option, Some, None, List, [], ◌∷◌, length, refl, subst, arith}
 use Rattle.std.specs.Prelude.{min}
 use Rattle.std.specs.Option.{option_map}
 use Rattle.std.specs.List.{AllZip, range_with_len}
@@ -69,12 +69,14 @@ pub stride_faulty : (s : Schema) (all : List Instance) (from to : ℕ) (bs : Lis
     → AllZip (IsFaultinessAt s all) (range_with_len from (to - from)) bs → first_true bs ≡ Some offset → (from + offset < to) × IsFirstFaulty s all (from + offset)
 stride_faulty s all from to bs offset stride within small before answers e =
     let found = some_true (IsFaultinessAt s all) from (to - from) bs offset answers (omega arith) e in
-    let less : offset < to - from = found.0 in
-    (omega arith, record {
-      within = omega arith;
-      before = λ place earlier. elim (cases_lt place from) [
-        | inl front ↦ before place front
-        | inr behind ↦ found.2 place behind earlier
-      ];
-      faulty = found.1;
-    })
+    let less : offset < to - from = found.0 in (
+      omega arith,
+      record {
+        within = omega arith;
+        before = λ place earlier. elim (cases_lt place from) [
+          | inl front ↦ before place front
+          | inr behind ↦ found.2 place behind earlier
+        ];
+        faulty = found.1;
+      },
+    )

@@ -36,19 +36,11 @@ pub fn first_bad<R: Threads + Sync>(
         return Ok(Some(fault));
     }
     let entities = entities_of(rt, alloc, schema, model)?;
-    Ok(first_bad_behind_front(
-        rt,
-        schema,
-        model,
-        entities.as_slice(),
-    ))
+    Ok(first_bad_behind_front(rt, schema, model, entities.as_slice()))
 }
 
 /// The first reference fault of the instances of a model, as `first_bad` finds it, by their entities. This takes no memory.
-pub fn first_bad_among<R: Threads + Sync>(
-    rt: &R,
-    entities: &ModelEntities<'_, '_>,
-) -> Option<Fault>
+pub fn first_bad_among<R: Threads + Sync>(rt: &R, entities: &ModelEntities<'_, '_>) -> Option<Fault>
     requires { AreSound (schema_of entities.now) (plain_instances (instances_of (model_of entities.now))) }
     ensures { MatchOption result
         (AreAnswered (schema_of entities.now) (plain_instances (instances_of (model_of entities.now))) (plain_instances (instances_of (model_of entities.now))))

@@ -3,5 +3,7 @@
 
 mod entities;
 mod first;
+#[cfg(test)]
+mod tests;
 
 pub use first::{first_bad, first_bad_among};

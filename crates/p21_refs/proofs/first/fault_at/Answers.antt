@@ -1,4 +1,4 @@
-use Rattle.std.proofs.Common.{arith, length, refl}
+use Rattle.std.proofs.Common.{arith, refl}
 use Rattle.std.proofs.lemmas.List.{length-map}
 use Rattle.p21_tree.specs.Views.{plain_instance}
 use Rattle.p21_check.specs.References.{named_in}

@@ -1,4 +1,4 @@
-use Rattle.std.proofs.Common.{◌-◌, ◌<◌, ◌≤◌, length}
+use Rattle.std.proofs.Common.{◌-◌, ◌<◌, ◌≤◌}
 use Rattle.p21_join.specs.Model.{instances_of, plain_instances}
 use Rattle.p21_refs.specs.Places.{AreAnsweredBefore}
 use Rattle.p21_refs.proofs.first.first_bad_behind_front.Given as goal

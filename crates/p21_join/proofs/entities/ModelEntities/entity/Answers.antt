@@ -1,7 +1,6 @@
 use Rattle.std.proofs.Common.{get_or, subst}
 use Rattle.p21_tree.specs.Views.{plain_instance}
 use Rattle.p21_check.specs.EntityOf.{IsSimpleEntity}
-use Rattle.p21_join.specs.Entities.{viewed_model}
 use Rattle.p21_join.specs.Model.{instances_of}
 use Rattle.p21_join.proofs.entities.ModelEntities.entity.Goals as goal
 
