@@ -1,5 +1,5 @@
 -- Lemmas on what the workers of lanes say of the pieces of a file.
-use Rattle.std.proofs.Common.{◌≡◌, ℕ, List, [], ◌∷◌, ◌++◌, Option, Some, None, map, refl, sym, ap, subst, ◌∙◌, append_assoc}
+use Rattle.std.proofs.Common.{◌≡◌, ℕ, List, [], ◌∷◌, ◌++◌, Option, Some, None, Result, Ok, Err, IfOk, map, refl, sym, ap, subst, ◌∙◌, append_assoc}
 use Rattle.std.specs.List.{AllZip}
 use Rattle.std.specs.Prelude.{All}
 use Rattle.std.proofs.lemmas.List.Elements.{All-nil, All-cons}
@@ -17,8 +17,19 @@ use Rattle.p21_reader.specs.declared.judged.Judged.TheVariants as judged
 use Rattle.p21_reader.specs.declared.judged.Judgement.{Judgement}
 use Rattle.p21_reader.specs.InstanceFault.{IsFaultAmong, repeated, alone}
 use Rattle.p21_reader.specs.Judged.{HasOwnEntity, value_of, values_of, entities_of}
-use Rattle.p21_reader.specs.Lanes.{IsStated, FindsEachFault}
-use Rattle.p21_reader.specs.Values.{Value, Whole, grammar, whole, instances_in, IsCarriedFault, CarryNoFault, HaveInstances}
+use Rattle.p21_reader.specs.declared.reading.Reading.{Reading}
+use Rattle.p21_reader.specs.declared.reading.ReadError.{ReadError}
+use Rattle.p21_reader.specs.declared.stop.Stop.{Stop}
+use Rattle.p21_reader.specs.declared.stop.Stop.TheVariants as stop
+use Rattle.p21_reader.specs.Answer.{plain_answer}
+use Rattle.p21_reader.specs.Lanes.{IsStated, FindsEachFault, IsReadBy, opening, by_values, PiecesAreDealt, no_pieces, all_pieces}
+use Rattle.p21_reader.specs.Laws.{ValuesGiveReading}
+use Rattle.p21_reader.specs.LocalFault.{IsOpeningFault, in_opening as fault_before}
+use Rattle.p21_reader.specs.PiecesOf.{behind_preface}
+use Rattle.p21_reader.specs.Reading.{IsReading, local}
+use Rattle.p21_reader.specs.Steps.{OnFault}
+use Rattle.p21_reader.specs.Stopped.{IsStopped}
+use Rattle.p21_reader.specs.Values.{Value, Whole, grammar, whole, IsJudged, instances_in, IsCarriedFault, CarryNoFault, HaveInstances}
 
 -- the whole instances are said to have no fault by themselves
 abbrev OwnNone : List Whole → Type 0
@@ -91,3 +102,36 @@ judged_only judges s (p ∷ ps) (j ∷ js) stated = (stated.0.0, judged_only jud
 pub values_only : (js : List Judgement) → map value_of (map (λ j. j.judged) js) ≡ values_of js
 values_only [] = refl
 values_only (j ∷ js) = ap (λ vs. value_of j.judged ∷ vs) (values_only js)
+
+-- a reading that stopped before the instances is one by lanes
+pub stopped_before : (judges : Piece → Judged → Type 0) (s : Schema) (file : List ℕ) (lanes : ℕ) (e : Stop) (r : Result Reading ReadError) → OnFault e (IsOpeningFault s file) → IfOk r (IsStopped e) → IfOk r (IsReadBy judges s file lanes)
+stopped_before judges s file lanes e (Err x) fault stopped = tt
+stopped_before judges s file lanes (stop.Fault f) (Ok r) fault stopped = opening fault stopped.0 stopped.2 stopped.1
+stopped_before judges s file lanes stop.Memory (Ok r) fault stopped = absurd stopped
+
+judged_values : (s : Schema) (ps : List Piece) (vs : List Judged) → AllZip (λ p v. IsJudged s p (value_of v)) ps vs → AllZip (IsJudged s) ps (map value_of vs)
+judged_values s [] [] zip = tt
+judged_values s [] (v ∷ vs) zip = absurd zip
+judged_values s (p ∷ ps) [] zip = absurd zip
+judged_values s (p ∷ ps) (v ∷ vs) zip = (zip.0, judged_values s ps vs zip.1)
+
+reading_of : (s : Schema) (file : List ℕ) (lanes : ℕ) (r : Reading) → ValuesGiveReading s file → IsReadBy (λ p v. IsJudged s p (value_of v)) s file lanes r → IsReading s file (plain_answer r.answer)
+reading_of s file lanes r law (opening {f = f} fault answer dealt receipts) =
+    let is : plain_answer r.answer ≡ Err f = ap plain_answer answer in
+    rw is (local (fault_before fault))
+reading_of s file lanes r law (by_values {o = o} {pieces = pieces} {end = end} values begins header cut dealt zip answer) =
+    law o pieces end (map value_of values) (plain_answer r.answer) begins header cut (judged_values s pieces values zip) answer
+
+-- a reading by lanes that judge against the schema is the reading of the file
+pub reading_by : (s : Schema) (file : List ℕ) (lanes : ℕ) (r : Result Reading ReadError) → ValuesGiveReading s file → IfOk r (IsReadBy (λ p v. IsJudged s p (value_of v)) s file lanes) → IfOk r (λ reading. IsReading s file (plain_answer reading.answer))
+reading_by s file lanes (Err e) law by = tt
+reading_by s file lanes (Ok r) law by = reading_of s file lanes r law by
+
+pieces_of : (judges : Piece → Judged → Type 0) (s : Schema) (file : List ℕ) (lanes : ℕ) (r : Reading) → IsReadBy judges s file lanes r → PiecesAreDealt s file lanes r
+pieces_of judges s file lanes r (opening fault answer dealt receipts) = no_pieces fault dealt receipts
+pieces_of judges s file lanes r (by_values values begins header cut dealt zip answer) = all_pieces (behind_preface begins header cut) dealt
+
+-- the pieces of the file were dealt
+pub pieces_by : (judges : Piece → Judged → Type 0) (s : Schema) (file : List ℕ) (lanes : ℕ) (r : Result Reading ReadError) → IfOk r (IsReadBy judges s file lanes) → IfOk r (PiecesAreDealt s file lanes)
+pieces_by judges s file lanes (Err e) by = tt
+pieces_by judges s file lanes (Ok r) by = pieces_of judges s file lanes r by

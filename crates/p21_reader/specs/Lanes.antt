@@ -57,5 +57,5 @@ pub data IsReadBy (judges : Piece → Judged → Type 0) (s : Schema) (file : Li
 -- The pieces of the file against the schema were dealt to the lanes; where a fault stands before the instances there are none, and no
 -- receipts.
 pub data PiecesAreDealt (s : Schema) (file : List ℕ) (lanes : ℕ) (r : Reading) : Type 0 where
-  none : {f : Fault} → IsOpeningFault s file f → r.dealt.items ≡ [] → r.receipts.items ≡ [] → PiecesAreDealt s file lanes r
-  all : {pieces : List Piece} → ArePiecesOf s file (map plain_piece pieces) → AreDealt lanes pieces r.dealt.items r.receipts.items → PiecesAreDealt s file lanes r
+  no_pieces : {f : Fault} → IsOpeningFault s file f → r.dealt.items ≡ [] → r.receipts.items ≡ [] → PiecesAreDealt s file lanes r
+  all_pieces : {pieces : List Piece} → ArePiecesOf s file (map plain_piece pieces) → AreDealt lanes pieces r.dealt.items r.receipts.items → PiecesAreDealt s file lanes r

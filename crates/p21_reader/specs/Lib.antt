@@ -10,3 +10,4 @@ pub mod Gathering
 pub mod PiecesOf
 pub mod Laws
 pub mod Lanes
+pub mod Stopped

@@ -21,7 +21,6 @@ use crate::laws::values_give_reading;
 use crate::local::checked_preface;
 use crate::pieces::Pieces;
 use crate::reading::{ReadError, Reading};
-use crate::stop::Stop;
 use p21_crew::{Gate, run_crew};
 use p21_cut::Cutter;
 use p21_desk::LaneCount;
@@ -85,8 +84,7 @@ pub fn read_lanes_by<'a, J: Judge + Sync, G: Gate + Sync, R: Threads + Wait + Sy
 {
     let preface = match checked_preface(alloc, schema, file) {
         Ok(preface) => preface,
-        Err(Stop::Fault(fault)) => return Ok(Reading::without_lanes(alloc, Err(fault))),
-        Err(Stop::Memory) => return Err(ReadError::Memory),
+        Err(stop) => return Reading::stopped(alloc, stop),
     };
     let pieces = Pieces {
         cutter: Cutter::new(file, preface.data_at as usize),

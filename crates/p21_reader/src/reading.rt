@@ -1,5 +1,6 @@
 //! What reading a file gives.
 
+use crate::stop::Stop;
 use p21_join::Model;
 use p21_lanes::Receipt;
 use p21_tree::{Fault, Piece};
@@ -17,7 +18,8 @@ pub struct Reading<'a> {
 }
 
 impl<'a> Reading<'a> {
-    ghost use Rattle.std.specs.Prelude.{◌≡◌, []};
+    ghost use Rattle.std.specs.Prelude.{◌≡◌, [], IfOk};
+    ghost use Rattle.p21_reader.specs.Stopped.{IsStopped};
 
     /// An answer without lanes. This takes no memory.
     pub(crate) fn without_lanes(alloc: Global, answer: Result<Model<'a>, Fault>) -> Reading<'a>
@@ -28,6 +30,16 @@ impl<'a> Reading<'a> {
             answer,
             receipts: Vec::new(alloc),
             dealt: Vec::new(alloc),
+        }
+    }
+
+    /// The reading of a file that was not read further: its fault, or want of memory.
+    pub(crate) fn stopped(alloc: Global, stop: Stop) -> Result<Reading<'a>, ReadError>
+        ensures { IfOk result (IsStopped stop) }
+    {
+        match stop {
+            Stop::Fault(fault) => Ok(Reading::without_lanes(alloc, Err(fault))),
+            Stop::Memory => Err(ReadError::Memory),
         }
     }
 }
