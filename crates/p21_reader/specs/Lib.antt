@@ -8,4 +8,5 @@ pub mod Steps
 pub mod Judged
 pub mod Gathering
 pub mod PiecesOf
+pub mod ReadingBy
 pub mod Laws
