@@ -25,7 +25,11 @@ use Rattle.p21_reader.specs.Reading as reading
 use Rattle.p21_reader.specs.Steps.{AddsValue, EndsBehind, IsReadUpTo, OnFault}
 use Rattle.p21_reader.specs.Values.{Whole, Value, grammar, whole, IsJudged, instances_in, IsCarriedFault, CarryNoFault, IsValueFault, HaveInstances, IsAnswerTo}
 use Rattle.p21_reader.specs.Values as values
-use Rattle.p21_reader.specs.Laws.{ValuesGiveReading}
+use Rattle.p21_reader.specs.declared.judged.Judged.{Judged}
+use Rattle.p21_reader.specs.Judged.{value_of}
+use Rattle.p21_reader.specs.PiecesOf as pieces
+use Rattle.p21_reader.specs.ReadingBy as by
+use Rattle.p21_reader.specs.Laws.{LocalReadingIsReading, ValuesGiveReading}
 use Rattle.p21_reader.proofs.ReadLemmas.{PartLaws, begins_opening, begins_on, none_faultless, piece_stops, read_on, file_read, tail_fault}
 
 -- by what an instance has by itself in truth
@@ -112,3 +116,14 @@ values_read laws s file o ps end vs answer begins header are judged h = by_answe
   by_answer _ (values.tail {is} {f} v t) = reading.local (tail_fault laws s file o is end f (whole_end is v) header t)
   by_answer _ (values.reference {is} {f} v t r) = reading.reference (file_read laws s file o is end (whole_end is v) header t) r
   by_answer _ (values.read {is} v t r) = reading.read (file_read laws s file o is end (whole_end is v) header t) r
+
+judged_values : (s : Schema) (ps : List Piece) (js : List Judged) → AllZip (λ p j. IsJudged s p (value_of j)) ps js → AllZip (IsJudged s) ps (map value_of js)
+judged_values s [] [] h = tt
+judged_values s [] (j ∷ js) h = absurd h
+judged_values s (p ∷ ps) [] h = absurd h
+judged_values s (p ∷ ps) (j ∷ js) h = (h.0, judged_values s ps js h.1)
+
+pub local_reading : PartLaws → (s : Schema) (file : List ℕ) → LocalReadingIsReading s file
+local_reading laws s file _ _ (by.before_instances {f} h) = (reading.local (local.in_opening h), pieces.none h)
+local_reading laws s file ps answer (by.by_pieces {o} {end} js begins header are said h) =
+    (values_read laws s file o ps end (map value_of js) answer begins header are (judged_values s ps js said) h, pieces.behind_preface begins header are)

@@ -13,6 +13,8 @@ use Rattle.p21_reader.specs.GrammarOutcome.{ReadsParts, IsOutcomeOf}
 use Rattle.p21_reader.specs.LocalFault.{IsOpeningFault}
 use Rattle.p21_reader.specs.PiecesOf.{ArePiecesOf}
 use Rattle.p21_reader.specs.Reading.{IsReading}
+use Rattle.p21_reader.specs.ReadingBy.{IsReadingBy}
+use Rattle.p21_reader.specs.Judged.{value_of}
 use Rattle.p21_reader.specs.Values.{Value, IsJudged, IsAnswerTo}
 
 -- no two answers are the reading of the file
@@ -28,6 +30,10 @@ PiecesGiveFile file = (o : Opening) (ps : List Piece) (end : ℕ) (is : List Ins
 abbrev pub ValuesGiveReading : Schema → List ℕ → Type 0
 ValuesGiveReading s file = (o : Opening) (ps : List Piece) (end : ℕ) (vs : List Value) (answer : Result (List Instance) Fault) → BeginsPreface file o → IsHeaderFault s o None → PiecesAre file o.data_at 0 (map plain_piece ps) end
     → AllZip (IsJudged s) ps vs → IsAnswerTo s file end vs answer → IsReading s file answer
+
+-- What a file gives by what its pieces are by themselves is its reading, and these are its pieces.
+abbrev pub LocalReadingIsReading : Schema → List ℕ → Type 0
+LocalReadingIsReading s file = (ps : List Piece) (answer : Result (List Instance) Fault) → IsReadingBy s file (λ p j. IsJudged s p (value_of j)) ps answer → IsReading s file answer × ArePiecesOf s file (map plain_piece ps)
 
 -- the piece is this instance, and both stand at one place
 abbrev pub IsPieceOf : Piece → Instance → Type 0

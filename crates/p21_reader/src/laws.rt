@@ -2,7 +2,7 @@
 
 ghost use Rattle.std.specs.Prelude.{ℕ, List};
 ghost use Rattle.p21_express.specs.Schema.{Schema};
-ghost use Rattle.p21_reader.specs.Laws.{HasOneReadingAtMost, PiecesAreInstances, PiecesGiveFile, PiecesOfFileAreInstances, ValuesGiveReading};
+ghost use Rattle.p21_reader.specs.Laws.{HasOneReadingAtMost, LocalReadingIsReading, PiecesAreInstances, PiecesGiveFile, PiecesOfFileAreInstances, ValuesGiveReading};
 
 use p21_check::{one_header_fault, one_local_fault, one_reference_fault};
 use p21_cut::{first_tokens_of_file, tokens_of_next_piece};
@@ -35,9 +35,11 @@ pub fn pieces_in_order()
 }
 
 /// Behind a preface whose header has no fault, the answer to what the pieces of a file are by themselves is the reading of the
-/// file: the first fault of the pieces, else that of the tail, else the first reference fault, else the instances.
+/// file: the first fault of the pieces, else that of the tail, else the first reference fault, else the instances. So what a file
+/// gives by pieces that were judged as `LocalReader` does is its reading, and these are its pieces.
 pub fn values_give_reading()
-    ensures { (s : Schema) → (file : List ℕ) → ValuesGiveReading s file }
+    ensures of_values { (s : Schema) → (file : List ℕ) → ValuesGiveReading s file }
+    ensures of_judged { (s : Schema) → (file : List ℕ) → LocalReadingIsReading s file }
 {
     first_tokens_of_file();
     parts_up_to_fault();

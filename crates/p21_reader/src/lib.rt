@@ -2,6 +2,8 @@
 #![tactic(auto)]
 
 mod gathering;
+#[cfg(test)]
+mod gathering_tests;
 mod judged;
 mod judging;
 mod lanes;
