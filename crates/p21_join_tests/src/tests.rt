@@ -31,13 +31,12 @@ enum Answer {
     Memory,
 }
 
-/// Adds the instance that a text spells.
-fn add<'a>(alloc: Global, joiner: &mut Joiner<'a>, text: &'a [u8]) -> Result<Answer, Fail> {
-    Ok(match joiner.add(instance_of(alloc, text)?) {
+fn add<'a>(joiner: &mut Joiner<'a>, instance: RawInstance<'a>) -> Answer {
+    match joiner.add(instance) {
         Ok(()) => Answer::Joined,
         Err(JoinError::Duplicate(back)) => Answer::Duplicate(back.name),
         Err(JoinError::Memory(_)) => Answer::Memory,
-    })
+    }
 }
 
 /// The text of an instance, and what `add` answers to it.
@@ -47,7 +46,8 @@ type Row = (&'static [u8], Answer);
 fn model_of_rows(rt: &impl Abort, alloc: Global, rows: &[Row]) -> Result<Model<'static>, Fail> {
     let mut joiner = Joiner::new(alloc);
     for (text, want) in rows {
-        assert_eq!(rt; add(alloc, &mut joiner, text)?, *want, "{text:?}");
+        let instance = instance_of(alloc, text)?;
+        assert_eq!(rt; add(&mut joiner, instance), *want, "{text:?}");
     }
     Ok(joiner.into_model())
 }

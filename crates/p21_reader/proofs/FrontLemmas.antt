@@ -4,7 +4,7 @@ use Rattle.p21_text.specs.Spelling.{Symbol}
 use Rattle.p21_text.specs.Spelling as token
 use Rattle.p21_text.specs.Tokens.{Placed, First, IsLast, Tokens, TokensUpTo}
 use Rattle.p21_text.specs.Tokens as tokens
-use Rattle.p21_text.proofs.UniqueLemmas.{first_once}
+use Rattle.p21_text.specs.Laws.{HasOneFirstAtMost}
 use Rattle.p21_tree.specs.declared.faults.Fault.{Fault}
 use Rattle.p21_tree.specs.Sentence.{Instance, Opening, IsFile, IsPreface, IsPiece, IsInstance, IsInstances, IsTail, deepest, endsec_word}
 use Rattle.p21_tree.specs.Sentence as sentence
@@ -14,6 +14,10 @@ use Rattle.p21_tree.specs.Texts.{IsFileText, HasPrefaceFault}
 use Rattle.p21_reader.specs.GrammarOutcome.{FileBeginsWith, FileStopsBehind}
 use Rattle.p21_reader.proofs.ReadLemmas.{instances_more}
 use Rattle.p21_reader.proofs.TokenLemmas.{up_to_on}
+
+-- no place of a text has two first tokens
+abbrev pub OneFirst : Type 0
+OneFirst = (text : List ℕ) (at : ℕ) → HasOneFirstAtMost text at
 
 -- Tokens from one place.
 
@@ -26,12 +30,12 @@ fronts_cons : (text : List ℕ) (t u : Placed) (a b : List Placed) (p q : ℕ) �
 fronts_cons text t u a b p q e (shorter m f r) = shorter m (ap (λ x. u ∷ x) f ∙ ap (λ x. x ∷ (a ++ m)) (sym e)) r
 fronts_cons text t u a b p q e (longer m f r) = longer m (ap (λ x. t ∷ x) f ∙ ap (λ x. x ∷ (b ++ m)) e) r
 
-pub fronts : (text : List ℕ) (at p q : ℕ) (a b : List Placed) → TokensUpTo text at a p → TokensUpTo text at b q → Fronts text a b p q
-fronts text at p q a b tokens.none k = shorter b refl k
-fronts text at p q a b (tokens.more {t} {ts} f l h) tokens.none = longer (t ∷ ts) refl (tokens.more f l h)
-fronts text at p q a b (tokens.more {t} {ts} f l h) (tokens.more {t = u} {ts = us} g m k) =
-    let e : u ≡ t = first_once text at u t g f in
-    fronts_cons text t u ts us p q (sym e) (fronts text t.after p q ts us h (subst (λ x. TokensUpTo text x.after us q) e k))
+pub fronts : OneFirst → (text : List ℕ) (at p q : ℕ) (a b : List Placed) → TokensUpTo text at a p → TokensUpTo text at b q → Fronts text a b p q
+fronts one text at p q a b tokens.none k = shorter b refl k
+fronts one text at p q a b (tokens.more {t} {ts} f l h) tokens.none = longer (t ∷ ts) refl (tokens.more f l h)
+fronts one text at p q a b (tokens.more {t} {ts} f l h) (tokens.more {t = u} {ts = us} g m k) =
+    let e : u ≡ t = one text at u t g f in
+    fronts_cons text t u ts us p q (sym e) (fronts one text t.after p q ts us h (subst (λ x. TokensUpTo text x.after us q) e k))
 
 pub same_place : (text : List ℕ) (p q : ℕ) (m : List Placed) → TokensUpTo text p m q → m ≡ [] → p ≡ q
 same_place text p q m tokens.none e = refl
@@ -56,25 +60,25 @@ whole_split text at (v ∷ a) u b _ (tokens.more {t} {ts} f l h) e =
     let s = whole_split text t.after a u b ts h others in
     (s.0, subst (λ x. TokensUpTo text at (x ∷ a) s.0) same (tokens.more f l s.1), s.2)
 
-pub whole_front : (text : List ℕ) (at p : ℕ) (a ts : List Placed) → TokensUpTo text at a p → Tokens text at ts → (m : List Placed) × (ts ≡ a ++ m)
-whole_front text at p a ts tokens.none k = (ts, refl)
-whole_front text at p a _ (tokens.more {t} {ts} f l h) (tokens.last {t = u} g m) = absurd (l (subst (λ x. IsLast x.token) (first_once text at u t g f) m))
-whole_front text at p a _ (tokens.more {t} {ts} f l h) (tokens.more {t = u} {ts = us} g m k) =
-    let e : u ≡ t = first_once text at u t g f in
-    let r = whole_front text t.after p ts us h (subst (λ x. Tokens text x.after us) e k) in
+pub whole_front : OneFirst → (text : List ℕ) (at p : ℕ) (a ts : List Placed) → TokensUpTo text at a p → Tokens text at ts → (m : List Placed) × (ts ≡ a ++ m)
+whole_front one text at p a ts tokens.none k = (ts, refl)
+whole_front one text at p a _ (tokens.more {t} {ts} f l h) (tokens.last {t = u} g m) = absurd (l (subst (λ x. IsLast x.token) (one text at u t g f) m))
+whole_front one text at p a _ (tokens.more {t} {ts} f l h) (tokens.more {t = u} {ts = us} g m k) =
+    let e : u ≡ t = one text at u t g f in
+    let r = whole_front one text t.after p ts us h (subst (λ x. Tokens text x.after us) e k) in
     (r.0, ap (λ x. x ∷ us) e ∙ ap (λ x. t ∷ x) r.1)
 
 -- the token next behind some tokens stands first among further ones
-pub next_first : (text : List ℕ) (p q : ℕ) (m : List Placed) (t u : Placed) → TokensUpTo text p m q → First text p t → First text q u → (r : List Placed) × (m ++ u ∷ [] ≡ t ∷ r)
-next_first text p q m t u tokens.none f g = ([], ap (λ x. x ∷ []) (first_once text p u t g f))
-next_first text p q m t u (tokens.more {t = v} {ts} h l k) f g = (ts ++ u ∷ [], ap (λ x. x ∷ (ts ++ u ∷ [])) (first_once text p v t h f))
+pub next_first : OneFirst → (text : List ℕ) (p q : ℕ) (m : List Placed) (t u : Placed) → TokensUpTo text p m q → First text p t → First text q u → (r : List Placed) × (m ++ u ∷ [] ≡ t ∷ r)
+next_first one text p q m t u tokens.none f g = ([], ap (λ x. x ∷ []) (one text p u t g f))
+next_first one text p q m t u (tokens.more {t = v} {ts} h l k) f g = (ts ++ u ∷ [], ap (λ x. x ∷ (ts ++ u ∷ [])) (one text p v t h f))
 
 -- Sentences from one place.
 
-module _ (L : ℕ → List Placed → Type 0) (none : NoneBeginsAnother L) where
+module _ (one : OneFirst) (L : ℕ → List Placed → Type 0) (none : NoneBeginsAnother L) where
   -- one sentence stands at a place
   pub one_sentence : (text : List ℕ) (at p q : ℕ) (a b : List Placed) → TokensUpTo text at a p → L deepest a → TokensUpTo text at b q → L deepest b → (a ≡ b) × (p ≡ q)
-  one_sentence text at p q a b h x k y = by_front (fronts text at p q a b h k) where
+  one_sentence text at p q a b h x k y = by_front (fronts one text at p q a b h k) where
     by_front : Fronts text a b p q → (a ≡ b) × (p ≡ q)
     by_front (shorter m e r) =
         let nothing : m ≡ [] = none a m x (subst (λ z. L deepest z) e y) in
@@ -108,6 +112,7 @@ IsAt text at i = (ts : List Placed) × (end : ℕ) × TokensUpTo text at ts end 
 
 -- the laws of trees that these lemmas stand on
 pub record TreeLaws : Type 0 where
+  pub firsts : OneFirst
   pub trees : HasOneTree
   pub prefaces_end : NoneBeginsAnother prefaces
   pub instances_end : NoneBeginsAnother instances
@@ -124,12 +129,12 @@ goes_cons text end i j is js e (beyond k m f h) = beyond k m (ap (λ x. i ∷ x)
 module _ (laws : TreeLaws) where
   preface_once : (text : List ℕ) (at p q : ℕ) (a b : List Placed) (o u : Opening) → TokensUpTo text at a p → IsPreface deepest a o → TokensUpTo text at b q → IsPreface deepest b u → (p ≡ q) × (o ≡ u)
   preface_once text at p q a b o u h x k y =
-      let s = one_sentence prefaces laws.prefaces_end text at p q a b h (o, x) k (u, y) in
+      let s = one_sentence laws.firsts prefaces laws.prefaces_end text at p q a b h (o, x) k (u, y) in
       (s.1, (laws.trees b).1 o u (subst (λ z. IsPreface deepest z o) s.0 x) y)
 
   instance_once : (text : List ℕ) (at p q : ℕ) (a b : List Placed) (i j : Instance) → TokensUpTo text at a p → IsInstance deepest a i → TokensUpTo text at b q → IsInstance deepest b j → (p ≡ q) × (i ≡ j)
   instance_once text at p q a b i j h x k y =
-      let s = one_sentence instances laws.instances_end text at p q a b h (i, x) k (j, y) in
+      let s = one_sentence laws.firsts instances laws.instances_end text at p q a b h (i, x) k (j, y) in
       (s.1, (laws.trees (b ++ bare token.end ∷ [])).2 i j (as_piece b i (subst (λ z. IsInstance deepest z i) s.0 x)) (as_piece b j y))
 
   instances_go : (text : List ℕ) (at p q : ℕ) (a b : List Placed) (is js : List Instance) → TokensUpTo text at a p → IsInstances deepest a is → TokensUpTo text at b q → IsInstances deepest b js → Goes text q is js
@@ -167,8 +172,8 @@ tail_apart us m ts i t e h =
     let g : token.keyword endsec_word ≡ token.name n.2 = sym w.3 ∙ (ap (λ x. x.token) same ∙ n.4) in
     cc
 
-pub all_of_file : (file : List ℕ) (o : Opening) (is : List Instance) → IsFileText file o is → HasAll file o is
-all_of_file file o is h =
+pub all_of_file : OneFirst → (file : List ℕ) (o : Opening) (is : List Instance) → IsFileText file o is → HasAll file o is
+all_of_file one file o is h =
     let f = h.2 in
     let w = word_first f.tail f.is_tail in
     let parts : h.0 ≡ (f.opening ++ f.body) ++ w.0 ∷ w.1 = f.parts ∙ (sym (append_assoc f.opening f.body f.tail) ∙ ap (λ x. (f.opening ++ f.body) ++ x) w.2) in
@@ -177,7 +182,7 @@ all_of_file file o is h =
       end = s.0;
       begins = record { opening = f.opening; body = f.body; tokens = s.1; is_opening = f.is_opening; are_instances = f.are_instances };
       no_more = λ i a.
-          let r = whole_front file s.0 a.1 a.0 (w.0 ∷ w.1) a.2 s.2 in
+          let r = whole_front one file s.0 a.1 a.0 (w.0 ∷ w.1) a.2 s.2 in
           tail_apart a.0 r.0 f.tail i f.is_tail (w.2 ∙ r.1) a.3;
     }
 
@@ -199,8 +204,8 @@ not_beyond opening body front us t o is i p hs h = record {
   );
 }
 
-pub all_of_stop : (file : List ℕ) (o : Opening) (is : List Instance) (f : Fault) → FileStopsBehind file o is f → HasAll file o is
-all_of_stop file o is f h =
+pub all_of_stop : OneFirst → (file : List ℕ) (o : Opening) (is : List Instance) (f : Fault) → FileStopsBehind file o is f → HasAll file o is
+all_of_stop one file o is f h =
     let s = up_to_split file 0 h.place h.opening (h.body ++ h.front) (h.opening ++ (h.body ++ h.front)) h.tokens refl in
     let t = up_to_split file s.0 h.place h.body h.front (h.body ++ h.front) s.2 refl in
     record {
@@ -212,25 +217,25 @@ all_of_stop file o is f h =
     behind_front : (i : Instance) (m : List Placed) (end : ℕ) → TokensUpTo file h.place m end → ¬ (IsInstance deepest (h.front ++ m) i)
     behind_front i m end tokens.none x = h.stops.no_more (h.front ++ []) [] i (sym (append-nil (h.front ++ []) ∙ append-nil h.front)) x
     behind_front i _ end (tokens.more {t} {ts = us} g l r) x =
-        let same : t ≡ h.token = first_once file h.place t h.token g h.next in
+        let same : t ≡ h.token = one file h.place t h.token g h.next in
         h.stops.is_fault.stops (not_beyond h.opening h.body h.front us h.token o is i h.is_opening h.are_instances (subst (λ z. IsInstance deepest (h.front ++ z ∷ us) i) same x))
 
     none_at : (place : ℕ) → TokensUpTo file place h.front h.place → (i : Instance) (ts : List Placed) (end : ℕ) → TokensUpTo file place ts end → ¬ (IsInstance deepest ts i)
-    none_at place k i ts end r x = by_front (fronts file place end h.place ts h.front r k) where
+    none_at place k i ts end r x = by_front (fronts one file place end h.place ts h.front r k) where
       by_front : Fronts file ts h.front end h.place → ⊥
       by_front (shorter m e g) = h.stops.no_more ts m i e x
       by_front (longer m e g) = behind_front i m end g (subst (λ z. IsInstance deepest z i) e x)
 
 -- a file with a fault in its preface has none
-pub no_preface : (file : List ℕ) (f : Fault) (o : Opening) (is : List Instance) (place : ℕ) → HasPrefaceFault file f → FileBeginsWith file o is place → ⊥
-no_preface file f o is place h b =
+pub no_preface : OneFirst → (file : List ℕ) (f : Fault) (o : Opening) (is : List Instance) (place : ℕ) → HasPrefaceFault file f → FileBeginsWith file o is place → ⊥
+no_preface one file f o is place h b =
     let s = up_to_split file 0 place b.opening b.body (b.opening ++ b.body) b.tokens refl in
-    by_front s.0 (fronts file 0 s.0 h.place b.opening h.before s.1 h.tokens)
+    by_front s.0 (fronts one file 0 s.0 h.place b.opening h.before s.1 h.tokens)
   where
     behind_before : (m : List Placed) (end : ℕ) → TokensUpTo file h.place m end → b.opening ≡ h.before ++ m → ⊥
     behind_before m end tokens.none e = h.none_whole [] b.opening (h.token ∷ []) o (ap (λ x. x ++ h.token ∷ []) (sym (e ∙ append-nil h.before))) b.is_opening
     behind_before _ end (tokens.more {t} {ts = us} g l r) e =
-        let same : t ≡ h.token = first_once file h.place t h.token g h.next in
+        let same : t ≡ h.token = one file h.place t h.token g h.next in
         h.none_whole us b.opening [] o (ap (λ x. h.before ++ x ∷ us) (sym same) ∙ (sym e ∙ sym (append-nil b.opening))) b.is_opening
 
     by_front : (p : ℕ) → Fronts file b.opening h.before p h.place → ⊥

@@ -84,7 +84,7 @@ module _ (laws : Laws) where
 
   same_fault_in : (file : List ℕ) (f g : Fault) (h : HasFault files file 0 f) (k : HasFault files file 0 g) (m : List Placed) → k.before ≡ h.before ++ m → TokensUpTo file h.place m k.place → f ≡ g
   same_fault_in file f g h k m e r =
-      let next = next_first file h.place k.place m h.token k.token r h.next k.next in
+      let next = next_first laws.sentences.firsts file h.place k.place m h.token k.token r h.next k.next in
       let all : List Placed = k.before ++ k.token ∷ [] in
       let parts : all ≡ h.before ++ h.token ∷ next.0 = ap (λ x. x ++ k.token ∷ []) e ∙ (append_assoc h.before m (k.token ∷ []) ∙ ap (λ x. h.before ++ x) next.1) in
       let here : FaultOf files all = record { before = h.before; token = h.token; behind = next.0; kind = h.kind; at = f.at; parts = parts; is_fault = h.is_fault } in
@@ -93,7 +93,7 @@ module _ (laws : Laws) where
       fault_is f g (h.kind_is ∙ (ap fault_kind one.2 ∙ sym k.kind_is)) one.3
 
   grammar_same : (file : List ℕ) (f g : Fault) → HasFault files file 0 f → HasFault files file 0 g → f ≡ g
-  grammar_same file f g h k = by_front (fronts file 0 h.place k.place h.before k.before h.tokens k.tokens) where
+  grammar_same file f g h k = by_front (fronts laws.sentences.firsts file 0 h.place k.place h.before k.before h.tokens k.tokens) where
     by_front : Fronts file h.before k.before h.place k.place → f ≡ g
     by_front (shorter m e r) = same_fault_in file f g h k m e r
     by_front (longer m e r) = sym (same_fault_in file g f k h m e r)
@@ -139,13 +139,13 @@ module _ (laws : Laws) where
 
   -- a file with a fault before its instances begins with no preface whose header has none
   pub opening_apart : (s : Schema) (file : List ℕ) (f : Fault) (o : Opening) (is : List Instance) (place : ℕ) → IsOpeningFault s file f → FileBeginsWith file o is place → IsHeaderFault s o None → ⊥
-  opening_apart s file f o is place (fault.in_preface h) b x = no_preface file f o is place h b
+  opening_apart s file f o is place (fault.in_preface h) b x = no_preface laws.sentences.firsts file f o is place h b
   opening_apart s file f o is place (fault.in_header {o = u} {kind} d y) b x = header_apart s file u o [] is u.data_at place kind (begins_opening file u d) y b x
 
   opening_same : (s : Schema) (file : List ℕ) (f g : Fault) → IsOpeningFault s file f → IsOpeningFault s file g → f ≡ g
   opening_same s file f g (fault.in_preface h) (fault.in_preface k) = grammar_same file f g (preface_grammar file f h) (preface_grammar file g k)
-  opening_same s file f g (fault.in_preface h) (fault.in_header {o = u} d y) = absurd (no_preface file f u [] u.data_at h (begins_opening file u d))
-  opening_same s file f g (fault.in_header {o} b x) (fault.in_preface k) = absurd (no_preface file g o [] o.data_at k (begins_opening file o b))
+  opening_same s file f g (fault.in_preface h) (fault.in_header {o = u} d y) = absurd (no_preface laws.sentences.firsts file f u [] u.data_at h (begins_opening file u d))
+  opening_same s file f g (fault.in_header {o} b x) (fault.in_preface k) = absurd (no_preface laws.sentences.firsts file g o [] o.data_at k (begins_opening file o b))
   opening_same s file f g (fault.in_header {o} {kind = m} b x) (fault.in_header {o = u} {kind = n} d y) =
       let openings : o ≡ u = (beginnings laws.sentences file o u [] [] o.data_at u.data_at (begins_opening file o b) (begins_opening file u d)).0 in
       let kinds : m ≡ n = some_same m n (laws.header s u (Some m) (Some n) (subst (λ z. IsHeaderFault s z (Some m)) openings x) y) in
@@ -154,20 +154,20 @@ module _ (laws : Laws) where
   local_same : (s : Schema) (file : List ℕ) (f g : Fault) → IsLocalFaultOfFile s file f → IsLocalFaultOfFile s file g → f ≡ g
   local_same s file f g (fault.in_opening h) (fault.in_opening k) = opening_same s file f g h k
   local_same s file f g (fault.in_opening h) (fault.in_instance {o = u} {earlier = js} {i = j} {place = q} d y ys k) = absurd (opening_apart s file f u (js ++ j ∷ []) q h d y)
-  local_same s file f g (fault.in_opening h) (fault.behind_instances {o = u} {is = js} d y ys) = (let all = all_of_stop file u js g d in absurd (opening_apart s file f u js all.end h all.begins y))
+  local_same s file f g (fault.in_opening h) (fault.behind_instances {o = u} {is = js} d y ys) = (let all = all_of_stop laws.sentences.firsts file u js g d in absurd (opening_apart s file f u js all.end h all.begins y))
   local_same s file f g (fault.in_instance {o} {earlier = is} {i} {place = p} b x xs h) (fault.in_opening k) = absurd (opening_apart s file g o (is ++ i ∷ []) p k b x)
   local_same s file f g (fault.in_instance {o} {earlier = is} {i} {place = p} {kind = m} b x xs h) (fault.in_instance {o = u} {earlier = js} {i = j} {place = q} {kind = n} d y ys k) =
       let one = first_faulty s file o u is js i j p q m n b xs h d ys k in
       fault_is f g one.0 one.1
-  local_same s file f g (fault.in_instance {o} {earlier = is} {i} {place = p} {kind = m} b x xs h) (fault.behind_instances {o = u} {is = js} d y ys) = absurd (instance_apart s file o u is js i p m b h (all_of_stop file u js g d) ys)
-  local_same s file f g (fault.behind_instances {o} {is} b x xs) (fault.in_opening k) = (let all = all_of_stop file o is f b in absurd (opening_apart s file g o is all.end k all.begins x))
-  local_same s file f g (fault.behind_instances {o} {is} b x xs) (fault.in_instance {o = u} {earlier = js} {i = j} {place = q} {kind = n} d y ys k) = absurd (instance_apart s file u o js is j q n d k (all_of_stop file o is f b) xs)
+  local_same s file f g (fault.in_instance {o} {earlier = is} {i} {place = p} {kind = m} b x xs h) (fault.behind_instances {o = u} {is = js} d y ys) = absurd (instance_apart s file o u is js i p m b h (all_of_stop laws.sentences.firsts file u js g d) ys)
+  local_same s file f g (fault.behind_instances {o} {is} b x xs) (fault.in_opening k) = (let all = all_of_stop laws.sentences.firsts file o is f b in absurd (opening_apart s file g o is all.end k all.begins x))
+  local_same s file f g (fault.behind_instances {o} {is} b x xs) (fault.in_instance {o = u} {earlier = js} {i = j} {place = q} {kind = n} d y ys k) = absurd (instance_apart s file u o js is j q n d k (all_of_stop laws.sentences.firsts file o is f b) xs)
   local_same s file f g (fault.behind_instances {o} {is} b x xs) (fault.behind_instances {o = u} {is = js} d y ys) = grammar_same file f g (stop_grammar file o is f b) (stop_grammar file u js g d)
 
   -- a file with a local fault is no file without one
   local_apart : (s : Schema) (file : List ℕ) (is : List Instance) (f : Fault) → HasNoLocalFault s file is → IsLocalFaultOfFile s file f → ⊥
-  local_apart s file is f w (fault.in_opening h) = (let all = all_of_file file w.opening is w.is_file in opening_apart s file f w.opening is all.end h all.begins w.header)
-  local_apart s file is f w (fault.in_instance {o} {earlier} {i} {place} {kind} b x xs h) = instance_apart s file o w.opening earlier is i place kind b h (all_of_file file w.opening is w.is_file) w.faultless
+  local_apart s file is f w (fault.in_opening h) = (let all = all_of_file laws.sentences.firsts file w.opening is w.is_file in opening_apart s file f w.opening is all.end h all.begins w.header)
+  local_apart s file is f w (fault.in_instance {o} {earlier} {i} {place} {kind} b x xs h) = instance_apart s file o w.opening earlier is i place kind b h (all_of_file laws.sentences.firsts file w.opening is w.is_file) w.faultless
   local_apart s file is f w (fault.behind_instances {o} {is = js} b x xs) = not_whole file w.opening is f w.is_file (stop_grammar file o js f b)
 
   -- The instances of a file, and the first fault of their references.

@@ -6,7 +6,7 @@ ghost use Rattle.p21_reader.specs.Laws.{HasOneReadingAtMost, LocalReadingIsReadi
 
 use p21_check::{one_header_fault, one_local_fault, one_reference_fault};
 use p21_cut::{first_tokens_of_file, tokens_of_next_piece};
-use p21_text::tokens_are_unique;
+use p21_text::{first_is_unique, tokens_are_unique};
 use p21_tree::{
     faults_of_tokens, one_beginning, one_fault_at_most, one_semicolon, one_tree, parts_up_to_fault,
 };
@@ -16,6 +16,7 @@ pub fn one_reading()
     ensures { (s : Schema) → (file : List ℕ) → HasOneReadingAtMost s file }
 {
     tokens_are_unique();
+    first_is_unique();
     one_tree();
     one_beginning();
     one_fault_at_most();

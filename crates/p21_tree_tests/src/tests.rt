@@ -5,7 +5,7 @@ ghost use Rattle.p21_tree.specs.Bodies.{AllHaveBodies, HasBodies};
 
 use p21_text::{binary_bits, string_len};
 use p21_tree::{
-    Fault, FaultKind, Few, InstanceReader, Param, Piece, RawInstance, Record, TreeError,
+    Fault, FaultKind, Few, InstanceReader, Param, Piece, Preface, RawInstance, Record, TreeError,
     read_piece, read_preface, read_tail, read_whole,
 };
 use std::alloc::{AllocError, Global};
@@ -387,22 +387,31 @@ fn faults(rt: HostRuntime) -> Result<(), Fail> {
     Ok(())
 }
 
-#[test]
-fn places_of_the_preface(rt: HostRuntime) -> Result<(), Fail> {
-    let preface = read_preface(rt.alloc(), PREFACE)?;
+fn check_preface(rt: &impl Abort, preface: &Preface<'_>) {
     assert_eq!(rt; preface.header_at, 13);
     assert_eq!(rt; preface.data_at, 118);
     assert_eq!(rt; preface.entities.len(), 3);
     assert!(rt; preface.entities[0].keyword == b"FILE_DESCRIPTION".as_slice());
-    let cut = read_preface(rt.alloc(), &PREFACE[..113]);
-    assert_eq!(rt; cut.err(), Some(grammar(FaultKind::Truncated, 113)));
+}
+
+/// Why a file has no preface.
+fn preface_error(alloc: Global, file: &[u8]) -> Option<TreeError> {
+    read_preface(alloc, file).err()
+}
+
+#[test]
+fn places_of_the_preface(rt: HostRuntime) -> Result<(), Fail> {
+    let cut = preface_error(rt.alloc(), &PREFACE[..113]);
+    assert_eq!(rt; cut, Some(grammar(FaultKind::Truncated, 113)));
+    let preface = read_preface(rt.alloc(), PREFACE)?;
+    check_preface(&rt, &preface);
     Ok(())
 }
 
 #[test]
 fn header_entity_named_endsec(rt: HostRuntime) {
     let file = b"ISO-10303-21;HEADER;ENDSEC('');ENDSEC;DATA;";
-    let fault = read_preface(rt.alloc(), file).err();
+    let fault = preface_error(rt.alloc(), file);
     assert_eq!(rt; fault, Some(grammar(FaultKind::Unexpected, 26)));
 }
 
@@ -418,6 +427,11 @@ fn piece(bytes: &'static [u8]) -> Piece<'static> {
     }
 }
 
+/// Why a piece is no instance.
+fn piece_error(alloc: Global, bytes: &'static [u8]) -> Option<TreeError> {
+    read_piece(alloc, piece(bytes)).err()
+}
+
 #[test]
 fn pieces(rt: HostRuntime) {
     let rows: [(&'static [u8], FaultKind, u64); 6] = [
@@ -429,33 +443,47 @@ fn pieces(rt: HostRuntime) {
         (b"A(1);", FaultKind::Unexpected, 118),
     ];
     for (bytes, kind, at) in rows {
-        let fault = read_piece(rt.alloc(), piece(bytes)).err();
+        let fault = piece_error(rt.alloc(), bytes);
         assert_eq!(rt; fault, Some(grammar(kind, at)), "{bytes:?}");
     }
+}
+
+/// Whether it is typed by LABEL, with a list of two inside.
+fn is_label_of_two(param: &Param<'_>) -> bool {
+    match param {
+        Param::Typed(keyword, inner) => *keyword == b"LABEL".as_slice() && is_list_of_two(inner),
+        _ => false,
+    }
+}
+
+fn is_list_of_two(param: &Param<'_>) -> bool {
+    match param {
+        Param::Items(items) => items.len() == 2,
+        _ => false,
+    }
+}
+
+fn check_parameters(rt: &impl Abort, record: &Record<'_>) {
+    assert!(rt; record.keyword == b"!A".as_slice());
+    assert_eq!(rt; record.params.len(), 4);
+    let params = record.params.as_slice();
+    assert!(rt; matches!(params[0], Param::Absent));
+    assert!(rt; matches!(params[1], Param::Derived));
+    assert!(rt; is_label_of_two(&params[3]));
+}
+
+fn check_tree(rt: &impl Abort, read: &RawInstance<'_>) {
+    assert_eq!(rt; read.name, 7);
+    assert_eq!(rt; read.at, 119);
+    assert!(rt; !read.complex);
+    assert_eq!(rt; read.records.len(), 1);
+    check_parameters(rt, &read.records.as_slice()[0]);
 }
 
 #[test]
 fn tree_of_an_instance(rt: HostRuntime) -> Result<(), Fail> {
     let read = read_piece(rt.alloc(), piece(b" #7=!A($,*,-1,LABEL((#2,'x')));"))?;
-    assert_eq!(rt; read.name, 7);
-    assert_eq!(rt; read.at, 119);
-    assert!(rt; !read.complex);
-    assert_eq!(rt; read.records.len(), 1);
-    let record = &read.records.as_slice()[0];
-    assert!(rt; record.keyword == b"!A".as_slice());
-    assert_eq!(rt; record.params.len(), 4);
-    assert!(rt; matches!(record.params.as_slice()[0], Param::Absent));
-    assert!(rt; matches!(record.params.as_slice()[1], Param::Derived));
-    match &record.params.as_slice()[3] {
-        Param::Typed(keyword, inner) => {
-            assert!(rt; *keyword == b"LABEL".as_slice());
-            match &**inner {
-                Param::Items(items) => assert_eq!(rt; items.len(), 2),
-                _ => assert!(rt; false, "a list"),
-            }
-        }
-        _ => assert!(rt; false, "a typed parameter"),
-    }
+    check_tree(&rt, &read);
     Ok(())
 }
 
@@ -467,61 +495,93 @@ fn is_integer(param: &Param<'_>, spelled: &[u8]) -> bool {
     }
 }
 
+/// Whether it is the list `(6,$)`.
+fn is_six_and_none(param: &Param<'_>) -> bool {
+    match param {
+        Param::Items(items) => {
+            items.len() == 2 && is_integer(&items[0], b"6") && matches!(items[1], Param::Absent)
+        }
+        _ => false,
+    }
+}
+
+/// Whether it is `D(*)`.
+fn is_derived_d(param: &Param<'_>) -> bool {
+    match param {
+        Param::Typed(keyword, inner) => {
+            *keyword == b"D".as_slice() && matches!(&**inner, Param::Derived)
+        }
+        _ => false,
+    }
+}
+
+fn check_second_parameters(rt: &impl Abort, record: &Record<'_>) {
+    assert!(rt; record.keyword == b"C".as_slice());
+    assert_eq!(rt; record.params.len(), 3);
+    let params = record.params.as_slice();
+    assert!(rt; is_integer(&params[0], b"5"));
+    assert!(rt; is_six_and_none(&params[1]));
+    assert!(rt; is_derived_d(&params[2]));
+}
+
+fn check_second_piece(rt: &impl Abort, read: &RawInstance<'_>) {
+    assert_eq!(rt; read.name, 2);
+    assert_eq!(rt; read.at, 118);
+    assert!(rt; !read.complex);
+    assert_eq!(rt; read.records.len(), 1);
+    check_second_parameters(rt, &read.records.as_slice()[0]);
+}
+
 #[test]
 fn one_reader_for_two_pieces(rt: HostRuntime) -> Result<(), Fail> {
     let mut reader = InstanceReader::new(rt.alloc());
     let refused = reader.read(piece(b"#1=A((1,B((2,3 4))));")).err();
     assert_eq!(rt; refused, Some(grammar(FaultKind::Unexpected, 133)));
     let read = reader.read(piece(b"#2=C(5,(6,$),D(*));"))?;
-    assert_eq!(rt; read.name, 2);
-    assert_eq!(rt; read.at, 118);
-    assert!(rt; !read.complex);
-    assert_eq!(rt; read.records.len(), 1);
-    let record = &read.records.as_slice()[0];
-    assert!(rt; record.keyword == b"C".as_slice());
-    assert_eq!(rt; record.params.len(), 3);
-    assert!(rt; is_integer(&record.params.as_slice()[0], b"5"));
-    match &record.params.as_slice()[1] {
-        Param::Items(items) => {
-            assert_eq!(rt; items.len(), 2);
-            assert!(rt; is_integer(&items[0], b"6"));
-            assert!(rt; matches!(items[1], Param::Absent));
-        }
-        _ => assert!(rt; false, "a list"),
-    }
-    match &record.params.as_slice()[2] {
-        Param::Typed(keyword, inner) => {
-            assert!(rt; *keyword == b"D".as_slice());
-            assert!(rt; matches!(&**inner, Param::Derived));
-        }
-        _ => assert!(rt; false, "a typed parameter"),
-    }
+    check_second_piece(&rt, &read);
     Ok(())
+}
+
+/// Whether the instance of a text is complex, and how many records it has.
+fn form(alloc: Global, bytes: &'static [u8]) -> Result<(bool, usize), TreeError> {
+    let read = read_piece(alloc, piece(bytes))?;
+    Ok((read.complex, read.records.len()))
+}
+
+/// The records of the instance of a text, in a vector.
+fn records(alloc: Global, bytes: &'static [u8]) -> Result<Vec<Record<'static>>, Fail> {
+    let read = read_piece(alloc, piece(bytes))?;
+    Ok(read.records.into_vec(alloc)?)
+}
+
+fn check_two_records(rt: &impl Abort, records: &[Record<'_>]) {
+    assert_eq!(rt; records.len(), 2);
+    assert!(rt; records[0].keyword == b"A".as_slice());
+    assert!(rt; records[1].keyword == b"B".as_slice());
 }
 
 #[test]
 fn records_of_a_complex_instance(rt: HostRuntime) -> Result<(), Fail> {
-    let read = read_piece(rt.alloc(), piece(b"#1=(A(1)B());"))?;
-    assert!(rt; read.complex);
-    assert_eq!(rt; read.records.len(), 2);
-    let listed = read.records.into_vec(rt.alloc())?;
-    assert_eq!(rt; listed.len(), 2);
-    assert!(rt; listed[0].keyword == b"A".as_slice());
-    assert!(rt; listed[1].keyword == b"B".as_slice());
+    let text = b"#1=(A(1)B());";
+    assert_eq!(rt; form(rt.alloc(), text)?, (true, 2));
+    let listed = records(rt.alloc(), text)?;
+    check_two_records(&rt, &listed);
     let again = Few::from_vec(listed);
-    assert!(rt; again.as_slice()[1].keyword == b"B".as_slice());
+    check_two_records(&rt, again.as_slice());
     Ok(())
+}
+
+fn check_record(rt: &impl Abort, records: &[Record<'_>]) {
+    assert_eq!(rt; records.len(), 1);
+    assert!(rt; records[0].keyword == b"A".as_slice());
+    assert_eq!(rt; records[0].params.len(), 1);
+    assert!(rt; is_integer(&records[0].params.as_slice()[0], b"1"));
 }
 
 #[test]
 fn record_of_a_simple_instance(rt: HostRuntime) -> Result<(), Fail> {
-    let read = read_piece(rt.alloc(), piece(b"#1=A(1);"))?;
-    let listed = read.records.into_vec(rt.alloc())?;
-    assert_eq!(rt; listed.len(), 1);
-    let record = &listed[0];
-    assert!(rt; record.keyword == b"A".as_slice());
-    assert_eq!(rt; record.params.len(), 1);
-    assert!(rt; is_integer(&record.params.as_slice()[0], b"1"));
+    let listed = records(rt.alloc(), b"#1=A(1);")?;
+    check_record(&rt, &listed);
     Ok(())
 }
 

@@ -9,4 +9,4 @@ returns-clause-pieces g c =
 
 pub returns-clause-answer : goal.returns-clause-answer
 returns-clause-answer g c =
-    reading_by c.args.schema.now c.args.file.now c.args.lanes c.read_lanes_by.result (c.values_give_reading.ensures c.args.schema.now c.args.file.now) c.read_lanes_by.ensures
+    reading_by c.args.schema.now c.args.file.now c.args.lanes c.read_lanes_by.result (c.values_give_reading.ensures.of_values c.args.schema.now c.args.file.now) c.read_lanes_by.ensures
