@@ -113,7 +113,6 @@ preface_ends text at q _ _ up (sentence.made iso s1 header s2 ts endsec s3 data_
 pub are_instances : NextLaws → (file : List ℕ) → PiecesAreInstances file
 are_instances laws file o is ps end whole n =
     let f = whole.2 in
-    let all = all_of_file file o is whole in
     let moved : Tokens file 0 (f.opening ++ (f.body ++ f.tail)) = subst (Tokens file 0) f.parts whole.1 in
     let first = some_first f.body f.tail f.is_tail in
     let s = whole_split file 0 f.opening first.0 first.1 (f.opening ++ (f.body ++ f.tail)) moved (ap (λ l. f.opening ++ l) first.2) in
@@ -125,6 +124,6 @@ of_file_are_instances laws trees s file o is ps whole none h = by_pieces (map pl
   by_pieces : (qs : List cut.Piece) → map plain_piece ps ≡ qs → ArePiecesOf s file qs → AllZip IsPieceOf ps is
   by_pieces _ e (own.none {f} bad) = absurd (none f bad)
   by_pieces _ e (own.behind_preface {o = u} {ps = qs} {end} begins header n) =
-      let all = all_of_file file o is whole in
+      let all = all_of_file trees.firsts file o is whole in
       let same : u ≡ o = (beginnings trees file u o [] is u.data_at all.end (begins_opening file u begins) all.begins).0 in
       (are_instances laws file o is ps end whole (subst (λ x. PiecesAre file x.data_at 0 (map plain_piece ps) end) same (subst (λ l. PiecesAre file u.data_at 0 l end) (sym e) n))).0

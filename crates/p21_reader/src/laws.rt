@@ -52,6 +52,7 @@ pub fn pieces_are_instances()
     ensures behind_preface { (file : List ℕ) → PiecesAreInstances file }
     ensures of_file { (s : Schema) → (file : List ℕ) → PiecesOfFileAreInstances s file }
 {
+    first_is_unique();
     tokens_of_next_piece();
     one_semicolon();
     one_tree();
