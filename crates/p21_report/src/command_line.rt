@@ -67,10 +67,28 @@ fn report<R: Files + Threads + Wait + Sync, I: Read, O: Write>(
     let (lanes, capacity) = (wanted.lanes, wanted.capacity);
     let outcome = if wanted.file == "-" {
         let mut file = Stream::new(input);
-        run(rt, alloc, &OpenGate, &mut schema, &mut file, &mut out, lanes, capacity)
+        run(
+            rt,
+            alloc,
+            &OpenGate,
+            &mut schema,
+            &mut file,
+            &mut out,
+            lanes,
+            capacity,
+        )
     } else {
         let mut file = Opened::new(rt, wanted.file);
-        run(rt, alloc, &OpenGate, &mut schema, &mut file, &mut out, lanes, capacity)
+        run(
+            rt,
+            alloc,
+            &OpenGate,
+            &mut schema,
+            &mut file,
+            &mut out,
+            lanes,
+            capacity,
+        )
     };
     status_of(outcome)
 }

@@ -38,7 +38,7 @@ pub(crate) fn report_of_file<R: Threads + Wait + Sync, G: Gate + Sync>(
     alloc: Global,
     schema: &Schema,
     file: &[u8],
-    by: Lanes<'_, G>,
+    by: &Lanes<'_, G>,
 ) -> Result<Report, AllocError>
     ensures { IfOk result (λ report. IsReportOf schema.now file.now report.outcome report.text.items) }
 {

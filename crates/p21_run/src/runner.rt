@@ -14,9 +14,9 @@ use crate::outcome::Outcome;
 use crate::output::{OutputError, WRITE_CALLS, write_bounded};
 use crate::report::{Lanes, Report, report_of_file, report_of_refusal};
 use crate::source::{Sink, Source};
-use p21_express::{Declarations, read_declarations};
 use p21_crew::Gate;
 use p21_desk::LaneCount;
+use p21_express::{Declarations, read_declarations};
 use p21_lanes::Capacity;
 use p21_schema::Schema;
 use std::alloc::Global;
@@ -54,7 +54,7 @@ pub fn run<R: Threads + Wait + Sync, G: Gate + Sync, S: Source, F: Source, K: Si
         lanes,
         capacity,
     };
-    match report(rt, alloc, schema_in, file_in, by) {
+    match report(rt, alloc, schema_in, file_in, &by) {
         Ok(report) => match write_bounded(out, report.text.as_slice(), WRITE_CALLS) {
             Ok(()) => report.outcome,
             Err(OutputError) => Outcome::Device,
@@ -70,7 +70,7 @@ fn report<R: Threads + Wait + Sync, G: Gate + Sync, S: Source, F: Source>(
     alloc: Global,
     schema_in: &mut S,
     file_in: &mut F,
-    by: Lanes<'_, G>,
+    by: &Lanes<'_, G>,
 ) -> Result<Report, InputError>
     ensures due { (schema_text file : List ℕ) → S.remaining schema_in.old ≡ Some schema_text → F.remaining file_in.old ≡ Some file → IfOk result (λ report. IsDue schema_text file report.outcome report.text.items) }
     ensures schema_bounded { IfOk result (λ _. (schema_text : List ℕ) → S.remaining schema_in.old ≡ Some schema_text → length schema_text ≤ most_schema_bytes) }
@@ -91,7 +91,7 @@ fn report_against<R: Threads + Wait + Sync, G: Gate + Sync, F: Source>(
     alloc: Global,
     declarations: Declarations,
     file_in: &mut F,
-    by: Lanes<'_, G>,
+    by: &Lanes<'_, G>,
 ) -> Result<Report, InputError>
     requires { IsWellFormed (plain_schema declarations) }
     ensures due { (file : List ℕ) → F.remaining file_in.old ≡ Some file → IfOk result (λ report. IsReportOf (plain_schema declarations) file report.outcome report.text.items) }

@@ -26,7 +26,9 @@ fn run_by_two<R: Threads + Wait + Sync, S: Source, F: Source, K: Sink>(
     out: &mut K,
 ) -> Outcome {
     match (LaneCount::new(2), Capacity::new(1)) {
-        (Some(lanes), Some(capacity)) => run(rt, alloc, &OpenGate, schema_in, file_in, out, lanes, capacity),
+        (Some(lanes), Some(capacity)) => run(
+            rt, alloc, &OpenGate, schema_in, file_in, out, lanes, capacity,
+        ),
         _ => Outcome::Memory,
     }
 }
@@ -36,7 +38,13 @@ fn schema_reader_that_fails(rt: HostRuntime) -> Result<(), Fail> {
     for calls in 0..=7 {
         let mut schema = Bytes::until(SCHEMA, 10, calls, Turn::Fails);
         let mut out = Text::new(rt.alloc());
-        let outcome = run_by_two(&rt, rt.alloc(), &mut schema, &mut Bytes::new(FILE), &mut out);
+        let outcome = run_by_two(
+            &rt,
+            rt.alloc(),
+            &mut schema,
+            &mut Bytes::new(FILE),
+            &mut out,
+        );
         let reads_all = calls == 7;
         assert_eq!(rt; outcome == Outcome::Complete, reads_all, "after {calls}");
         assert_eq!(rt; out.as_slice().is_empty(), !reads_all, "after {calls}");
@@ -49,7 +57,13 @@ fn file_reader_that_fails(rt: HostRuntime) -> Result<(), Fail> {
     for calls in 0..=4 {
         let mut file = Bytes::until(FILE, 50, calls, Turn::Fails);
         let mut out = Text::new(rt.alloc());
-        let outcome = run_by_two(&rt, rt.alloc(), &mut Bytes::new(SCHEMA), &mut file, &mut out);
+        let outcome = run_by_two(
+            &rt,
+            rt.alloc(),
+            &mut Bytes::new(SCHEMA),
+            &mut file,
+            &mut out,
+        );
         let reads_all = calls == 4;
         assert_eq!(rt; outcome == Outcome::Complete, reads_all, "after {calls}");
         assert_eq!(rt; out.as_slice().is_empty(), !reads_all, "after {calls}");
@@ -60,7 +74,9 @@ fn file_reader_that_fails(rt: HostRuntime) -> Result<(), Fail> {
 #[test]
 fn one_byte_a_call(rt: HostRuntime) -> Result<(), Fail> {
     let mut out = Text::until(rt.alloc(), 1, u64::MAX, Turn::Moves);
-    let outcome = run_by_two(&rt, rt.alloc(),
+    let outcome = run_by_two(
+        &rt,
+        rt.alloc(),
         &mut Bytes::in_steps(SCHEMA, 1),
         &mut Bytes::in_steps(FILE, 1),
         &mut out,
@@ -74,7 +90,9 @@ fn one_byte_a_call(rt: HostRuntime) -> Result<(), Fail> {
 fn writer_that_fails(rt: HostRuntime) -> Result<(), Fail> {
     for calls in 0..REPORT.len() {
         let mut out = Text::until(rt.alloc(), 1, calls as u64, Turn::Fails);
-        let outcome = run_by_two(&rt, rt.alloc(),
+        let outcome = run_by_two(
+            &rt,
+            rt.alloc(),
             &mut Bytes::new(SCHEMA),
             &mut Bytes::new(FILE),
             &mut out,
@@ -94,7 +112,9 @@ fn always_interrupted(rt: HostRuntime) -> Result<(), Fail> {
     assert_eq!(rt; outcome, Outcome::Device);
     assert!(rt; out.as_slice().is_empty());
     let mut out = Text::until(alloc, 0, u64::MAX, Turn::Moves);
-    let outcome = run_by_two(&rt, alloc,
+    let outcome = run_by_two(
+        &rt,
+        alloc,
         &mut Bytes::new(SCHEMA),
         &mut Bytes::new(FILE),
         &mut out,
