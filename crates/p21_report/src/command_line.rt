@@ -6,7 +6,7 @@ ghost use Rattle.p21_report.specs.declared.program_error.ProgramError.TheVariant
 
 use crate::opened::Opened;
 use crate::program_error::ProgramError;
-use crate::words::{not_text, wanted};
+use crate::words::{not_text, what_is_wanted};
 use p21_crew::OpenGate;
 use p21_run::{Outcome, Stream, run};
 use std::alloc::{AllocError, Global};
@@ -61,7 +61,7 @@ fn report<R: Files + Threads + Wait + Sync, I: Read, O: Write>(
     input: &mut I,
     output: &mut O,
 ) -> Result<u8, ProgramError> {
-    let wanted = wanted(alloc, words)?;
+    let wanted = what_is_wanted(alloc, words)?;
     let mut schema = Opened::new(rt, wanted.schema);
     let mut out = Stream::new(output);
     let (lanes, capacity) = (wanted.lanes, wanted.capacity);

@@ -19,7 +19,10 @@ pub(crate) struct Wanted<'a> {
 }
 
 /// What the words ask for; the first word is the program's own name.
-pub(crate) fn wanted<'a>(alloc: Global, words: &'a [String]) -> Result<Wanted<'a>, ProgramError> {
+pub(crate) fn what_is_wanted<'a>(
+    alloc: Global,
+    words: &'a [String],
+) -> Result<Wanted<'a>, ProgramError> {
     let matches = command(alloc)?.try_get_matches_from(words)?;
     let paths = (matches.get_str("SCHEMA"), matches.get_str("FILE"));
     let lanes = matches.get_one("lanes").and_then(LaneCount::new);
