@@ -49,13 +49,13 @@ impl<'a> EntityOf<'a> for Two<'a> {
     }
 }
 
-fn instance(alloc: Global, text: &[u8]) -> Result<RawInstance<'_>, Fail> {
+fn instance(alloc: Global, text: &[u8]) -> Option<RawInstance<'_>> {
     let piece = Piece {
         number: 0,
         at: 0,
         bytes: text,
     };
-    Ok(read_piece(alloc, piece).ok().ok_or("an instance")?)
+    read_piece(alloc, piece).ok()
 }
 
 /// The reference fault of an instance among two.
@@ -67,14 +67,14 @@ fn fault(instance: &RawInstance<'_>, two: &Two<'_>) -> Result<Option<FaultKind>,
 }
 
 /// `#2` of this entity, and `#3` a complex one.
-fn with_entity(alloc: Global, entity: &[u8]) -> Result<Two<'static>, Fail> {
+fn with_entity(alloc: Global, entity: &[u8]) -> Option<Two<'static>> {
     let schema = table(alloc, TOY)?;
-    let entity = schema.entity(entity).ok_or("an entity")?;
+    let entity = schema.entity(entity)?;
     let other = instance(alloc, b"#3=(ITEM()SPECIAL());")?;
     if simple_entity(&schema, &other).is_some() {
-        return Err("a complex instance")?;
+        return None;
     }
-    Ok(Two {
+    Some(Two {
         schema,
         entity,
         other,
@@ -83,8 +83,8 @@ fn with_entity(alloc: Global, entity: &[u8]) -> Result<Two<'static>, Fail> {
 
 /// The reference fault of the instance that a text spells, where `#2` is one of this entity.
 fn fault_among(alloc: Global, entity: &[u8], text: &[u8]) -> Result<Option<FaultKind>, Fail> {
-    let two = with_entity(alloc, entity)?;
-    let one = instance(alloc, text)?;
+    let two = with_entity(alloc, entity).ok_or("two instances")?;
+    let one = instance(alloc, text).ok_or("an instance")?;
     fault(&one, &two)
 }
 

@@ -38,7 +38,7 @@ const SCHEMA: &[u8] = b"FILE_SCHEMA(('TOY'));";
 #[test]
 fn header_entities(rt: HostRuntime) -> Result<(), Fail> {
     let alloc = rt.alloc();
-    let toy = table(alloc, TOY)?;
+    let toy = table(alloc, TOY).ok_or("the schema is read and built")?;
     let entities = Some(FaultKind::HeaderEntities);
     let rows: [(&[&[u8]], Option<FaultKind>); 18] = [
         (&[DESCRIPTION, NAME, SCHEMA], None),
@@ -81,7 +81,7 @@ fn header_entities(rt: HostRuntime) -> Result<(), Fail> {
 #[test]
 fn schema_name(rt: HostRuntime) -> Result<(), Fail> {
     let alloc = rt.alloc();
-    let toy = table(alloc, TOY)?;
+    let toy = table(alloc, TOY).ok_or("the schema is read and built")?;
     let other = Some(FaultKind::WrongSchema);
     let rows: [(&[u8], Option<FaultKind>); 18] = [
         (b"toy { 1 0 }", None),

@@ -100,7 +100,7 @@ type Row = (&'static [u8], Option<FaultKind>);
 
 /// Each row against the table of a schema's text.
 fn check(rt: &impl Abort, alloc: Global, schema: &[u8], rows: &[Row]) -> Result<(), Fail> {
-    let schema = table(alloc, schema)?;
+    let schema = table(alloc, schema).ok_or("a schema")?;
     for (text, want) in rows {
         assert_eq!(rt; fault(alloc, &schema, text)?, *want, "{text:?}");
     }
