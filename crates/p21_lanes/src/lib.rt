@@ -46,6 +46,3 @@ pub fn lane<T: Drop>(
     )?;
     Ok((LaneIn::over(producer), LaneOut::over(consumer)))
 }
-
-#[cfg(test)]
-mod tests;

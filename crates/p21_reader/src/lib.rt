@@ -2,8 +2,6 @@
 #![tactic(auto)]
 
 mod gathering;
-#[cfg(test)]
-mod gathering_tests;
 mod judged;
 mod judging;
 mod lanes;
@@ -11,12 +9,8 @@ mod laws;
 mod local;
 mod pieces;
 mod reading;
-#[cfg(test)]
-mod reference_tests;
 mod serial;
 mod stop;
-#[cfg(test)]
-mod tests;
 
 pub use judged::{Judge, Judged, LocalReader};
 pub use lanes::{read_lanes, read_lanes_by};

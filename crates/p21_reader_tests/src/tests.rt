@@ -1,7 +1,12 @@
 //! Reading where a request for memory is refused.
 
-use crate::{ReadError, read_serial};
+use crate::files::Answer::{Instances, Memory};
+use crate::files::answered;
+use p21_crew::OpenGate;
+use p21_desk::LaneCount;
 use p21_express::read_declarations;
+use p21_lanes::Capacity;
+use p21_reader::{ReadError, read_lanes, read_serial};
 use p21_schema::Schema;
 use std::alloc::Global;
 
@@ -78,5 +83,21 @@ fn memory_or_the_answer(rt: HostRuntime) {
             assert!(rt; matches!(&reading.answer, Ok(model) if model.len() == 5));
         }
         Err(error) => assert_eq!(rt; error, ReadError::Memory),
+    }
+}
+
+/// By lanes too it is right, and comes, where a request for memory is refused.
+#[test]
+fn memory_or_the_answer_by_lanes(rt: HostRuntime) {
+    let alloc = rt.alloc();
+    let Some(schema) = toy(alloc) else {
+        return;
+    };
+    for lanes in [1, 2] {
+        let (Some(lanes), Some(capacity)) = (LaneCount::new(lanes), Capacity::new(1)) else {
+            panic!(rt; "one or two lanes of one place");
+        };
+        let reading = read_lanes(&rt, alloc, &schema, &OpenGate, FILE, lanes, capacity);
+        assert!(rt; matches!(answered(&reading), Instances(5) | Memory));
     }
 }

@@ -4,8 +4,8 @@ ghost use Rattle.p21_lanes.specs.Lane.{IsLane};
 ghost use Rattle.p21_lanes.specs.LaneIn.{SameIn};
 ghost use Rattle.p21_lanes.specs.LaneOut.{SameOut};
 
-use super::*;
-use std::alloc::Global;
+use p21_lanes::{Batch, Capacity, Full, LaneIn, LaneOut, Pair, Taken, lane, settle};
+use std::alloc::{AllocError, Global};
 use std::rc::Rc;
 use std::sync::Wait;
 use std::test::Fail;
@@ -197,10 +197,62 @@ fn lane_let_go_with_items_in_it(rt: HostRuntime) -> Result<(), Fail> {
     Ok(())
 }
 
-// For runs in which an allocation is refused (`rt try --test --fail-alloc N`): either `lane` answers want of memory,
-// or the lane works, since no other call takes memory.
 #[test]
-fn want_of_memory_or_a_lane(rt: HostRuntime) -> Result<(), Fail> {
+fn batches(rt: HostRuntime) -> Result<(), Fail> {
+    let (mut lane_in, mut lane_out) = lane_of(rt.alloc(), 4)?;
+    let mut three = Batch::new(rt.alloc(), 3)?;
+    let mut two = Batch::new(rt.alloc(), 2)?;
+    push_all(&mut three, &[1, 2, 3]);
+    push_all(&mut two, &[4, 5]);
+    assert_eq!(rt; lane_in.offer_batch(&three), Ok(()));
+    assert_eq!(rt; lane_in.offer_batch(&two), Err(Full));
+    assert_eq!(rt; lane_out.ready(), 3);
+    assert!(rt; !lane_out.take_batch(&mut two));
+    assert_eq!(rt; items(&two), [Some(1), Some(2), None]);
+    assert_eq!(rt; lane_out.ready(), 1);
+    assert!(rt; !lane_out.take_batch(&mut two));
+    assert_eq!(rt; items(&two), [Some(3), None, None]);
+    assert_eq!(rt; lane_out.ready(), 0);
+    assert_eq!(rt; lane_in.end(), Ok(()));
+    assert_eq!(rt; lane_out.ready(), 1);
+    assert!(rt; lane_out.take_batch(&mut two));
+    assert!(rt; two.is_empty());
+    assert_eq!(rt; two.room(), 2);
+    assert_eq!(rt; lane_in.offer_batch(&three), Err(Full));
+    let Ok(receipt) = settle(lane_in, lane_out) else {
+        panic!(rt; "not settled");
+    };
+    assert_eq!(rt; receipt.count(), 3);
+    Ok(())
+}
+
+/// Puts the numbers behind the others, while there is room.
+fn push_all(batch: &mut Batch<u32>, numbers: &[u32]) {
+    for number in numbers {
+        if batch.len() < batch.room() {
+            batch.push(*number);
+        }
+    }
+}
+
+/// The first three items, as many as there are.
+fn items(batch: &Batch<u32>) -> [Option<u32>; 3] {
+    [item(batch, 0), item(batch, 1), item(batch, 2)]
+}
+
+/// The item at a place, if there is one.
+fn item(batch: &Batch<u32>, place: usize) -> Option<u32> {
+    if place < batch.len() {
+        Some(batch.get(place))
+    } else {
+        None
+    }
+}
+
+// Where a request for memory is refused, which `tests/refused_memory` does in turn, `lane` answers want of memory; else the lane
+// works, since no other call takes memory.
+#[test]
+fn memory_or_the_answer(rt: HostRuntime) -> Result<(), Fail> {
     let capacity = Capacity::new(2).ok_or("2 is a capacity")?;
     let Ok((mut lane_in, mut lane_out)) = lane(rt.alloc(), capacity) else {
         return Ok(());

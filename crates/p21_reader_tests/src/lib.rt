@@ -1,0 +1,15 @@
+//! The reading by example. The tests stand here, and not beside what they try, so that neither is proved twice.
+#![tactic(auto)]
+
+#[cfg(test)]
+mod files;
+#[cfg(test)]
+mod gathering_tests;
+#[cfg(test)]
+mod judges;
+#[cfg(test)]
+mod lanes_tests;
+#[cfg(test)]
+mod reference_tests;
+#[cfg(test)]
+mod tests;
