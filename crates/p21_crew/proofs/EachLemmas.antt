@@ -1,5 +1,5 @@
 -- Lemmas on lists whose elements each stand in a relation to their numbers.
-use Rattle.std.proofs.Common.{◌≡◌, ◌≢◌, ℕ, zero, suc, ◌+◌, ◌<◌, ◌≤◌, List, [], ◌∷◌, ◌++◌, length, get_or, slice_set, refl, sym, ap, subst, ◌∙◌, arith}
+use Rattle.std.proofs.Common.{◌≡◌, ◌≢◌, ℕ, zero, suc, ◌+◌, ◌<◌, ◌≤◌, List, [], ◌∷◌, ◌++◌, length, get_or, slice_set, sym, subst, ◌∙◌, arith}
 use Rattle.p21_crew.specs.Each.{EachAt}
 
 module _ {X : Type 0} where

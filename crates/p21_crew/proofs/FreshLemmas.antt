@@ -1,5 +1,5 @@
 -- Lemmas on lanes that are started one after the other.
-use Rattle.std.proofs.Common.{◌≡◌, ℕ, ◌+◌, false, List, [], ◌∷◌, ◌++◌, length, Result, Ok, Err, IsOk, IfOk, refl, sym, ap, subst, ◌∙◌, arith}
+use Rattle.std.proofs.Common.{◌≡◌, ◌+◌, false, List, [], ◌∷◌, ◌++◌, length, Result, Ok, Err, IsOk, IfOk, arith}
 use Rattle.std.proofs.lemmas.List.{length-append}
 use Rattle.p21_lanes.specs.LaneIn.{accepted}
 use Rattle.p21_lanes.specs.LaneOut.{taken, took_end}

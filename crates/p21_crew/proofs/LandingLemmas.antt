@@ -1,5 +1,5 @@
 -- Lemmas on lanes that are landed one after the other.
-use Rattle.std.proofs.Common.{◌≡◌, List, [], ◌∷◌, ◌++◌, refl, sym, ap, ◌∙◌}
+use Rattle.std.proofs.Common.{◌≡◌, List, [], ◌∷◌, ◌++◌}
 use Rattle.std.specs.List.{AllZip}
 use Rattle.p21_lanes.specs.declared.receipt.Receipt.{Receipt}
 use Rattle.p21_lanes.specs.LaneIn.{accepted}

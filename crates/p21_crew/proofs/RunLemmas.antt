@@ -1,6 +1,6 @@
 -- Lemmas on the run of a crew: its beginning, and what is known when all lanes are landed.
-use Rattle.std.proofs.Common.{◌≡◌, ◌≢◌, ℕ, zero, suc, Bool, Option, Some, None, ◌+◌, ◌<◌, ◌≤◌, true, false, List, [], ◌∷◌, ◌++◌, length, map, refl, sym, ap, subst, ◌∙◌, arith, append-nil, if◌then◌else◌}
-use Rattle.std.specs.Prelude.{All, ◌==◌, cond}
+use Rattle.std.proofs.Common.{◌≡◌, ℕ, zero, suc, Bool, Option, None, ◌+◌, ◌<◌, true, false, List, [], ◌∷◌, ◌++◌, length, map, refl, sym, ap, subst, ◌∙◌, arith, append-nil, if◌then◌else◌}
+use Rattle.std.specs.Prelude.{All, ◌==◌}
 use Rattle.std.specs.List.{AllZip}
 use Rattle.std.proofs.lemmas.List.Elements.{All-nil, All-head, All-tail}
 use Rattle.p21_lanes.specs.Batch.{batch_items}
@@ -8,12 +8,11 @@ use Rattle.p21_lanes.specs.LaneIn.{accepted}
 use Rattle.p21_lanes.specs.LaneOut.{taken}
 use Rattle.p21_lanes.specs.declared.receipt.Receipt.{Receipt}
 use Rattle.p21_lanes.specs.Receipt.{passed}
-use Rattle.p21_desk.specs.Dealing.{share, IsDealing}
+use Rattle.p21_desk.specs.Dealing.{share}
 use Rattle.p21_crew.specs.declared.returned.Returned.{Returned}
 use Rattle.p21_crew.specs.declared.returned.Returned.TheVariants.{Value}
 use Rattle.p21_crew.specs.Each.{EachAt}
 use Rattle.p21_crew.specs.Worker.{IsReturned}
-use Rattle.p21_crew.specs.declared.flight.Flight.{Flight}
 use Rattle.p21_crew.specs.declared.dealer.Dealer.{Dealer}
 use Rattle.p21_crew.specs.Fresh.{IsFresh}
 use Rattle.p21_crew.specs.Landing.{AreLanded, Works}

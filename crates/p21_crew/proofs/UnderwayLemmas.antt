@@ -1,20 +1,19 @@
 -- Lemmas on the steps of the dealer.
-use Rattle.std.proofs.Common.{◌≡◌, ◌≢◌, ℕ, Option, Some, None, ◌+◌, ◌<◌, ◌≤◌, false, List, [], ◌∷◌, ◌++◌, length, map, get_or, replicate, refl, sym, ap, subst, ◌∙◌, arith, append-nil, append_assoc}
+use Rattle.std.proofs.Common.{◌≡◌, ◌≢◌, ℕ, Option, Some, None, ◌+◌, ◌<◌, ◌≤◌, false, List, [], ◌∷◌, ◌++◌, length, map, get_or, replicate, sym, ap, subst, ◌∙◌, arith, append-nil, append_assoc}
 use Rattle.p21_crew.specs.declared.returned.Returned.TheVariants.{Value}
 use Rattle.p21_crew.specs.declared.dealer.Dealer.{Dealer}
 use Rattle.p21_crew.specs.declared.flight.Flight.{Flight}
-use Rattle.p21_lanes.specs.LaneIn.{accepted, was_ended}
+use Rattle.p21_lanes.specs.LaneIn.{accepted}
 use Rattle.p21_lanes.specs.LaneOut.{taken, took_end}
 use Rattle.p21_desk.specs.Dealing.{share}
-use Rattle.std.specs.Prelude.{All, IfSome, slice_get, slice_set}
+use Rattle.std.specs.Prelude.{IfSome, slice_get, slice_set}
 use Rattle.std.proofs.lemmas.List.{map-append, length-append, length-replicate}
 use Rattle.std.proofs.lemmas.List.Elements.{All-append, All-replicate}
 use Rattle.std.proofs.lemmas.Option.{get_or_from_slice_get}
 use Rattle.p21_lanes.specs.Batch.{batch_items}
-use Rattle.p21_desk.specs.Dealt.{Dealt}
 use Rattle.p21_crew.specs.Underway.{Goes, Underway, LaneStands, IsCut, HasRoom}
-use Rattle.p21_crew.proofs.EachLemmas.{each_at, each_map, each_set}
-use Rattle.p21_crew.proofs.ShareLemmas.{same_lane, share-append, share-all, share-none, share-longer, share-next, share-skip}
+use Rattle.p21_crew.proofs.EachLemmas.{each_at, each_set}
+use Rattle.p21_crew.proofs.ShareLemmas.{share-append, share-all, share-none, share-longer, share-next, share-skip}
 
 module _ {P O W K : Type 0} where
   -- the same in all that is seen of a lane

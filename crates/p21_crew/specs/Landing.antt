@@ -1,5 +1,5 @@
 -- What is known of lanes that are landed.
-use Rattle.std.specs.Prelude.{◌≡◌, ℕ, List, []}
+use Rattle.std.specs.Prelude.{◌≡◌, List}
 use Rattle.std.specs.List.{AllZip}
 use Rattle.p21_lanes.specs.declared.receipt.Receipt.{Receipt}
 use Rattle.p21_lanes.specs.LaneIn.{accepted}

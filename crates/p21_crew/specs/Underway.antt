@@ -1,5 +1,5 @@
 -- What is known between the steps of the dealer.
-use Rattle.std.specs.Prelude.{◌≡◌, ℕ, ◌+◌, ◌<◌, ◌≤◌, Bool, true, false, All, List, [], ◌∷◌, ◌++◌, length, map, Option, Some, None, suc}
+use Rattle.std.specs.Prelude.{◌≡◌, ℕ, ◌+◌, ◌<◌, ◌≤◌, false, All, List, [], ◌++◌, length, map, Option, Some, None}
 use Rattle.p21_lanes.specs.Batch.{batch_items}
 use Rattle.p21_lanes.specs.LaneIn.{accepted}
 use Rattle.p21_lanes.specs.LaneOut.{taken, took_end}

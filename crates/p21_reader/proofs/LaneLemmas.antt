@@ -1,7 +1,6 @@
 -- Lemmas on what the workers of lanes say of the pieces of a file.
-use Rattle.std.proofs.Common.{◌≡◌, ℕ, List, [], ◌∷◌, ◌++◌, Option, Some, None, Result, Ok, Err, IfOk, map, refl, sym, ap, subst, ◌∙◌, append_assoc}
+use Rattle.std.proofs.Common.{◌≡◌, ℕ, List, [], ◌∷◌, ◌++◌, Option, None, Result, Ok, Err, IfOk, map, refl, sym, ap, subst, ◌∙◌, append_assoc}
 use Rattle.std.specs.List.{AllZip}
-use Rattle.std.specs.Prelude.{All}
 use Rattle.std.proofs.lemmas.List.Elements.{All-nil, All-cons}
 use Rattle.p21_express.specs.Schema.{Schema}
 use Rattle.p21_schema.specs.declared.ids.EntityId.{EntityId}
@@ -29,7 +28,7 @@ use Rattle.p21_reader.specs.PiecesOf.{behind_preface}
 use Rattle.p21_reader.specs.Reading.{IsReading, local}
 use Rattle.p21_reader.specs.Steps.{OnFault}
 use Rattle.p21_reader.specs.Stopped.{IsStopped}
-use Rattle.p21_reader.specs.Values.{Value, Whole, grammar, whole, IsJudged, instances_in, IsCarriedFault, CarryNoFault, HaveInstances}
+use Rattle.p21_reader.specs.Values.{Whole, whole, IsJudged, instances_in, CarryNoFault, HaveInstances}
 
 -- the whole instances are said to have no fault by themselves
 abbrev OwnNone : List Whole → Type 0

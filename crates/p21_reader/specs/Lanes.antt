@@ -1,5 +1,5 @@
 -- What a reading by lanes is.
-use Rattle.std.specs.Prelude.{◌≡◌, ℕ, List, [], length, map, Err, Option, None}
+use Rattle.std.specs.Prelude.{◌≡◌, ℕ, List, [], length, map, Err, None}
 use Rattle.std.specs.List.{AllZip}
 use Rattle.p21_express.specs.Schema.{Schema}
 use Rattle.p21_tree.specs.declared.faults.Fault.{Fault}
@@ -26,7 +26,6 @@ use Rattle.p21_reader.specs.Gathering.{IsGathered}
 use Rattle.p21_reader.specs.Judged.{HasOwnEntity, value_of}
 use Rattle.p21_reader.specs.LocalFault.{IsOpeningFault}
 use Rattle.p21_reader.specs.PiecesOf.{ArePiecesOf}
-use Rattle.p21_reader.specs.Reading.{IsReading}
 use Rattle.p21_reader.specs.Values.{IsAnswerTo}
 
 -- what a worker may say of a piece: what its judge may, and beside it the instance's own entity

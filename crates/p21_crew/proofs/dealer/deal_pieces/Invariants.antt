@@ -1,4 +1,4 @@
-use Rattle.std.proofs.Common.{◌≡◌, ◌+◌, ◌-◌, ◌≤◌, ◌++◌, replicate, length}
+use Rattle.std.proofs.Common.{◌≡◌, ◌+◌, ◌++◌, replicate}
 use Rattle.p21_desk.specs.Dealt.{waiting_at}
 use Rattle.p21_crew.proofs.dealer.deal_pieces.Given as goal
 

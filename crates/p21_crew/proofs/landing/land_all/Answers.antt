@@ -1,6 +1,6 @@
-use Rattle.std.proofs.Common.{◌≡◌, ◌++◌, [], ◌∷◌, true, IsTrue, refl, sym, ap, ◌∙◌, append_assoc}
+use Rattle.std.proofs.Common.{◌++◌, [], ◌∷◌, sym, ap, ◌∙◌, append_assoc}
 use Rattle.std.specs.Vec.Iter.{into_iter_items}
-use Rattle.p21_crew.proofs.LandingLemmas.{landed_none, landed_more}
+use Rattle.p21_crew.proofs.LandingLemmas.{landed_more}
 use Rattle.p21_crew.proofs.landing.land_all.Goals as goal
 
 pub loop-flight-preserved : goal.loop-flight-preserved

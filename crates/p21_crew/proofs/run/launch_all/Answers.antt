@@ -1,4 +1,4 @@
-use Rattle.std.proofs.Common.{◌≡◌, ◌+◌, ◌∙◌, arith, length, refl, sym, ap}
+use Rattle.std.proofs.Common.{arith}
 use Rattle.p21_crew.proofs.FreshLemmas.{fresh_more}
 use Rattle.p21_crew.proofs.run.launch_all.Goals as goal
 

@@ -1,4 +1,4 @@
-use Rattle.std.proofs.Common.{◌≡◌, ◌<◌, ◌∙◌, arith, rules}
+use Rattle.std.proofs.Common.{arith, rules}
 use Rattle.p21_lanes.specs.Batch.{batch_items}
 use Rattle.p21_lanes.specs.LaneIn.{accepted}
 use Rattle.p21_crew.specs.Worker.{IsReturned}

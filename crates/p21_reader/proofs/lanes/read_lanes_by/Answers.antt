@@ -1,6 +1,6 @@
 use Rattle.std.proofs.Common.{ℕ, List, map, subst}
 use Rattle.p21_cut.specs.Pieces.{PiecesAre}
-use Rattle.p21_cut.specs.Cutter.{file_of, number_of, place_of, plain_piece}
+use Rattle.p21_cut.specs.Cutter.{file_of, place_of, plain_piece}
 use Rattle.p21_tree.specs.declared.pieces.Piece.{Piece}
 use Rattle.p21_reader.specs.Lanes.{by_values}
 use Rattle.p21_reader.proofs.LaneLemmas.{judged_only, values_only, stopped_before}

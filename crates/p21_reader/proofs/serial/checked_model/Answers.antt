@@ -1,6 +1,5 @@
 use Rattle.std.proofs.Common.{Err}
 use Rattle.p21_reader.specs.LocalFault.{IsLocalFaultOfFile}
-use Rattle.p21_refs.specs.FirstReferenceFault.{IsFirstReferenceFault}
 use Rattle.p21_reader.specs.Reading.{IsReading}
 use Rattle.p21_reader.specs.Reading as reading
 use Rattle.p21_reader.proofs.ExitLemmas.{exit_stop, fault_gives}

@@ -1,4 +1,4 @@
-use Rattle.std.proofs.Common.{◌≡◌, ◌<◌, ◌++◌, replicate, refl, sym, ap, ◌∙◌, arith, length}
+use Rattle.std.proofs.Common.{◌<◌, ◌++◌, replicate, refl, ap, ◌∙◌, arith, length}
 use Rattle.p21_lanes.specs.Batch.{batch_items}
 use Rattle.p21_crew.proofs.UnderwayLemmas.{underway_dealt}
 use Rattle.p21_crew.proofs.dealer.Dealer.deal.Goals as goal

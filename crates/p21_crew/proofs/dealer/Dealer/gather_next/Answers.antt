@@ -1,4 +1,4 @@
-use Rattle.std.proofs.Common.{◌≡◌, ◌<◌, ◌++◌, [], ◌∷◌, refl, sym, ap, ◌∙◌, arith, length}
+use Rattle.std.proofs.Common.{◌<◌, ◌++◌, [], ◌∷◌, refl, ap, ◌∙◌, arith, length}
 use Rattle.p21_lanes.specs.LaneOut.{taken}
 use Rattle.p21_lanes.specs.History.{items_of, has_end}
 use Rattle.p21_crew.proofs.UnderwayLemmas.{underway_same, underway_gathered}

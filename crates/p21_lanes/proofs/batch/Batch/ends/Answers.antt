@@ -1,4 +1,4 @@
-use Rattle.std.proofs.Common.{◌≡◌, ◌≤◌, ◌-◌, ◌+◌, arith, sym, length}
+use Rattle.std.proofs.Common.{◌≤◌, ◌-◌, arith, sym, length}
 use Rattle.p21_lanes.proofs.BatchLemmas.{last_is_item, last_is_end}
 use Rattle.p21_lanes.proofs.batch.Batch.ends.Goals as goal
 

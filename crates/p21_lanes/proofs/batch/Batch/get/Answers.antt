@@ -1,4 +1,4 @@
-use Rattle.std.proofs.Common.{◌≡◌, ◌≤◌, ◌<◌, arith, sym, ◌∙◌, length}
+use Rattle.std.proofs.Common.{◌≤◌, arith, length}
 use Rattle.p21_lanes.proofs.BatchLemmas.{count_items, read_item, no_end_read}
 use Rattle.p21_lanes.proofs.batch.Batch.get.Goals as goal
 

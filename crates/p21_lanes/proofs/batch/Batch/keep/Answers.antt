@@ -1,4 +1,4 @@
-use Rattle.std.proofs.Common.{◌≡◌, ◌≤◌, ◌-◌, ◌+◌, true, arith, sym, ◌∙◌, length}
+use Rattle.std.proofs.Common.{◌≡◌, ◌≤◌, ◌-◌, true, arith, sym, ◌∙◌, length}
 use Rattle.p21_lanes.specs.History.{has_end}
 use Rattle.std.proofs.Common.{take}
 use Rattle.p21_lanes.proofs.BatchLemmas.{before_the_end, items_of_items, something_ends}

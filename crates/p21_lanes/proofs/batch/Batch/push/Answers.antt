@@ -1,4 +1,4 @@
-use Rattle.std.proofs.Common.{◌≡◌, ◌≤◌, ◌<◌, arith, length}
+use Rattle.std.proofs.Common.{◌≤◌, arith, length}
 use Rattle.p21_lanes.proofs.BatchLemmas.{count_items, items_more, AreItems-more}
 use Rattle.p21_lanes.proofs.batch.Batch.push.Goals as goal
 

@@ -1,5 +1,5 @@
 -- What was popped is written into the room of the batch, and the promise of the ring says that the end is the last of it.
-use Rattle.std.proofs.Common.{◌≡◌, ◌≤◌, ◌++◌, Bool, true, false, List, length, take, drop, arith, sym, ap, ◌∙◌, subst, refl}
+use Rattle.std.proofs.Common.{◌≡◌, ◌++◌, false, List, length, take, drop, arith, sym, ap, ◌∙◌, subst}
 use Rattle.p21_lanes.specs.declared.history.Message.{Message}
 use Rattle.p21_lanes.specs.History.{items_of, has_end, messages, EndIsLast}
 use Rattle.p21_lanes.specs.LaneOut.{received}
