@@ -30,8 +30,8 @@ impl<P, O, W: Work<P, Out = O>> Promise<Worked<P, O>> for Given<P, O, W> {
 
 /// A lane whose worker runs: the dealer's ends of its two rings, and what it takes to join the worker.
 ///
-/// It has to be landed: a worker whose lane is let go waits for its end for ever.
-#[derive(Drop)]
+/// It has to be landed: a worker whose lane is let go waits for its end for ever. So it is no `Drop`, and code that lets one go
+/// does not compile.
 pub(crate) struct Flight<P, O, W: Work<P, Out = O>> {
     pub(crate) pieces: LaneIn<P>,
     pub(crate) results: LaneOut<Returned<O>>,

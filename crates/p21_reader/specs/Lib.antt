@@ -12,3 +12,4 @@ pub mod ReadingBy
 pub mod Laws
 pub mod Lanes
 pub mod Stopped
+pub mod Run
