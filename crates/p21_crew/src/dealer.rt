@@ -9,11 +9,11 @@ use crate::flight::Flight;
 use crate::gathers::Gathers;
 use crate::returned::Returned;
 use crate::work::Work;
+use crossbeam_utils::Backoff;
 use p21_desk::Desk;
 use p21_lanes::{Batch, LaneIn, Taken};
 use std::alloc::AllocError;
 use std::sync::Wait;
-use std::thread;
 
 /// How many results are gathered at most before pieces are dealt again.
 const AT_ONCE: u32 = 256;
@@ -48,6 +48,7 @@ impl<P: Copy, O: Drop, W: Work<P, Out = O>, C: Cuts<Piece = P>, A: Gathers<O>> D
         ensures goes { OnOk result (Goes C.cuts A.holds self.old self.new) }
         ensures whole { IfOk result (λ tail. IsWhole self.new tail) }
     {
+        let backoff = Backoff::new();
         for _ in rt.forever() {
             let gathered = self.gather()?;
             self.cut();
@@ -55,7 +56,7 @@ impl<P: Copy, O: Drop, W: Work<P, Out = O>, C: Cuts<Piece = P>, A: Gathers<O>> D
                 return Ok(tail);
             }
             let dealt = self.deal(rt)?;
-            yield_unless(gathered || dealt);
+            rest_unless(&backoff, gathered || dealt);
         }
         unreachable!()
     }
@@ -191,18 +192,21 @@ fn offer<P: Copy, R: Wait>(rt: &R, pieces: &mut LaneIn<P>, batch: &Batch<P>)
     ensures lane { SameIn pieces.old pieces.new × (was_ended pieces.new ≡ false) }
     ensures accepted { accepted pieces.new ≡ accepted pieces.old ++ batch_items batch.now }
 {
+    let backoff = Backoff::new();
     for _ in rt.forever() {
         if pieces.offer_batch(batch).is_ok() {
             return;
         }
-        thread::yield_now();
+        backoff.snooze();
     }
     unreachable!()
 }
 
-/// Lets another thread run, where nothing was done.
-fn yield_unless(busy: bool) {
-    if !busy {
-        thread::yield_now();
+/// Lets others run where nothing was done: the longer so, the longer.
+fn rest_unless(backoff: &Backoff, busy: bool) {
+    if busy {
+        backoff.reset();
+    } else {
+        backoff.snooze();
     }
 }

@@ -9,11 +9,11 @@ use crate::gate::Gate;
 use crate::returned::Returned;
 use crate::work::Work;
 use crate::worker::{Worked, send_end, work_lane};
+use crossbeam_utils::Backoff;
 use p21_lanes::{Batch, Capacity, LaneIn, LaneOut, Receipt, Taken, lane, settle};
 use std::alloc::{AllocError, Global};
 use std::snapshot::Snapshot;
 use std::sync::Wait;
-use std::thread;
 use std::thread::{Promise, PromisedHandle, Scope, Threads};
 
 /// What a worker was given, and what it promises of it.
@@ -141,11 +141,12 @@ fn drain<T: Drop, R: Wait>(rt: &R, results: &mut LaneOut<T>) -> bool
     ensures clean { IsTrue result → taken results.new ≡ taken results.old }
 {
     let mut is_clean = true;
+    let backoff = Backoff::new();
     for _ in rt.forever() {
         match results.take() {
             Taken::Ended => return is_clean,
             Taken::Item(_) => is_clean = false,
-            Taken::Nothing => thread::yield_now(),
+            Taken::Nothing => backoff.snooze(),
         }
     }
     unreachable!()

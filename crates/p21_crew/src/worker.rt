@@ -9,10 +9,10 @@ ghost use Rattle.p21_crew.specs.Worker.{IsReturned, IsDone};
 use crate::gate::Gate;
 use crate::returned::Returned;
 use crate::work::Work;
+use crossbeam_utils::Backoff;
 use p21_lanes::{Batch, LaneIn, LaneOut};
 use std::alloc::Global;
 use std::sync::Wait;
-use std::thread;
 
 /// What a worker hands back when it has ended: its ends of the two rings of its lane.
 #[derive(Drop)]
@@ -41,6 +41,7 @@ pub(crate) fn work_lane<P: Copy, O: Drop, K: Drop, W: Work<P, Out = O, Kept = K>
     let mut batch = batch;
     let mut kept = work.begin(alloc);
     let mut has_memory = true;
+    let backoff = Backoff::new();
     for _ in rt.forever() {
         let ended = pieces.take_batch(&mut batch);
         has_memory = read_batch(
@@ -59,7 +60,9 @@ pub(crate) fn work_lane<P: Copy, O: Drop, K: Drop, W: Work<P, Out = O, Kept = K>
             return Worked { pieces, results };
         }
         if batch.is_empty() {
-            thread::yield_now();
+            backoff.snooze();
+        } else {
+            backoff.reset();
         }
     }
     unreachable!()
@@ -119,12 +122,13 @@ fn send<O: Drop, R: Wait>(rt: &R, results: &mut LaneIn<Returned<O>>, answer: Ret
     ensures accepted { accepted results.new ≡ accepted results.old ++ answer ∷ [] }
 {
     let mut answer = answer;
+    let backoff = Backoff::new();
     for _ in rt.forever() {
         match results.offer(answer) {
             Ok(()) => return,
             Err(back) => answer = back,
         }
-        thread::yield_now();
+        backoff.snooze();
     }
     unreachable!()
 }
@@ -134,11 +138,12 @@ pub(crate) fn send_end<T: Drop, R: Wait>(rt: &R, lane: &mut LaneIn<T>)
     ensures lane { SameIn lane.old lane.new × (was_ended lane.new ≡ true) }
     ensures accepted { accepted lane.new ≡ accepted lane.old }
 {
+    let backoff = Backoff::new();
     for _ in rt.forever() {
         if lane.end().is_ok() {
             return;
         }
-        thread::yield_now();
+        backoff.snooze();
     }
     unreachable!()
 }
