@@ -7,6 +7,7 @@ ghost use Rattle.p21_desk.specs.Dealt.{waiting_at};
 use crate::cuts::{Cuts, Next};
 use crate::flight::Flight;
 use crate::gathers::Gathers;
+use crate::rest::Rest;
 use crate::returned::Returned;
 use crate::work::Work;
 use crossbeam_utils::Backoff;
@@ -42,13 +43,12 @@ impl<P: Copy, O: Drop, W: Work<P, Out = O>, C: Cuts<Piece = P>, A: Gathers<O>> D
     ghost use Rattle.p21_lanes.specs.Batch.{batch_items};
     ghost use Rattle.p21_crew.specs.Underway.{Goes, HasRoom, IsWhole};
 
-    /// Deals all pieces and gathers what is returned for them; the answer is where the tail begins. An error is want of memory,
-    /// here or of a worker.
-    pub(crate) fn run<R: Wait>(&mut self, rt: &R) -> Result<u64, AllocError>
+    /// Deals all pieces and gathers what is returned for them; the answer is where the tail begins. It rests where no lane has room
+    /// and no result is there. An error is want of memory, here or of a worker.
+    pub(crate) fn run<R: Wait>(&mut self, rt: &R, rest: &Rest) -> Result<u64, AllocError>
         ensures goes { OnOk result (Goes C.cuts A.holds self.old self.new) }
         ensures whole { IfOk result (λ tail. IsWhole self.new tail) }
     {
-        let backoff = Backoff::new();
         for _ in rt.forever() {
             let gathered = self.gather()?;
             self.cut();
@@ -56,7 +56,7 @@ impl<P: Copy, O: Drop, W: Work<P, Out = O>, C: Cuts<Piece = P>, A: Gathers<O>> D
                 return Ok(tail);
             }
             let dealt = self.deal(rt)?;
-            rest_unless(&backoff, gathered || dealt);
+            rest.rest_unless(rt, gathered || dealt);
         }
         unreachable!()
     }
@@ -130,7 +130,9 @@ impl<P: Copy, O: Drop, W: Work<P, Out = O>, C: Cuts<Piece = P>, A: Gathers<O>> D
             return Ok(false);
         };
         deal_pieces(&mut self.desk, lane, self.batch.len())?;
-        offer(rt, &mut self.flights[lane as usize].pieces, &self.batch);
+        let flight = &mut self.flights[lane as usize];
+        offer(rt, &mut flight.pieces, &self.batch);
+        flight.waker.wake();
         self.batch.clear();
         Ok(true)
     }
@@ -200,13 +202,4 @@ fn offer<P: Copy, R: Wait>(rt: &R, pieces: &mut LaneIn<P>, batch: &Batch<P>)
         backoff.snooze();
     }
     unreachable!()
-}
-
-/// Lets others run where nothing was done: the longer so, the longer.
-fn rest_unless(backoff: &Backoff, busy: bool) {
-    if busy {
-        backoff.reset();
-    } else {
-        backoff.snooze();
-    }
 }

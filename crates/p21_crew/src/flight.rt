@@ -6,6 +6,7 @@ ghost use Rattle.p21_lanes.specs.LaneOut.{taken, took_end, SameOut};
 ghost use Rattle.p21_crew.specs.Worker.{IsDone};
 
 use crate::gate::Gate;
+use crate::rest::{Rest, Waker};
 use crate::returned::Returned;
 use crate::work::Work;
 use crate::worker::{Worked, send_end, work_lane};
@@ -35,6 +36,8 @@ impl<P, O, W: Work<P, Out = O>> Promise<Worked<P, O>> for Given<P, O, W> {
 pub(crate) struct Flight<P, O, W: Work<P, Out = O>> {
     pub(crate) pieces: LaneIn<P>,
     pub(crate) results: LaneOut<Returned<O>>,
+    /// Wakes the worker.
+    pub(crate) waker: Waker,
     pub(crate) worker: PromisedHandle<Worked<P, O>, Given<P, O, W>>,
     ghost is_open: { was_ended pieces ≡ false },
     ghost pieces_lane: { IsLane pieces worker.promise.pieces.value },
@@ -60,12 +63,16 @@ pub(crate) fn launch<
     number: u32,
     capacity: Capacity,
     batch: usize,
+    dealer: &Rest,
 ) -> Result<Flight<P, O, W>, AllocError>
     ensures pieces { IfOk result (λ flight. accepted flight.pieces ≡ []) }
     ensures results { IfOk result (λ flight. (taken flight.results ≡ []) × (took_end flight.results ≡ false)) }
     ensures work { IfOk result (λ flight. flight.worker.promise.work.value ≡ work.now) }
 {
     let batch = Batch::new(alloc, batch)?;
+    let rest = Rest::new(alloc)?;
+    let waker = rest.waker()?;
+    let dealer = dealer.waker()?;
     let (pieces_in, pieces_out) = lane(alloc, capacity)?;
     let (results_in, results_out) = lane(alloc, capacity)?;
     let given = Given {
@@ -79,11 +86,16 @@ pub(crate) fn launch<
             requires pieces { (taken pieces_out ≡ []) × (took_end pieces_out ≡ false) }
             requires results { (accepted results_in ≡ []) × (was_ended results_in ≡ false) }
             ensures { IsDone (W.stated work.entry.now) pieces_out results_in result.pieces result.results }
-        { work_lane(rt, alloc, work, gate, number, batch, pieces_out, results_in) },
+        {
+            work_lane(
+                rt, alloc, work, gate, number, batch, rest, dealer, pieces_out, results_in,
+            )
+        },
     )?;
     Ok(Flight {
         pieces: pieces_in,
         results: results_out,
+        waker,
         worker,
     })
 }
@@ -116,9 +128,11 @@ impl<P: Copy, O: Drop, W: Work<P, Out = O>> Flight<P, O, W> {
         let Flight {
             mut pieces,
             mut results,
+            waker,
             worker,
         } = self;
         send_end(rt, &mut pieces);
+        waker.wake();
         let is_clean = drain(rt, &mut results);
         let worked = worker.join(rt);
         let Ok(receipt) = settle(pieces, worked.pieces) else {

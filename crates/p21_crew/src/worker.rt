@@ -7,6 +7,7 @@ ghost use Rattle.p21_lanes.specs.LaneOut.{taken, took_end, SameOut};
 ghost use Rattle.p21_crew.specs.Worker.{IsReturned, IsDone};
 
 use crate::gate::Gate;
+use crate::rest::{Rest, Waker};
 use crate::returned::Returned;
 use crate::work::Work;
 use crossbeam_utils::Backoff;
@@ -21,7 +22,8 @@ pub(crate) struct Worked<P, O> {
     pub(crate) results: LaneIn<Returned<O>>,
 }
 
-/// Reads the pieces of a lane until their end, and sends back one result for each, and then the end.
+/// Reads the pieces of a lane until their end, and sends back one result for each, and then the end. It rests where the lane is empty,
+/// and wakes the dealer when it has sent results.
 pub(crate) fn work_lane<P: Copy, O: Drop, K: Drop, W: Work<P, Out = O, Kept = K>, G: Gate, R: Wait>(
     rt: &R,
     alloc: Global,
@@ -29,6 +31,8 @@ pub(crate) fn work_lane<P: Copy, O: Drop, K: Drop, W: Work<P, Out = O, Kept = K>
     gate: &G,
     lane: u32,
     batch: Batch<P>,
+    rest: Rest,
+    dealer: Waker,
     pieces: LaneOut<P>,
     results: LaneIn<Returned<O>>,
 ) -> Worked<P, O>
@@ -41,7 +45,6 @@ pub(crate) fn work_lane<P: Copy, O: Drop, K: Drop, W: Work<P, Out = O, Kept = K>
     let mut batch = batch;
     let mut kept = work.begin(alloc);
     let mut has_memory = true;
-    let backoff = Backoff::new();
     for _ in rt.forever() {
         let ended = pieces.take_batch(&mut batch);
         has_memory = read_batch(
@@ -59,11 +62,9 @@ pub(crate) fn work_lane<P: Copy, O: Drop, K: Drop, W: Work<P, Out = O, Kept = K>
             send_end(rt, &mut results);
             return Worked { pieces, results };
         }
-        if batch.is_empty() {
-            backoff.snooze();
-        } else {
-            backoff.reset();
-        }
+        let read_some = !batch.is_empty();
+        dealer.wake_if(read_some);
+        rest.rest_unless(rt, read_some);
     }
     unreachable!()
 }
