@@ -1,6 +1,7 @@
 -- Lemmas on lanes that are landed one after the other.
-use Rattle.std.proofs.Common.{◌≡◌, List, [], ◌∷◌, ◌++◌}
+use Rattle.std.proofs.Common.{◌≡◌, ℕ, List, [], ◌∷◌, ◌++◌, length, sym, ap, ◌∙◌, append-nil}
 use Rattle.std.specs.List.{AllZip}
+use Rattle.std.proofs.lemmas.List.{nil_from_length}
 use Rattle.p21_lanes.specs.declared.receipt.Receipt.{Receipt}
 use Rattle.p21_lanes.specs.LaneIn.{accepted}
 use Rattle.p21_lanes.specs.LaneOut.{taken}
@@ -11,6 +12,12 @@ use Rattle.p21_crew.specs.Landing.{AreLanded, Works}
 use Rattle.p21_crew.specs.Worker.{IsReturned}
 use Rattle.p21_crew.proofs.EachLemmas.{each_split}
 use Rattle.p21_crew.proofs.ZipLemmas.{AllZip-snoc}
+
+-- where none is left, all are landed
+pub none_left : {X : Type 0} (landed left all : List X) (count : ℕ) → count ≡ length left → count ≡ 0 → landed ++ left ≡ all → landed ≡ all
+none_left landed left all count is none parts =
+    let empty : left ≡ [] = nil_from_length left (sym is ∙ none) in
+    sym (append-nil landed) ∙ (ap (λ xs. landed ++ xs) (sym empty) ∙ parts)
 
 module _ {P O W K : Type 0} where
   pub landed_none : (stated : W → P → O → Type 0) → AreLanded {P = P} {O = O} {W = W} {K = K} stated [] [] []

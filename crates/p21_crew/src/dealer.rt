@@ -7,13 +7,14 @@ ghost use Rattle.p21_desk.specs.Dealt.{waiting_at};
 use crate::cuts::{Cuts, Next};
 use crate::flight::Flight;
 use crate::gathers::Gathers;
+use crate::rest::Rest;
 use crate::returned::Returned;
 use crate::work::Work;
+use crossbeam_utils::Backoff;
 use p21_desk::Desk;
 use p21_lanes::{Batch, LaneIn, Taken};
 use std::alloc::AllocError;
 use std::sync::Wait;
-use std::thread;
 
 /// How many results are gathered at most before pieces are dealt again.
 const AT_ONCE: u32 = 256;
@@ -42,9 +43,9 @@ impl<P: Copy, O: Drop, W: Work<P, Out = O>, C: Cuts<Piece = P>, A: Gathers<O>> D
     ghost use Rattle.p21_lanes.specs.Batch.{batch_items};
     ghost use Rattle.p21_crew.specs.Underway.{Goes, HasRoom, IsWhole};
 
-    /// Deals all pieces and gathers what is returned for them; the answer is where the tail begins. An error is want of memory,
-    /// here or of a worker.
-    pub(crate) fn run<R: Wait>(&mut self, rt: &R) -> Result<u64, AllocError>
+    /// Deals all pieces and gathers what is returned for them; the answer is where the tail begins. It rests where no lane has room
+    /// and no result is there. An error is want of memory, here or of a worker.
+    pub(crate) fn run<R: Wait>(&mut self, rt: &R, rest: &Rest) -> Result<u64, AllocError>
         ensures goes { OnOk result (Goes C.cuts A.holds self.old self.new) }
         ensures whole { IfOk result (λ tail. IsWhole self.new tail) }
     {
@@ -55,7 +56,7 @@ impl<P: Copy, O: Drop, W: Work<P, Out = O>, C: Cuts<Piece = P>, A: Gathers<O>> D
                 return Ok(tail);
             }
             let dealt = self.deal(rt)?;
-            yield_unless(gathered || dealt);
+            rest.rest_unless(rt, gathered || dealt);
         }
         unreachable!()
     }
@@ -129,7 +130,9 @@ impl<P: Copy, O: Drop, W: Work<P, Out = O>, C: Cuts<Piece = P>, A: Gathers<O>> D
             return Ok(false);
         };
         deal_pieces(&mut self.desk, lane, self.batch.len())?;
-        offer(rt, &mut self.flights[lane as usize].pieces, &self.batch);
+        let flight = &mut self.flights[lane as usize];
+        offer(rt, &mut flight.pieces, &self.batch);
+        flight.waker.wake();
         self.batch.clear();
         Ok(true)
     }
@@ -191,18 +194,12 @@ fn offer<P: Copy, R: Wait>(rt: &R, pieces: &mut LaneIn<P>, batch: &Batch<P>)
     ensures lane { SameIn pieces.old pieces.new × (was_ended pieces.new ≡ false) }
     ensures accepted { accepted pieces.new ≡ accepted pieces.old ++ batch_items batch.now }
 {
+    let backoff = Backoff::new();
     for _ in rt.forever() {
         if pieces.offer_batch(batch).is_ok() {
             return;
         }
-        thread::yield_now();
+        backoff.snooze();
     }
     unreachable!()
-}
-
-/// Lets another thread run, where nothing was done.
-fn yield_unless(busy: bool) {
-    if !busy {
-        thread::yield_now();
-    }
 }

@@ -6,14 +6,15 @@ ghost use Rattle.p21_lanes.specs.LaneOut.{taken, took_end, SameOut};
 ghost use Rattle.p21_crew.specs.Worker.{IsDone};
 
 use crate::gate::Gate;
+use crate::rest::{Rest, Waker};
 use crate::returned::Returned;
 use crate::work::Work;
 use crate::worker::{Worked, send_end, work_lane};
+use crossbeam_utils::Backoff;
 use p21_lanes::{Batch, Capacity, LaneIn, LaneOut, Receipt, Taken, lane, settle};
 use std::alloc::{AllocError, Global};
 use std::snapshot::Snapshot;
 use std::sync::Wait;
-use std::thread;
 use std::thread::{Promise, PromisedHandle, Scope, Threads};
 
 /// What a worker was given, and what it promises of it.
@@ -30,11 +31,13 @@ impl<P, O, W: Work<P, Out = O>> Promise<Worked<P, O>> for Given<P, O, W> {
 
 /// A lane whose worker runs: the dealer's ends of its two rings, and what it takes to join the worker.
 ///
-/// It has to be landed: a worker whose lane is let go waits for its end for ever.
-#[derive(Drop)]
+/// It has to be landed: a worker whose lane is let go waits for its end for ever. So it is no `Drop`, and code that lets one go
+/// does not compile.
 pub(crate) struct Flight<P, O, W: Work<P, Out = O>> {
     pub(crate) pieces: LaneIn<P>,
     pub(crate) results: LaneOut<Returned<O>>,
+    /// Wakes the worker.
+    pub(crate) waker: Waker,
     pub(crate) worker: PromisedHandle<Worked<P, O>, Given<P, O, W>>,
     ghost is_open: { was_ended pieces ≡ false },
     ghost pieces_lane: { IsLane pieces worker.promise.pieces.value },
@@ -60,12 +63,16 @@ pub(crate) fn launch<
     number: u32,
     capacity: Capacity,
     batch: usize,
+    dealer: &Rest,
 ) -> Result<Flight<P, O, W>, AllocError>
     ensures pieces { IfOk result (λ flight. accepted flight.pieces ≡ []) }
     ensures results { IfOk result (λ flight. (taken flight.results ≡ []) × (took_end flight.results ≡ false)) }
     ensures work { IfOk result (λ flight. flight.worker.promise.work.value ≡ work.now) }
 {
     let batch = Batch::new(alloc, batch)?;
+    let rest = Rest::new(alloc)?;
+    let waker = rest.waker()?;
+    let dealer = dealer.waker()?;
     let (pieces_in, pieces_out) = lane(alloc, capacity)?;
     let (results_in, results_out) = lane(alloc, capacity)?;
     let given = Given {
@@ -79,11 +86,16 @@ pub(crate) fn launch<
             requires pieces { (taken pieces_out ≡ []) × (took_end pieces_out ≡ false) }
             requires results { (accepted results_in ≡ []) × (was_ended results_in ≡ false) }
             ensures { IsDone (W.stated work.entry.now) pieces_out results_in result.pieces result.results }
-        { work_lane(rt, alloc, work, gate, number, batch, pieces_out, results_in) },
+        {
+            work_lane(
+                rt, alloc, work, gate, number, batch, rest, dealer, pieces_out, results_in,
+            )
+        },
     )?;
     Ok(Flight {
         pieces: pieces_in,
         results: results_out,
+        waker,
         worker,
     })
 }
@@ -116,9 +128,11 @@ impl<P: Copy, O: Drop, W: Work<P, Out = O>> Flight<P, O, W> {
         let Flight {
             mut pieces,
             mut results,
+            waker,
             worker,
         } = self;
         send_end(rt, &mut pieces);
+        waker.wake();
         let is_clean = drain(rt, &mut results);
         let worked = worker.join(rt);
         let Ok(receipt) = settle(pieces, worked.pieces) else {
@@ -141,11 +155,12 @@ fn drain<T: Drop, R: Wait>(rt: &R, results: &mut LaneOut<T>) -> bool
     ensures clean { IsTrue result → taken results.new ≡ taken results.old }
 {
     let mut is_clean = true;
+    let backoff = Backoff::new();
     for _ in rt.forever() {
         match results.take() {
             Taken::Ended => return is_clean,
             Taken::Item(_) => is_clean = false,
-            Taken::Nothing => thread::yield_now(),
+            Taken::Nothing => backoff.snooze(),
         }
     }
     unreachable!()

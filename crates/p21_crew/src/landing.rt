@@ -62,9 +62,11 @@ pub(crate) fn land_all<P: Copy, O: Drop, W: Work<P, Out = O>, R: Threads + Wait>
 {
     let mut all = Receipts::new(alloc);
     let mut is_whole = true;
-    for flight in flights {
+    let mut left = flights.into_iter();
+    while let Some(flight) = left.next() {
         let landed = flight.land(rt);
         is_whole = all.keep(landed, is_whole);
     }
+    left.destroy_empty();
     if is_whole { Ok(all) } else { Err(AllocError) }
 }

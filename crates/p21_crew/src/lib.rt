@@ -10,6 +10,7 @@ mod flight;
 mod gate;
 mod gathers;
 mod landing;
+mod rest;
 mod returned;
 mod run;
 mod work;

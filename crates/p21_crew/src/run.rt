@@ -10,6 +10,7 @@ use crate::flight::{Flight, launch};
 use crate::gate::Gate;
 use crate::gathers::Gathers;
 use crate::landing::land_all;
+use crate::rest::Rest;
 use crate::returned::Returned;
 use crate::work::Work;
 use p21_desk::{Desk, LaneCount};
@@ -110,7 +111,8 @@ fn run_in<
     let size = batch_size(capacity);
     let batch = Batch::new(alloc, size)?;
     let desk = Desk::new(alloc, lanes, capacity)?;
-    let flights = launch_all(scope, rt, alloc, work, gate, lanes, capacity, size)?;
+    let rest = Rest::new(alloc)?;
+    let flights = launch_all(scope, rt, alloc, work, gate, lanes, capacity, size, &rest)?;
     let mut dealer = Dealer {
         flights,
         desk,
@@ -119,7 +121,7 @@ fn run_in<
         tail: None,
         gatherer,
     };
-    let dealt = dealer.run(rt);
+    let dealt = dealer.run(rt, &rest);
     let Dealer {
         flights,
         desk,
@@ -164,13 +166,16 @@ fn launch_all<
     lanes: LaneCount,
     capacity: Capacity,
     batch: usize,
+    dealer: &Rest,
 ) -> Result<Vec<Flight<P, O, W>>, AllocError>
     ensures count { IfOk result (λ flights. vec_len flights ≡ lanes) }
     ensures fresh { IfOk result (λ flights. EachAt (λ lane flight. IsFresh work.now flight) 0 flights.items) }
 {
     let mut flights = Vec::new(alloc);
     for number in 0..lanes.get() {
-        let started = launch(scope, rt, alloc, work, gate, number, capacity, batch);
+        let started = launch(
+            scope, rt, alloc, work, gate, number, capacity, batch, dealer,
+        );
         if let Err(refused) = join_crew(rt, &mut flights, started) {
             let _ = land_all(rt, alloc, flights);
             return Err(refused);

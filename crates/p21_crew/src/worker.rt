@@ -7,12 +7,13 @@ ghost use Rattle.p21_lanes.specs.LaneOut.{taken, took_end, SameOut};
 ghost use Rattle.p21_crew.specs.Worker.{IsReturned, IsDone};
 
 use crate::gate::Gate;
+use crate::rest::{Rest, Waker};
 use crate::returned::Returned;
 use crate::work::Work;
+use crossbeam_utils::Backoff;
 use p21_lanes::{Batch, LaneIn, LaneOut};
 use std::alloc::Global;
 use std::sync::Wait;
-use std::thread;
 
 /// What a worker hands back when it has ended: its ends of the two rings of its lane.
 #[derive(Drop)]
@@ -21,7 +22,8 @@ pub(crate) struct Worked<P, O> {
     pub(crate) results: LaneIn<Returned<O>>,
 }
 
-/// Reads the pieces of a lane until their end, and sends back one result for each, and then the end.
+/// Reads the pieces of a lane until their end, and sends back one result for each, and then the end. It rests where the lane is empty,
+/// and wakes the dealer when it has sent results.
 pub(crate) fn work_lane<P: Copy, O: Drop, K: Drop, W: Work<P, Out = O, Kept = K>, G: Gate, R: Wait>(
     rt: &R,
     alloc: Global,
@@ -29,6 +31,8 @@ pub(crate) fn work_lane<P: Copy, O: Drop, K: Drop, W: Work<P, Out = O, Kept = K>
     gate: &G,
     lane: u32,
     batch: Batch<P>,
+    rest: Rest,
+    dealer: Waker,
     pieces: LaneOut<P>,
     results: LaneIn<Returned<O>>,
 ) -> Worked<P, O>
@@ -58,9 +62,9 @@ pub(crate) fn work_lane<P: Copy, O: Drop, K: Drop, W: Work<P, Out = O, Kept = K>
             send_end(rt, &mut results);
             return Worked { pieces, results };
         }
-        if batch.is_empty() {
-            thread::yield_now();
-        }
+        let read_some = !batch.is_empty();
+        dealer.wake_if(read_some);
+        rest.rest_unless(rt, read_some);
     }
     unreachable!()
 }
@@ -119,12 +123,13 @@ fn send<O: Drop, R: Wait>(rt: &R, results: &mut LaneIn<Returned<O>>, answer: Ret
     ensures accepted { accepted results.new ≡ accepted results.old ++ answer ∷ [] }
 {
     let mut answer = answer;
+    let backoff = Backoff::new();
     for _ in rt.forever() {
         match results.offer(answer) {
             Ok(()) => return,
             Err(back) => answer = back,
         }
-        thread::yield_now();
+        backoff.snooze();
     }
     unreachable!()
 }
@@ -134,11 +139,12 @@ pub(crate) fn send_end<T: Drop, R: Wait>(rt: &R, lane: &mut LaneIn<T>)
     ensures lane { SameIn lane.old lane.new × (was_ended lane.new ≡ true) }
     ensures accepted { accepted lane.new ≡ accepted lane.old }
 {
+    let backoff = Backoff::new();
     for _ in rt.forever() {
         if lane.end().is_ok() {
             return;
         }
-        thread::yield_now();
+        backoff.snooze();
     }
     unreachable!()
 }

@@ -4,6 +4,7 @@ use Rattle.std.specs.List.{AllZip}
 use Rattle.std.proofs.lemmas.List.Elements.{All-nil, All-cons}
 use Rattle.p21_express.specs.Schema.{Schema}
 use Rattle.p21_schema.specs.declared.ids.EntityId.{EntityId}
+use Rattle.p21_tree.specs.declared.faults.Fault.{Fault}
 use Rattle.p21_tree.specs.declared.faults.FaultKind.{FaultKind}
 use Rattle.p21_tree.specs.declared.pieces.Piece.{Piece}
 use Rattle.p21_tree.specs.Sentence.{Instance}
@@ -21,11 +22,12 @@ use Rattle.p21_reader.specs.declared.reading.ReadError.{ReadError}
 use Rattle.p21_reader.specs.declared.stop.Stop.{Stop}
 use Rattle.p21_reader.specs.declared.stop.Stop.TheVariants as stop
 use Rattle.p21_reader.specs.Answer.{plain_answer}
-use Rattle.p21_reader.specs.Lanes.{IsStated, FindsEachFault, IsReadBy, opening, by_values, PiecesAreDealt, no_pieces, all_pieces}
-use Rattle.p21_reader.specs.Laws.{ValuesGiveReading}
-use Rattle.p21_reader.specs.LocalFault.{IsOpeningFault, in_opening as fault_before}
-use Rattle.p21_reader.specs.PiecesOf.{behind_preface}
-use Rattle.p21_reader.specs.Reading.{IsReading, local}
+use Rattle.p21_reader.specs.Lanes.{IsStated, FindsEachFault, IsReadBy, PiecesAreDealt}
+use Rattle.p21_reader.specs.Lanes as dealing
+use Rattle.p21_reader.specs.Laws.{LocalReadingIsReading}
+use Rattle.p21_reader.specs.LocalFault.{IsOpeningFault}
+use Rattle.p21_reader.specs.Reading.{IsReading}
+use Rattle.p21_reader.specs.ReadingBy.{IsReadingBy, before_instances}
 use Rattle.p21_reader.specs.Steps.{OnFault}
 use Rattle.p21_reader.specs.Stopped.{IsStopped}
 use Rattle.p21_reader.specs.Values.{Whole, whole, IsJudged, instances_in, CarryNoFault, HaveInstances}
@@ -105,32 +107,21 @@ values_only (j ∷ js) = ap (λ vs. value_of j.judged ∷ vs) (values_only js)
 -- a reading that stopped before the instances is one by lanes
 pub stopped_before : (judges : Piece → Judged → Type 0) (s : Schema) (file : List ℕ) (lanes : ℕ) (e : Stop) (r : Result Reading ReadError) → OnFault e (IsOpeningFault s file) → IfOk r (IsStopped e) → IfOk r (IsReadBy judges s file lanes)
 stopped_before judges s file lanes e (Err x) fault stopped = tt
-stopped_before judges s file lanes (stop.Fault f) (Ok r) fault stopped = opening fault stopped.0 stopped.2 stopped.1
+stopped_before judges s file lanes (stop.Fault f) (Ok r) fault stopped =
+    let Answered : Result (List Instance) Fault → Type 0 = λ answer. IsReadingBy s file judges [] answer in
+    record { pieces = []; answer = subst Answered (sym (ap plain_answer stopped.0)) (before_instances fault); dealt = dealing.none fault stopped.2 stopped.1 }
 stopped_before judges s file lanes stop.Memory (Ok r) fault stopped = absurd stopped
 
-judged_values : (s : Schema) (ps : List Piece) (vs : List Judged) → AllZip (λ p v. IsJudged s p (value_of v)) ps vs → AllZip (IsJudged s) ps (map value_of vs)
-judged_values s [] [] zip = tt
-judged_values s [] (v ∷ vs) zip = absurd zip
-judged_values s (p ∷ ps) [] zip = absurd zip
-judged_values s (p ∷ ps) (v ∷ vs) zip = (zip.0, judged_values s ps vs zip.1)
-
-reading_of : (s : Schema) (file : List ℕ) (lanes : ℕ) (r : Reading) → ValuesGiveReading s file → IsReadBy (λ p v. IsJudged s p (value_of v)) s file lanes r → IsReading s file (plain_answer r.answer)
-reading_of s file lanes r law (opening {f = f} fault answer dealt receipts) =
-    let is : plain_answer r.answer ≡ Err f = ap plain_answer answer in
-    rw is (local (fault_before fault))
-reading_of s file lanes r law (by_values {o = o} {pieces = pieces} {end = end} values begins header cut dealt zip answer) =
-    law o pieces end (map value_of values) (plain_answer r.answer) begins header cut (judged_values s pieces values zip) answer
+-- by judges that judge against the schema
+abbrev IsReadLocally : Schema → List ℕ → ℕ → Reading → Type 0
+IsReadLocally s file lanes r = IsReadBy (λ p v. IsJudged s p (value_of v)) s file lanes r
 
 -- a reading by lanes that judge against the schema is the reading of the file
-pub reading_by : (s : Schema) (file : List ℕ) (lanes : ℕ) (r : Result Reading ReadError) → ValuesGiveReading s file → IfOk r (IsReadBy (λ p v. IsJudged s p (value_of v)) s file lanes) → IfOk r (λ reading. IsReading s file (plain_answer reading.answer))
+pub reading_by : (s : Schema) (file : List ℕ) (lanes : ℕ) (r : Result Reading ReadError) → LocalReadingIsReading s file → IfOk r (IsReadLocally s file lanes) → IfOk r (λ reading. IsReading s file (plain_answer reading.answer))
 reading_by s file lanes (Err e) law by = tt
-reading_by s file lanes (Ok r) law by = reading_of s file lanes r law by
-
-pieces_of : (judges : Piece → Judged → Type 0) (s : Schema) (file : List ℕ) (lanes : ℕ) (r : Reading) → IsReadBy judges s file lanes r → PiecesAreDealt s file lanes r
-pieces_of judges s file lanes r (opening fault answer dealt receipts) = no_pieces fault dealt receipts
-pieces_of judges s file lanes r (by_values values begins header cut dealt zip answer) = all_pieces (behind_preface begins header cut) dealt
+reading_by s file lanes (Ok r) law by = (law by.pieces (plain_answer r.answer) by.answer).0
 
 -- the pieces of the file were dealt
-pub pieces_by : (judges : Piece → Judged → Type 0) (s : Schema) (file : List ℕ) (lanes : ℕ) (r : Result Reading ReadError) → IfOk r (IsReadBy judges s file lanes) → IfOk r (PiecesAreDealt s file lanes)
-pieces_by judges s file lanes (Err e) by = tt
-pieces_by judges s file lanes (Ok r) by = pieces_of judges s file lanes r by
+pub pieces_by : (s : Schema) (file : List ℕ) (lanes : ℕ) (r : Result Reading ReadError) → LocalReadingIsReading s file → IfOk r (IsReadLocally s file lanes) → IfOk r (PiecesAreDealt s file lanes)
+pieces_by s file lanes (Err e) law by = tt
+pieces_by s file lanes (Ok r) law by = record { pieces = by.pieces; of_file = (law by.pieces (plain_answer r.answer) by.answer).1; dealt = by.dealt }

@@ -1,5 +1,5 @@
 -- What a reading by lanes is.
-use Rattle.std.specs.Prelude.{◌≡◌, ℕ, List, [], length, map, Err, None}
+use Rattle.std.specs.Prelude.{◌≡◌, ℕ, List, [], length, map, None}
 use Rattle.std.specs.List.{AllZip}
 use Rattle.p21_express.specs.Schema.{Schema}
 use Rattle.p21_tree.specs.declared.faults.Fault.{Fault}
@@ -8,7 +8,6 @@ use Rattle.p21_tree.specs.declared.pieces.Piece.{Piece}
 use Rattle.p21_tree.specs.Sentence.{Opening}
 use Rattle.p21_tree.specs.Texts.{BeginsPreface}
 use Rattle.p21_tree.specs.Views.{plain_instance}
-use Rattle.p21_cut.specs.Pieces.{PiecesAre}
 use Rattle.p21_cut.specs.Cutter.{plain_piece}
 use Rattle.p21_check.specs.Header.{IsHeaderFault}
 use Rattle.p21_check.specs.LocalFault.{IsLocalFault}
@@ -23,10 +22,10 @@ use Rattle.p21_reader.specs.declared.reading.Reading.{Reading}
 use Rattle.p21_reader.specs.Answer.{plain_answer}
 use Rattle.p21_reader.specs.declared.gathering.Gathering.{Gathering}
 use Rattle.p21_reader.specs.Gathering.{IsGathered}
-use Rattle.p21_reader.specs.Judged.{HasOwnEntity, value_of}
+use Rattle.p21_reader.specs.Judged.{HasOwnEntity}
 use Rattle.p21_reader.specs.LocalFault.{IsOpeningFault}
 use Rattle.p21_reader.specs.PiecesOf.{ArePiecesOf}
-use Rattle.p21_reader.specs.Values.{IsAnswerTo}
+use Rattle.p21_reader.specs.ReadingBy.{IsReadingBy}
 
 -- what a worker may say of a piece: what its judge may, and beside it the instance's own entity
 abbrev pub IsStated : (Piece → Judged → Type 0) → Schema → Piece → Judgement → Type 0
@@ -46,15 +45,21 @@ pub record AreDealt (lanes : ℕ) (pieces : List Piece) (dealt : List ℕ) (rece
   pub one_each : length receipts ≡ lanes
   pub shares : EachAt (λ lane receipt. passed receipt ≡ share dealt lane pieces) 0 receipts
 
--- The reading of a file by lanes whose workers judge its pieces: a fault before the instances stands alone, and no piece is dealt;
--- else all pieces behind the preface are dealt and judged, one by one, and the answer is that to their values.
-pub data IsReadBy (judges : Piece → Judged → Type 0) (s : Schema) (file : List ℕ) (lanes : ℕ) (r : Reading) : Type 0 where
-  opening : {f : Fault} → IsOpeningFault s file f → r.answer ≡ Err f → r.dealt.items ≡ [] → r.receipts.items ≡ [] → IsReadBy judges s file lanes r
-  by_values : {o : Opening} {pieces : List Piece} {end : ℕ} (values : List Judged) → BeginsPreface file o → IsHeaderFault s o None → PiecesAre file o.data_at 0 (map plain_piece pieces) end
-      → AreDealt lanes pieces r.dealt.items r.receipts.items → AllZip judges pieces values → IsAnswerTo s file end (map value_of values) (plain_answer r.answer) → IsReadBy judges s file lanes r
+-- How these pieces of a file were dealt in its reading: where a fault stands before the instances there are none, and no receipts;
+-- else they were dealt to the lanes.
+pub data AreDealtIn (s : Schema) (file : List ℕ) (lanes : ℕ) (r : Reading) : List Piece → Type 0 where
+  none : {f : Fault} → IsOpeningFault s file f → r.dealt.items ≡ [] → r.receipts.items ≡ [] → AreDealtIn s file lanes r []
+  all : {o : Opening} {pieces : List Piece} → BeginsPreface file o → IsHeaderFault s o None → AreDealt lanes pieces r.dealt.items r.receipts.items → AreDealtIn s file lanes r pieces
 
--- The pieces of the file against the schema were dealt to the lanes; where a fault stands before the instances there are none, and no
--- receipts.
-pub data PiecesAreDealt (s : Schema) (file : List ℕ) (lanes : ℕ) (r : Reading) : Type 0 where
-  no_pieces : {f : Fault} → IsOpeningFault s file f → r.dealt.items ≡ [] → r.receipts.items ≡ [] → PiecesAreDealt s file lanes r
-  all_pieces : {pieces : List Piece} → ArePiecesOf s file (map plain_piece pieces) → AreDealt lanes pieces r.dealt.items r.receipts.items → PiecesAreDealt s file lanes r
+-- The reading of a file by lanes whose workers judge its pieces: its answer is what the file gives by what the judge may say of them,
+-- and they were dealt.
+pub record IsReadBy (judges : Piece → Judged → Type 0) (s : Schema) (file : List ℕ) (lanes : ℕ) (r : Reading) : Type 0 where
+  pub pieces : List Piece
+  pub answer : IsReadingBy s file judges pieces (plain_answer r.answer)
+  pub dealt : AreDealtIn s file lanes r pieces
+
+-- The pieces of the file against the schema were dealt.
+pub record PiecesAreDealt (s : Schema) (file : List ℕ) (lanes : ℕ) (r : Reading) : Type 0 where
+  pub pieces : List Piece
+  pub of_file : ArePiecesOf s file (map plain_piece pieces)
+  pub dealt : AreDealtIn s file lanes r pieces

@@ -47,6 +47,6 @@ impl<'a> Reading<'a> {
 /// Why a reading gave no answer.
 #[derive(Clone, Copy, Debug, PartialEq, Eq)]
 pub enum ReadError {
-    /// There was no memory left.
+    /// Memory was refused, or a thread for a lane.
     Memory,
 }

@@ -8,7 +8,7 @@ ghost use Rattle.p21_reader_tests.specs.Judges.{MissesNoFault};
 use p21_crew::Gate;
 use p21_crew_tests::Meeting;
 use p21_reader::{Judge, Judged, LocalReader};
-use p21_tree::{FaultKind, InstanceReader, Piece};
+use p21_tree::{Fault, FaultKind, InstanceReader, Piece};
 use std::alloc::AllocError;
 use std::time::Clock;
 
@@ -52,5 +52,29 @@ impl<R: Clock> Judge for MeetingReader<'_, '_, R> {
     ) -> Result<Judged<'a>, AllocError> {
         self.meeting.enter(0, piece.number);
         self.local.judge(reader, piece)
+    }
+}
+
+/// Tells of each piece a fault at its number, once all pieces are being judged.
+#[derive(Clone, Copy)]
+pub(crate) struct MeetingNumbers<'m, R> {
+    pub(crate) meeting: &'m Meeting<'m, R>,
+}
+
+impl<R: Clock> Judge for MeetingNumbers<'_, R> {
+    ghost use Rattle.std.specs.Prelude.{⊤};
+
+    ghost judges = { λ judge piece judged. ⊤ };
+
+    fn judge<'a>(
+        &self,
+        _reader: &mut InstanceReader<'a>,
+        piece: Piece<'a>,
+    ) -> Result<Judged<'a>, AllocError> {
+        self.meeting.enter(0, piece.number);
+        Ok(Judged::Grammar(Fault {
+            kind: FaultKind::BadToken,
+            at: piece.number,
+        }))
     }
 }

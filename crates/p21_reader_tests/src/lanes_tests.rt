@@ -28,7 +28,7 @@ struct Numbers {
 }
 
 /// How many pieces were dealt to a lane.
-fn share(dealt: &[u32], lane: usize) -> u64 {
+pub(crate) fn share(dealt: &[u32], lane: usize) -> u64 {
     dealt.iter().filter(|of| **of as usize == lane).count() as u64
 }
 

@@ -12,4 +12,6 @@ mod lanes_tests;
 #[cfg(test)]
 mod reference_tests;
 #[cfg(test)]
+mod run_tests;
+#[cfg(test)]
 mod tests;

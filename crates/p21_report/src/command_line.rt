@@ -20,8 +20,8 @@ use std::thread::Threads;
 /// `words` are the words of the command line, the program's own name first; FILE `-` is `input`, and `rt` opens the others,
 /// FILE only where the schema was read. The answer is the status to end with: 0 where the file was read, 1 where it has a
 /// fault, 2 where the words were refused (clap's text goes to `errors`), 3 where the schema was refused, 4 where a path cannot
-/// be opened, a reader or the writer failed, or a bound on bytes or calls was passed, 5 where there was no memory left. The
-/// help goes to `output`, with status 0. A failed write to `errors` changes no status.
+/// be opened, a reader or the writer failed, or a bound on bytes or calls was passed, 5 where memory was refused, or a thread for
+/// a lane. The help goes to `output`, with status 0. A failed write to `errors` changes no status.
 pub fn program<R, I, O, E>(
     rt: &R,
     alloc: Global,

@@ -15,7 +15,7 @@ pub(crate) enum ProgramError {
     /// A file, a reader or a writer failed, or a bound was passed.
     #[error("p21check: input or output failed")]
     Device,
-    /// There was no memory left.
+    /// Memory was refused, or a thread for a lane.
     #[error("p21check: out of memory")]
     Memory(#[from(alloc)] AllocError),
 }

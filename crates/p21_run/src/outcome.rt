@@ -11,6 +11,6 @@ pub enum Outcome {
     SchemaRefused,
     /// A reader or the writer failed, or a bound on bytes or calls was passed. A front of the report may be written.
     Device,
-    /// There was no memory left. Nothing is written.
+    /// Memory was refused, or a thread for a lane. Nothing is written.
     Memory,
 }

@@ -2,7 +2,8 @@ use Rattle.std.proofs.Common.{ℕ, List, map, subst}
 use Rattle.p21_cut.specs.Pieces.{PiecesAre}
 use Rattle.p21_cut.specs.Cutter.{file_of, place_of, plain_piece}
 use Rattle.p21_tree.specs.declared.pieces.Piece.{Piece}
-use Rattle.p21_reader.specs.Lanes.{by_values}
+use Rattle.p21_reader.specs.Lanes as dealing
+use Rattle.p21_reader.specs.ReadingBy.{by_pieces}
 use Rattle.p21_reader.proofs.LaneLemmas.{judged_only, values_only, stopped_before}
 use Rattle.p21_reader.proofs.lanes.read_lanes_by.Goals as goal
 
@@ -22,7 +23,9 @@ returns g c =
     let Placed : ℕ → Type 0 = λ at. PiecesAre (file_of cutter) at 0 (map plain_piece pieces) tail in
     let OfFile : List ℕ → Type 0 = λ f. PiecesAre f c.in-Ok.preface.data_at 0 (map plain_piece pieces) tail in
     let cut = subst OfFile c.new.ensures.file (subst Placed c.new.ensures.place (subst Numbered c.new.ensures.number all.2.0)) in
-    by_values (map (λ j. j.judged) all.1) c.in-Ok.ensures.begins c.in-Ok.ensures.header cut
-    (record { dealing = run.dealing; one_each = run.receipts_each; shares = run.shares })
-    (judged_only judges s pieces all.1 run.values)
-    (rw (values_only all.1) (c.conclude-answer.ensures pieces all.1 all.4 run.values))
+    let said = judged_only judges s pieces all.1 run.values in
+    record {
+      pieces = pieces;
+      answer = by_pieces (map (λ j. j.judged) all.1) c.in-Ok.ensures.begins c.in-Ok.ensures.header cut said (rw (values_only all.1) (c.conclude-answer.ensures pieces all.1 all.4 run.values));
+      dealt = dealing.all c.in-Ok.ensures.begins c.in-Ok.ensures.header (record { dealing = run.dealing; one_each = run.receipts_each; shares = run.shares });
+    }

@@ -1,0 +1,61 @@
+//! How the threads of a crew wait for each other.
+
+use crossbeam_utils::Backoff;
+use crossbeam_utils::sync::{Parker, Unparker};
+use std::alloc::{AllocError, Global};
+use std::sync::Wait;
+
+/// Where a thread waits that has nothing to do: it pauses, then yields, and then sleeps until it is woken.
+#[derive(Drop)]
+pub(crate) struct Rest {
+    backoff: Backoff,
+    parker: Parker,
+}
+
+/// Wakes the thread that rests somewhere. One that does not sleep yet will not fall asleep before it has looked again.
+#[derive(Drop)]
+pub(crate) struct Waker {
+    unparker: Unparker,
+}
+
+impl Rest {
+    /// A place to rest at. An error means that memory was refused.
+    pub(crate) fn new(alloc: Global) -> Result<Rest, AllocError> {
+        Ok(Rest {
+            backoff: Backoff::new(),
+            parker: Parker::new(alloc)?,
+        })
+    }
+
+    /// What wakes whoever rests here.
+    pub(crate) fn waker(&self) -> Result<Waker, AllocError> {
+        Ok(Waker {
+            unparker: self.parker.unparker().clone()?,
+        })
+    }
+
+    /// Rests where nothing was done: the longer so, the longer.
+    pub(crate) fn rest_unless<R: Wait>(&self, rt: &R, busy: bool) {
+        if busy {
+            self.backoff.reset();
+        } else if self.backoff.is_completed() {
+            self.parker.park(rt);
+        } else {
+            self.backoff.snooze();
+        }
+    }
+}
+
+impl Waker {
+    /// Wakes the thread.
+    pub(crate) fn wake(&self) {
+        self.unparker.unpark();
+    }
+
+    /// Wakes the thread where there is something for it.
+    pub(crate) fn wake_if(&self, something: bool) {
+        if something {
+            self.wake();
+        }
+    }
+}
