@@ -126,11 +126,11 @@ pub reading_by : (s : Schema) (file : List ℕ) (lanes : ℕ) (r : Result Readin
 reading_by s file lanes (Err e) law by = tt
 reading_by s file lanes (Ok r) law by = reading_of s file lanes r law by
 
-pieces_of : (judges : Piece → Judged → Type 0) (s : Schema) (file : List ℕ) (lanes : ℕ) (r : Reading) → IsReadBy judges s file lanes r → PiecesAreDealt s file lanes r
-pieces_of judges s file lanes r (opening fault answer dealt receipts) = no_pieces fault dealt receipts
+pieces_of : (judges : Piece → Judged → Type 0) (s : Schema) (file : List ℕ) (lanes : ℕ) (r : Reading) → IsReadBy judges s file lanes r → PiecesAreDealt s file lanes r.dealt.items r.receipts.items
+pieces_of judges s file lanes r (opening fault answer dealt receipts) = rw (dealt, receipts) (no_pieces fault)
 pieces_of judges s file lanes r (by_values values begins header cut dealt zip answer) = all_pieces (behind_preface begins header cut) dealt
 
 -- the pieces of the file were dealt
-pub pieces_by : (judges : Piece → Judged → Type 0) (s : Schema) (file : List ℕ) (lanes : ℕ) (r : Result Reading ReadError) → IfOk r (IsReadBy judges s file lanes) → IfOk r (PiecesAreDealt s file lanes)
+pub pieces_by : (judges : Piece → Judged → Type 0) (s : Schema) (file : List ℕ) (lanes : ℕ) (r : Result Reading ReadError) → IfOk r (IsReadBy judges s file lanes) → IfOk r (λ reading. PiecesAreDealt s file lanes reading.dealt.items reading.receipts.items)
 pieces_by judges s file lanes (Err e) by = tt
 pieces_by judges s file lanes (Ok r) by = pieces_of judges s file lanes r by

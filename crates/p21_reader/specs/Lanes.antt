@@ -55,6 +55,6 @@ pub data IsReadBy (judges : Piece → Judged → Type 0) (s : Schema) (file : Li
 
 -- The pieces of the file against the schema were dealt to the lanes; where a fault stands before the instances there are none, and no
 -- receipts.
-pub data PiecesAreDealt (s : Schema) (file : List ℕ) (lanes : ℕ) (r : Reading) : Type 0 where
-  no_pieces : {f : Fault} → IsOpeningFault s file f → r.dealt.items ≡ [] → r.receipts.items ≡ [] → PiecesAreDealt s file lanes r
-  all_pieces : {pieces : List Piece} → ArePiecesOf s file (map plain_piece pieces) → AreDealt lanes pieces r.dealt.items r.receipts.items → PiecesAreDealt s file lanes r
+pub data PiecesAreDealt (s : Schema) (file : List ℕ) (lanes : ℕ) : List ℕ → List (Receipt Piece) → Type 0 where
+  no_pieces : {f : Fault} → IsOpeningFault s file f → PiecesAreDealt s file lanes [] []
+  all_pieces : {pieces : List Piece} {dealt : List ℕ} {receipts : List (Receipt Piece)} → ArePiecesOf s file (map plain_piece pieces) → AreDealt lanes pieces dealt receipts → PiecesAreDealt s file lanes dealt receipts

@@ -12,3 +12,9 @@ pub mod ReadingBy
 pub mod Laws
 pub mod Lanes
 pub mod Stopped
+pub mod Names
+pub mod AllFaults
+pub mod AllByValues
+pub mod FaultGathering
+pub mod AllAnswer
+pub mod AllLaws
