@@ -12,6 +12,7 @@ pub mod ReadingBy
 pub mod Laws
 pub mod Lanes
 pub mod Stopped
+pub mod Run
 pub mod Names
 pub mod AllFaults
 pub mod AllByValues

@@ -12,6 +12,7 @@ mod laws;
 mod local;
 mod pieces;
 mod reading;
+mod run;
 mod serial;
 mod stop;
 
@@ -21,4 +22,5 @@ pub use judged::{Judge, Judged, LocalReader};
 pub use lanes::{read_lanes, read_lanes_by};
 pub use laws::{one_reading, pieces_are_instances, pieces_in_order, values_give_reading};
 pub use reading::{ReadError, Reading};
+pub use run::{Run, run_lanes};
 pub use serial::read_serial;
