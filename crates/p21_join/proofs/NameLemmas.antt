@@ -106,3 +106,30 @@ own_names_more is i h new j k d less within = elim (cases_lt k (length is)) [
       let second : get_or (is ++ i ∷ []) k d ≡ i = ap (λ x. get_or (is ++ i ∷ []) x d) place ∙ get_or-append_seam is i [] d in
       λ e. new j d before (ap (λ x. x.name) (sym first) ∙ (e ∙ ap (λ x. x.name) second))
 ]
+
+-- what a set says of a name, of the names themselves
+
+pub name_absent : (names : List ℕ) (n : ℕ) (added : Bool) → added ≡ not (list_any (nat_eq n) names) → added ≡ true → All (λ other. other ≢ n) names
+name_absent names n added e t = none_same names (kept_new names n added e t) where
+  none_same : (ns : List ℕ) → list_any (nat_eq n) ns ≡ false → All (λ other. other ≢ n) ns
+  none_same [] h = λ k d less. absurd (omega arith)
+  none_same (m ∷ ns) h =
+      let parts = or_parts (nat_eq n m) (list_any (nat_eq n) ns) h in
+      let other : m ≢ n = (let differ = parts.0 in λ f. false≢true (sym differ ∙ grind (arith, nat_tests, f))) in
+      All-cons (λ x. x ≢ n) m ns other (none_same ns parts.1)
+
+pub name_kept : (names : List ℕ) (n : ℕ) (added : Bool) → added ≡ not (list_any (nat_eq n) names) → added ≡ false → list_any (nat_eq n) names ≡ true
+name_kept names n added e f = elim (cases_Bool (list_any (nat_eq n) names)) [ inl h ↦ h | inr h ↦ absurd (false≢true (sym f ∙ (e ∙ ap not h))) ]
+
+pub name_present : (names : List ℕ) (n : ℕ) (added : Bool) → added ≡ not (list_any (nat_eq n) names) → added ≡ false → Contains names n
+name_present names n added e f = one_same names (name_kept names n added e f) where
+  one_same : (ns : List ℕ) → list_any (nat_eq n) ns ≡ true → Contains ns n
+  one_same [] h = absurd (false≢true h)
+  one_same (m ∷ ns) h =
+      ⊎_elim
+      (λ (g : nat_eq n m ≡ true). let same : m ≡ n = grind (arith, nat_tests, g) in (0, omega arith, same))
+      (λ (g : nat_eq n m ≡ false).
+      let rest : list_any (nat_eq n) ns ≡ true = (rw g at h) in
+      let found = one_same ns rest in
+      (suc found.0, (let less = found.1 in omega arith), found.2))
+      (cases_Bool (nat_eq n m))

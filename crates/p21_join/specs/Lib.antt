@@ -2,3 +2,4 @@ pub mod Names
 pub mod Model
 pub mod Joined
 pub mod Entities
+pub mod InstanceNames

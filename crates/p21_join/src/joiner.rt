@@ -1,6 +1,6 @@
 //! A model in the making.
 
-ghost use Rattle.std.specs.Prelude.{◌≡◌, []};
+ghost use Rattle.std.specs.Prelude.{◌≡◌, [], map};
 ghost use Rattle.p21_join.specs.Names.{AreNamesOf, HaveOwnNames};
 
 use crate::model::Model;
@@ -67,5 +67,12 @@ impl<'a> Joiner<'a> {
         ensures { instances_of result ≡ joined self.entry }
     {
         Model::of(self.instances, self.names)
+    }
+
+    /// The names of all that was joined, in order. The instances are let go.
+    pub(crate) fn into_names(self) -> NameSet
+        ensures { result.keys ≡ map (λ i. i.name) (joined self.entry) }
+    {
+        self.names
     }
 }

@@ -26,7 +26,7 @@ carried_more ws w h own = λ earlier later x e. by_place earlier later x (place_
 pub none_gathered : Gathers [] [] [] None
 none_gathered = (record { wholes = []; are = refl; faultless = none_carried; instances = refl }, refl)
 
-values_more : (js : List Judgement) (j : Judgement) (vs : List Value) (v : Value) → values_of js ≡ vs → value_of j.judged ≡ v → values_of (js ++ j ∷ []) ≡ vs ++ v ∷ []
+pub values_more : (js : List Judgement) (j : Judgement) (vs : List Value) (v : Value) → values_of js ≡ vs → value_of j.judged ≡ v → values_of (js ++ j ∷ []) ≡ vs ++ v ∷ []
 values_more js j vs v e f = map-append (λ (x : Judgement). value_of x.judged) js (j ∷ []) ∙ (ap (λ l. l ++ value_of j.judged ∷ []) e ∙ ap (λ x. vs ++ x ∷ []) f)
 
 -- an instance without a fault

@@ -122,6 +122,6 @@ reading_by s file lanes (Err e) law by = tt
 reading_by s file lanes (Ok r) law by = (law by.pieces (plain_answer r.answer) by.answer).0
 
 -- the pieces of the file were dealt
-pub pieces_by : (s : Schema) (file : List ℕ) (lanes : ℕ) (r : Result Reading ReadError) → LocalReadingIsReading s file → IfOk r (IsReadLocally s file lanes) → IfOk r (PiecesAreDealt s file lanes)
+pub pieces_by : (s : Schema) (file : List ℕ) (lanes : ℕ) (r : Result Reading ReadError) → LocalReadingIsReading s file → IfOk r (IsReadLocally s file lanes) → IfOk r (λ reading. PiecesAreDealt s file lanes reading.dealt.items reading.receipts.items)
 pieces_by s file lanes (Err e) law by = tt
-pieces_by s file lanes (Ok r) law by = record { pieces = by.pieces; of_file = (law by.pieces (plain_answer r.answer) by.answer).1; dealt = by.dealt }
+pieces_by s file lanes (Ok r) law by = record { pieces = by.pieces; of_file = (law by.pieces (plain_answer r.answer) by.answer).1; as_dealt = by.dealt }

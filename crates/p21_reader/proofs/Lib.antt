@@ -11,3 +11,8 @@ pub mod UniqueLemmas
 pub mod EntityLemmas
 pub mod PieceLemmas
 pub mod LaneLemmas
+pub mod NamingLemmas
+pub mod AllFaultLemmas
+pub mod AllValueLemmas
+pub mod FaultGatheringLemmas
+pub mod AllLaneLemmas

@@ -115,7 +115,7 @@ tail_tokens laws file place number end ts n toks =
     let up = (laws.tail_tokens file place number end all.before all.last n all.up_to).0 in
     subst (Tokens file place) (sym all.parts) (tokens_on file place up.place all.before (all.last ∷ []) up.tokens (tokens.last up.next all.is_last))
 
-tail_whole : PartLaws → (file : List ℕ) (o : Opening) (is : List Instance) (place number end : ℕ) → FileBeginsWith file o is place → PiecesAre file place number [] end → HasTail file end → IsFileText file o is
+pub tail_whole : PartLaws → (file : List ℕ) (o : Opening) (is : List Instance) (place number end : ℕ) → FileBeginsWith file o is place → PiecesAre file place number [] end → HasTail file end → IsFileText file o is
 tail_whole laws file o is place number end b n h =
     let tail : List Placed = h.0 in (
       b.opening ++ (b.body ++ tail),
@@ -123,7 +123,7 @@ tail_whole laws file o is place number end b n h =
       record { opening = b.opening; body = b.body; tail = tail; parts = refl; is_opening = b.is_opening; are_instances = b.are_instances; is_tail = h.2 },
     )
 
-tail_stops : PartLaws → (file : List ℕ) (o : Opening) (is : List Instance) (place number end : ℕ) (f : Fault) → FileBeginsWith file o is place → PiecesAre file place number [] end → HasFault tails file end f → FileStopsBehind file o is f
+pub tail_stops : PartLaws → (file : List ℕ) (o : Opening) (is : List Instance) (place number end : ℕ) (f : Fault) → FileBeginsWith file o is place → PiecesAre file place number [] end → HasFault tails file end f → FileStopsBehind file o is f
 tail_stops laws file o is place number end f b n h =
     let moved = laws.tail_tokens file place number end h.before h.token n (record { place = h.place; tokens = h.tokens; next = h.next }) in
     let up = moved.0 in

@@ -68,16 +68,16 @@ record Left (s : Schema) (file : List ℕ) (o : Opening) (end : ℕ) (is : List 
   judged : AllZip (IsJudged s) pieces rest
 
 -- the first of them, and what is left behind it
-record Next (s : Schema) (file : List ℕ) (end place number : ℕ) (v : Value) (rest : List Value) : Type 0 where
-  piece : Piece
-  next : ℕ
-  pieces : List Piece
-  is_next : IsNext file place number (plain_piece piece) next
-  own : IsJudged s piece v
-  are : PiecesAre file next (number + 1) (map plain_piece pieces) end
-  judged : AllZip (IsJudged s) pieces rest
+pub record Next (s : Schema) (file : List ℕ) (end place number : ℕ) (v : Value) (rest : List Value) : Type 0 where
+  pub piece : Piece
+  pub next : ℕ
+  pub pieces : List Piece
+  pub is_next : IsNext file place number (plain_piece piece) next
+  pub own : IsJudged s piece v
+  pub are : PiecesAre file next (number + 1) (map plain_piece pieces) end
+  pub judged : AllZip (IsJudged s) pieces rest
 
-next_of : (s : Schema) (file : List ℕ) (end place number : ℕ) (v : Value) (rest : List Value) (ps : List Piece) → PiecesAre file place number (map plain_piece ps) end → AllZip (IsJudged s) ps (v ∷ rest) → Next s file end place number v rest
+pub next_of : (s : Schema) (file : List ℕ) (end place number : ℕ) (v : Value) (rest : List Value) (ps : List Piece) → PiecesAre file place number (map plain_piece ps) end → AllZip (IsJudged s) ps (v ∷ rest) → Next s file end place number v rest
 next_of s file end place number v rest [] are judged = absurd judged
 next_of s file end place number v rest (p ∷ ps) (cut.piece {next = after} n others) judged = record { piece = p; next = after; pieces = ps; is_next = n; own = judged.0; are = others; judged = judged.1 }
 

@@ -45,21 +45,21 @@ pub record AreDealt (lanes : ℕ) (pieces : List Piece) (dealt : List ℕ) (rece
   pub one_each : length receipts ≡ lanes
   pub shares : EachAt (λ lane receipt. passed receipt ≡ share dealt lane pieces) 0 receipts
 
--- How these pieces of a file were dealt in its reading: where a fault stands before the instances there are none, and no receipts;
--- else they were dealt to the lanes.
-pub data AreDealtIn (s : Schema) (file : List ℕ) (lanes : ℕ) (r : Reading) : List Piece → Type 0 where
-  none : {f : Fault} → IsOpeningFault s file f → r.dealt.items ≡ [] → r.receipts.items ≡ [] → AreDealtIn s file lanes r []
-  all : {o : Opening} {pieces : List Piece} → BeginsPreface file o → IsHeaderFault s o None → AreDealt lanes pieces r.dealt.items r.receipts.items → AreDealtIn s file lanes r pieces
+-- How these pieces of a file were dealt: where a fault stands before the instances there are none, and no receipts; else they were
+-- dealt to the lanes.
+pub data AreDealtIn (s : Schema) (file : List ℕ) (lanes : ℕ) (dealt : List ℕ) (receipts : List (Receipt Piece)) : List Piece → Type 0 where
+  none : {f : Fault} → IsOpeningFault s file f → dealt ≡ [] → receipts ≡ [] → AreDealtIn s file lanes dealt receipts []
+  all : {o : Opening} {pieces : List Piece} → BeginsPreface file o → IsHeaderFault s o None → AreDealt lanes pieces dealt receipts → AreDealtIn s file lanes dealt receipts pieces
 
 -- The reading of a file by lanes whose workers judge its pieces: its answer is what the file gives by what the judge may say of them,
 -- and they were dealt.
 pub record IsReadBy (judges : Piece → Judged → Type 0) (s : Schema) (file : List ℕ) (lanes : ℕ) (r : Reading) : Type 0 where
   pub pieces : List Piece
   pub answer : IsReadingBy s file judges pieces (plain_answer r.answer)
-  pub dealt : AreDealtIn s file lanes r pieces
+  pub dealt : AreDealtIn s file lanes r.dealt.items r.receipts.items pieces
 
 -- The pieces of the file against the schema were dealt.
-pub record PiecesAreDealt (s : Schema) (file : List ℕ) (lanes : ℕ) (r : Reading) : Type 0 where
+pub record PiecesAreDealt (s : Schema) (file : List ℕ) (lanes : ℕ) (dealt : List ℕ) (receipts : List (Receipt Piece)) : Type 0 where
   pub pieces : List Piece
   pub of_file : ArePiecesOf s file (map plain_piece pieces)
-  pub dealt : AreDealtIn s file lanes r pieces
+  pub as_dealt : AreDealtIn s file lanes dealt receipts pieces

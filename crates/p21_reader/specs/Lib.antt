@@ -13,3 +13,9 @@ pub mod Laws
 pub mod Lanes
 pub mod Stopped
 pub mod Run
+pub mod Names
+pub mod AllFaults
+pub mod AllByValues
+pub mod FaultGathering
+pub mod AllAnswer
+pub mod AllLaws

@@ -1,13 +1,15 @@
 //! Joining what pieces are by themselves, in the order of the file.
 
-ghost use Rattle.std.specs.Prelude.{◌≡◌, ◌≤◌, List, [], ◌∷◌, ◌++◌, length, Ok, Err, IfOk, IfErr, OnOk, IsSome};
+ghost use Rattle.std.specs.Prelude.{◌≡◌, ◌≤◌, List, [], ◌∷◌, ◌++◌, length, map, None, Ok, Err, IfOk, IfErr, OnOk, IsSome};
 ghost use Rattle.p21_express.specs.Schema.{Schema};
 ghost use Rattle.p21_tree.specs.Texts.{HasTail};
+ghost use Rattle.p21_tree.specs.Views.{plain_instance};
 ghost use Rattle.p21_join.specs.Joined.{joined};
 ghost use Rattle.p21_join.specs.Model.{instances_of, plain_instances};
 ghost use Rattle.p21_reader.specs.Steps.{AddsValue};
 ghost use Rattle.p21_reader.specs.Judged.{entities_of, value_of, values_of};
-ghost use Rattle.p21_reader.specs.Values.{HaveInstances, IsAnswerTo};
+ghost use Rattle.p21_reader.specs.Names.{AreNames};
+ghost use Rattle.p21_reader.specs.Values.{HaveInstances, IsAnswerTo, IsCarriedFault};
 ghost use Rattle.p21_reader.specs.declared.judged.Judgement.{Judgement};
 
 use crate::judged::{Judged, Judgement};
@@ -123,15 +125,26 @@ fn add_whole<'a>(
     ensures { AddsValue (plain_instances (joined joiner.old)) (value_of (Judged.Whole instance.entry own)) result (plain_instances (joined joiner.new)) }
 {
     let at = instance.at;
+    match join_whole(joiner, instance, own)? {
+        None => Ok(()),
+        Some(kind) => Err(Stop::Fault(Fault { kind, at })),
+    }
+}
+
+/// Joins an instance that has this fault by itself, or none, unless its name is there. The answer is the fault that it has behind
+/// the others: a repeated name before its own.
+pub(crate) fn join_whole<'a>(
+    joiner: &mut Joiner<'a>,
+    instance: RawInstance<'a>,
+    own: Option<FaultKind>,
+) -> Result<Option<FaultKind>, AllocError>
+    ensures fault { IfOk result (IsCarriedFault (plain_instances (joined joiner.old)) (record { instance = plain_instance instance.entry; own = own })) }
+    ensures joined { result ≡ Ok None → joined joiner.new ≡ joined joiner.old ++ instance.entry ∷ [] }
+    ensures names { OnOk result (AreNames (map (λ i. i.name) (joined joiner.new)) (plain_instances (joined joiner.old) ++ plain_instance instance.entry ∷ [])) }
+{
     match joiner.add(instance) {
-        Ok(()) => match own {
-            None => Ok(()),
-            Some(kind) => Err(Stop::Fault(Fault { kind, at })),
-        },
-        Err(JoinError::Duplicate(_)) => Err(Stop::Fault(Fault {
-            kind: FaultKind::DuplicateName,
-            at,
-        })),
-        Err(JoinError::Memory(_)) => Err(Stop::Memory),
+        Ok(()) => Ok(own),
+        Err(JoinError::Duplicate(_)) => Ok(Some(FaultKind::DuplicateName)),
+        Err(JoinError::Memory(_)) => Err(AllocError),
     }
 }

@@ -48,7 +48,7 @@ pub fn read_lanes<'a, G: Gate + Sync, R: Threads + Wait + Sync>(
     lanes: LaneCount,
     capacity: Capacity,
 ) -> Result<Reading<'a>, ReadError>
-    ensures pieces { IfOk result (PiecesAreDealt schema.now file.now lanes) }
+    ensures pieces { IfOk result (λ reading. PiecesAreDealt schema.now file.now lanes reading.dealt.items reading.receipts.items) }
     ensures answer { IfOk result (λ reading. IsReading schema.now file.now (plain_answer reading.answer)) }
 {
     values_give_reading();

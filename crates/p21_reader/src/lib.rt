@@ -1,6 +1,9 @@
-//! The reading of a whole file against a schema: the list of its instances, or its first fault.
+//! The reading of a whole file against a schema: the list of its instances, or its first fault, or all its faults.
 #![tactic(auto)]
 
+mod all_faults;
+mod all_laws;
+mod fault_gathering;
 mod gathering;
 mod judged;
 mod judging;
@@ -13,6 +16,8 @@ mod run;
 mod serial;
 mod stop;
 
+pub use all_faults::{AllFaults, read_all_faults};
+pub use all_laws::{all_begin_with_reading, values_give_all_faults};
 pub use judged::{Judge, Judged, LocalReader};
 pub use lanes::{read_lanes, read_lanes_by};
 pub use laws::{one_reading, pieces_are_instances, pieces_in_order, values_give_reading};

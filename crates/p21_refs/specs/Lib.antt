@@ -1,2 +1,3 @@
 pub mod FirstReferenceFault
+pub mod AllReferenceFaults
 pub mod Places

@@ -1,6 +1,7 @@
 -- The instances of a file by their places.
-use Rattle.std.specs.Prelude.{◌<◌, ℕ, Bool, true, false, List, Some, None, length, slice_index_or}
+use Rattle.std.specs.Prelude.{◌≡◌, ◌<◌, ℕ, Bool, true, false, List, Option, Some, None, length, slice_index_or}
 use Rattle.p21_express.specs.Schema.{Schema}
+use Rattle.p21_tree.specs.declared.faults.Fault.{Fault}
 use Rattle.p21_tree.specs.declared.faults.FaultKind.{FaultKind}
 use Rattle.p21_tree.specs.Sentence.{Instance}
 use Rattle.p21_check.specs.References.{IsReferenceFault, named_in}
@@ -27,3 +28,8 @@ pub record IsFirstFaulty (s : Schema) (all : List Instance) (place : ℕ) : Type
   pub within : place < length all
   pub before : AreAnsweredBefore s all place
   pub faulty : IsFaultyAt s all place
+
+-- the reference fault of the instance at a place, at its name, or none
+abbrev pub IsFaultAt : Schema → List Instance → ℕ → Option Fault → Type 0
+IsFaultAt s all place None = IsAnsweredAt s all place
+IsFaultAt s all place (Some f) = (d : Instance) → IsReferenceFault s (named_in all) (slice_index_or all place d) (Some f.kind) × (f.at ≡ (slice_index_or all place d).at)

@@ -1,10 +1,10 @@
-//! The first reference fault by example, among enough instances for several threads.
+//! Reference faults by example, among enough instances for several threads.
 
 ghost use Rattle.std.specs.Prelude.{IsTrue};
 ghost use Rattle.p21_join.specs.Model.{instances_of, plain_instances};
 ghost use Rattle.p21_refs.specs.FirstReferenceFault.{AreSound};
 
-use crate::{first_bad, first_bad_among};
+use crate::{all_bad, all_bad_among, first_bad, first_bad_among};
 use p21_check::check_local;
 use p21_express::read_declarations;
 use p21_join::{Joiner, Model, ModelEntities};
@@ -67,21 +67,65 @@ fn is_sound(schema: &Schema, model: &Model<'_>) -> bool
     true
 }
 
-/// What both calls find.
-fn found<R: Threads + Sync>(
+/// At most two faults.
+type Two = [Option<Fault>; 2];
+
+/// Some faults, if they are two at most.
+fn two(faults: &[Fault]) -> Result<Two, Fail> {
+    match faults {
+        [] => Ok([None, None]),
+        [one] => Ok([Some(*one), None]),
+        [one, other] => Ok([Some(*one), Some(*other)]),
+        _ => Err(Fail::from("more than two faults")),
+    }
+}
+
+/// The first fault, as both calls find it.
+fn first<R: Threads + Sync>(
     rt: &R,
     alloc: Global,
     schema: &Schema,
     model: &Model<'_>,
-) -> Result<[Option<Fault>; 2], Fail> {
-    if !is_sound(schema, model) {
-        return Err(Fail::from("an instance has a fault by itself"));
-    }
+) -> Result<[Option<Fault>; 2], Fail>
+    requires { AreSound schema.now (plain_instances (instances_of model.now)) }
+{
     let entities = ModelEntities::new(alloc, schema, model)?;
     Ok([
         first_bad(rt, alloc, schema, model)?,
         first_bad_among(rt, &entities),
     ])
+}
+
+/// All faults, as both calls find them.
+fn all<R: Threads + Sync>(
+    rt: &R,
+    alloc: Global,
+    schema: &Schema,
+    model: &Model<'_>,
+) -> Result<[Two; 2], Fail>
+    requires { AreSound schema.now (plain_instances (instances_of model.now)) }
+{
+    let entities = ModelEntities::new(alloc, schema, model)?;
+    Ok([
+        two(all_bad(rt, alloc, schema, model)?.as_slice())?,
+        two(all_bad_among(rt, alloc, &entities)?.as_slice())?,
+    ])
+}
+
+/// What all calls find.
+fn found<R: Threads + Sync>(
+    rt: &R,
+    alloc: Global,
+    schema: &Schema,
+    model: &Model<'_>,
+) -> Result<([Option<Fault>; 2], [Two; 2]), Fail> {
+    if !is_sound(schema, model) {
+        return Err(Fail::from("an instance has a fault by itself"));
+    }
+    Ok((
+        first(rt, alloc, schema, model)?,
+        all(rt, alloc, schema, model)?,
+    ))
 }
 
 fn missing(name: u64, place: u64) -> Option<Fault> {
@@ -96,19 +140,20 @@ fn missing(name: u64, place: u64) -> Option<Fault> {
 }
 
 #[test]
-fn first_of_many(rt: HostRuntime) -> Result<(), Fail> {
+fn first_and_all_of_many(rt: HostRuntime) -> Result<(), Fail> {
     let alloc = rt.alloc();
     let toy = table(alloc, TOY).ok_or("the schema is read and built")?;
+    let last = missing(5001, 4999);
     for (odd, other, want) in [
-        (5000, Some(5001), missing(5001, 4999)),
-        (2500, Some(9000), missing(9000, 2499)),
-        (2, Some(9000), missing(9000, 1)),
-        (5000, None, None),
+        (5000, Some(5001), [last, None]),
+        (2500, Some(9000), [missing(9000, 2499), last]),
+        (2, Some(9000), [missing(9000, 1), last]),
+        (5000, None, [None, None]),
     ] {
         let texts = texts(alloc, odd, other)?;
         let model = model_of(alloc, texts.as_slice()).ok_or("instances of their own names")?;
         let answers = found(&rt, alloc, &toy, &model)?;
-        assert_eq!(rt; answers, [want, want], "at {odd}");
+        assert_eq!(rt; answers, ([want[0]; 2], [want; 2]), "at {odd}");
     }
     Ok(())
 }

@@ -1,4 +1,4 @@
--- The report text of a fault: one line.
+-- The report text of a fault: one line; and of several.
 use Rattle.std.specs.Prelude.{ℕ, List, [], ◌∷◌, ◌++◌, decimal, codes}
 use Rattle.p21_tree.specs.declared.faults.Fault.{Fault}
 use Rattle.p21_tree.specs.declared.faults.FaultKind.{FaultKind}
@@ -70,3 +70,8 @@ detail_of (kind.WrongReference rec attr name) = reference_text rec attr name
 -- `fault NUMBER KIND at PLACE`, where in the instance it is, and a line end
 abbrev pub fault_text : Fault → List ℕ
 fault_text f = codes "fault " ++ (decimal (number_of f.kind) ++ (32 ∷ (name_of f.kind ++ (codes " at " ++ (decimal f.at ++ (detail_of f.kind ++ 10 ∷ []))))))
+
+-- the lines of faults, one after the other
+abbrev pub fault_lines : List Fault → List ℕ
+fault_lines [] = []
+fault_lines (f ∷ fs) = fault_text f ++ fault_lines fs

@@ -4,7 +4,7 @@ use Rattle.p21_express.specs.Schema.{Schema}
 use Rattle.p21_tree.specs.Sentence.{Instance}
 use Rattle.p21_tree.specs.declared.faults.Fault.{Fault}
 use Rattle.p21_render.specs.Counts.{IsCounts}
-use Rattle.p21_render.specs.FaultLine.{fault_text}
+use Rattle.p21_render.specs.FaultLine.{fault_lines, fault_text}
 
 -- The line `schema NAME`, and the counts of the instances.
 pub record IsModelText (s : Schema) (is : List Instance) (text : List ℕ) : Type 0 where
@@ -16,3 +16,8 @@ pub record IsModelText (s : Schema) (is : List Instance) (text : List ℕ) : Typ
 abbrev pub IsReadingText : Schema → Result (List Instance) Fault → List ℕ → Type 0
 IsReadingText s (Ok is) text = IsModelText s is text
 IsReadingText s (Err f) text = text ≡ fault_text f
+
+-- The same with all faults: the report of a model, or the lines of the faults.
+abbrev pub IsAllText : Schema → Result (List Instance) (List Fault) → List ℕ → Type 0
+IsAllText s (Ok is) text = IsModelText s is text
+IsAllText s (Err fs) text = text ≡ fault_lines fs

@@ -1,7 +1,7 @@
-//! The report of a fault.
+//! The report of a fault, and of several.
 
 ghost use Rattle.std.specs.Prelude.{◌≡◌, ◌++◌, IfOk, OnOk};
-ghost use Rattle.p21_render.specs.FaultLine.{attribute_text, detail_of, fault_text, name_of, number_of, record_text, reference_text};
+ghost use Rattle.p21_render.specs.FaultLine.{attribute_text, detail_of, fault_lines, fault_text, name_of, number_of, record_text, reference_text};
 
 use crate::text::{push, push_number};
 use p21_tree::{Fault, FaultKind};
@@ -13,15 +13,34 @@ pub fn fault_line(alloc: Global, fault: &Fault) -> Result<Vec<u8>, AllocError>
     ensures { IfOk result (λ line. line.items ≡ fault_text fault.now) }
 {
     let mut line = Vec::new(alloc);
-    push(&mut line, b"fault ")?;
-    push_number(&mut line, u64::from(number(fault.kind)))?;
-    push(&mut line, b" ")?;
-    push(&mut line, kind_name(fault.kind))?;
-    push(&mut line, b" at ")?;
-    push_number(&mut line, fault.at)?;
-    push_detail(&mut line, fault.kind)?;
-    push(&mut line, b"\n")?;
+    push_fault(&mut line, fault)?;
     Ok(line)
+}
+
+/// The lines of some faults, in their order. Memory alone can fail.
+pub fn render_faults(alloc: Global, faults: &[Fault]) -> Result<Vec<u8>, AllocError>
+    ensures { IfOk result (λ text. text.items ≡ fault_lines faults.now) }
+{
+    let mut text = Vec::new(alloc);
+    for fault in faults {
+        push_fault(&mut text, fault)?;
+    }
+    Ok(text)
+}
+
+/// Adds the line of a fault.
+fn push_fault(text: &mut Vec<u8>, fault: &Fault) -> Result<(), AllocError>
+    ensures { OnOk result (text.new.items ≡ text.old.items ++ fault_text fault.now) }
+{
+    push(text, b"fault ")?;
+    push_number(text, u64::from(number(fault.kind)))?;
+    push(text, b" ")?;
+    push(text, kind_name(fault.kind))?;
+    push(text, b" at ")?;
+    push_number(text, fault.at)?;
+    push_detail(text, fault.kind)?;
+    push(text, b"\n")?;
+    Ok(())
 }
 
 /// The number of a kind.

@@ -10,6 +10,6 @@ mod tally;
 mod text;
 
 pub use count_text::counts;
-pub use fault_text::fault_line;
-pub use reading_text::render;
+pub use fault_text::{fault_line, render_faults};
+pub use reading_text::{render, render_all};
 pub use schema_fault_text::schema_fault_line;

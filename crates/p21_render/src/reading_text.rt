@@ -2,13 +2,14 @@
 
 ghost use Rattle.std.specs.Prelude.{◌≡◌, ◌++◌, map, IfOk};
 ghost use Rattle.p21_tree.specs.Views.{plain_instance};
+ghost use Rattle.p21_reader.specs.AllAnswer.{plain_all};
 ghost use Rattle.p21_reader.specs.Answer.{plain_answer};
-ghost use Rattle.p21_render.specs.ReadingText.{IsModelText, IsReadingText};
+ghost use Rattle.p21_render.specs.ReadingText.{IsAllText, IsModelText, IsReadingText};
 
 use crate::count_text::counts;
-use crate::fault_text::fault_line;
+use crate::fault_text::{fault_line, render_faults};
 use crate::text::push;
-use p21_reader::Reading;
+use p21_reader::{AllFaults, Reading};
 use p21_schema::Schema;
 use p21_tree::RawInstance;
 use std::alloc::{AllocError, Global};
@@ -21,6 +22,21 @@ pub fn render(alloc: Global, schema: &Schema, reading: &Reading<'_>) -> Result<V
     match &reading.answer {
         Ok(model) => model_text(alloc, schema, model.instances()),
         Err(fault) => fault_line(alloc, fault),
+    }
+}
+
+/// The report of a reading that tells all faults: the schema's name and the counts of the model's instances, or the lines of the
+/// faults. Memory alone can fail.
+pub fn render_all(
+    alloc: Global,
+    schema: &Schema,
+    all: &AllFaults<'_>,
+) -> Result<Vec<u8>, AllocError>
+    ensures { IfOk result (λ text. IsAllText schema.now (plain_all all.now.answer) text.items) }
+{
+    match &all.answer {
+        Ok(model) => model_text(alloc, schema, model.instances()),
+        Err(faults) => render_faults(alloc, faults.as_slice()),
     }
 }
 

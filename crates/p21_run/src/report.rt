@@ -1,9 +1,10 @@
 //! What is to be written of a file, or of a schema that is refused.
 
 ghost use Rattle.std.specs.Prelude.{◌≡◌, Some, IfOk};
-ghost use Rattle.p21_run.specs.Due.{IsReportOf, outcome_of};
+ghost use Rattle.p21_run.specs.Due.{IsFullReportOf, IsReport, IsReportOf, outcome_of};
+ghost use Rattle.p21_reader.specs.AllAnswer.{plain_all};
 ghost use Rattle.p21_reader.specs.Answer.{plain_answer};
-ghost use Rattle.p21_render.specs.ReadingText.{IsReadingText};
+ghost use Rattle.p21_render.specs.ReadingText.{IsAllText, IsReadingText};
 ghost use Rattle.p21_render.specs.SchemaFaultLine.{schema_fault_text};
 ghost use Rattle.p21_run.specs.declared.outcome.Outcome.TheVariants.{SchemaRefused};
 
@@ -12,8 +13,8 @@ use p21_crew::Gate;
 use p21_desk::LaneCount;
 use p21_express::SchemaError;
 use p21_lanes::Capacity;
-use p21_reader::{ReadError, Reading, read_lanes};
-use p21_render::{render, schema_fault_line};
+use p21_reader::{AllFaults, ReadError, Reading, read_all_faults, read_lanes};
+use p21_render::{render, render_all, schema_fault_line};
 use p21_schema::Schema;
 use std::alloc::{AllocError, Global};
 use std::sync::Wait;
@@ -26,16 +27,51 @@ pub(crate) struct Report {
     pub(crate) text: Vec<u8>,
 }
 
-/// By how many lanes a file is read, how many pieces may be out on one, and what a worker passes before each.
+/// By how many lanes a file is read, how many pieces may be out on one, what a worker passes before each, and whether all faults
+/// are told or the first alone.
 #[derive(Drop)]
 pub(crate) struct Lanes<'g, G> {
     pub(crate) gate: &'g G,
     pub(crate) lanes: LaneCount,
     pub(crate) capacity: Capacity,
+    pub(crate) all: bool,
 }
 
 /// The report of a file. Memory alone, or a thread, can be refused.
 pub(crate) fn report_of_file<R: Threads + Wait + Sync, G: Gate + Sync>(
+    rt: &R,
+    alloc: Global,
+    schema: &Schema,
+    file: &[u8],
+    by: &Lanes<'_, G>,
+) -> Result<Report, AllocError>
+    ensures { IfOk result (λ report. IsReport by.now.all schema.now file.now report.outcome report.text.items) }
+{
+    if by.all {
+        full_report_of_file(rt, alloc, schema, file, by)
+    } else {
+        first_report_of_file(rt, alloc, schema, file, by)
+    }
+}
+
+/// The report of a file with all its faults.
+fn full_report_of_file<R: Threads + Wait + Sync, G: Gate + Sync>(
+    rt: &R,
+    alloc: Global,
+    schema: &Schema,
+    file: &[u8],
+    by: &Lanes<'_, G>,
+) -> Result<Report, AllocError>
+    ensures { IfOk result (λ report. IsFullReportOf schema.now file.now report.outcome report.text.items) }
+{
+    match read_all_faults(rt, alloc, schema, by.gate, file, by.lanes, by.capacity) {
+        Ok(all) => report_of_all(alloc, schema, &all),
+        Err(ReadError::Memory) => Err(AllocError),
+    }
+}
+
+/// The report of a file with its first fault alone.
+fn first_report_of_file<R: Threads + Wait + Sync, G: Gate + Sync>(
     rt: &R,
     alloc: Global,
     schema: &Schema,
@@ -48,6 +84,19 @@ pub(crate) fn report_of_file<R: Threads + Wait + Sync, G: Gate + Sync>(
         Ok(reading) => report_of_reading(alloc, schema, &reading),
         Err(ReadError::Memory) => Err(AllocError),
     }
+}
+
+/// The report of a reading that tells all faults. Memory alone can fail.
+fn report_of_all(alloc: Global, schema: &Schema, all: &AllFaults<'_>) -> Result<Report, AllocError>
+    ensures outcome { IfOk result (λ report. report.outcome ≡ outcome_of (plain_all all.now.answer)) }
+    ensures text { IfOk result (λ report. IsAllText schema.now (plain_all all.now.answer) report.text.items) }
+{
+    let outcome = match &all.answer {
+        Ok(_) => Outcome::Complete,
+        Err(_) => Outcome::Faulty,
+    };
+    let text = render_all(alloc, schema, all)?;
+    Ok(Report { outcome, text })
 }
 
 /// The report of a reading. Memory alone can fail.

@@ -3,7 +3,7 @@
 ghost use Rattle.std.specs.Prelude.{◌≡◌, ◌<◌, ◌≤◌, ◌⊎◌, ℕ, List, Some, Err, false, true, length, IfOk};
 ghost use Rattle.p21_express.specs.Plain.{plain_schema};
 ghost use Rattle.p21_express.specs.WellFormed.{IsWellFormed};
-ghost use Rattle.p21_run.specs.Due.{IsDue, IsReportOf, Writes, IsLong, IsLongText, most_calls, most_file_bytes, most_schema_bytes};
+ghost use Rattle.p21_run.specs.Due.{IsDue, IsReport, Writes, IsLong, IsLongText, most_calls, most_file_bytes, most_schema_bytes};
 ghost use Rattle.std.specs.Io.KnownBytes.{Keeps};
 ghost use Rattle.p21_express.specs.Answer.{HasNoReading};
 ghost use Rattle.p21_run.specs.declared.outcome.Outcome.TheVariants.{Complete, Device, Faulty, SchemaRefused};
@@ -24,7 +24,8 @@ use std::sync::Wait;
 use std::thread::Threads;
 
 /// Reads a schema and then a file, checks the file against the schema, and writes the report: that of the file's model, the
-/// line of its first fault, or the line of the schema's.
+/// line of its first fault, or the line of the schema's. Where all faults are wanted, it writes the lines of all faults of the
+/// file in place of the first alone.
 ///
 /// A schema of more than 16777216 bytes, a file of more than 4294967296, or more than 16777216 calls of one reader or of the
 /// writer, is answered as `Device`; a call that was interrupted, or a write that took no byte, counts and is made again. The
@@ -41,20 +42,22 @@ pub fn run<R: Threads + Wait + Sync, G: Gate + Sync, S: Source, F: Source, K: Si
     out: &mut K,
     lanes: LaneCount,
     capacity: Capacity,
+    all: bool,
 ) -> Outcome
-    ensures written { (schema_text file : List ℕ) → S.remaining schema_in.old ≡ Some schema_text → F.remaining file_in.old ≡ Some file → Writes schema_text file result (K.taken out.old) (K.taken out.new) }
+    ensures written { (schema_text file : List ℕ) → S.remaining schema_in.old ≡ Some schema_text → F.remaining file_in.old ≡ Some file → Writes all schema_text file result (K.taken out.old) (K.taken out.new) }
     ensures schema_bounded { result ≡ Complete ⊎ (result ≡ Faulty ⊎ result ≡ SchemaRefused) → (schema_text : List ℕ) → S.remaining schema_in.old ≡ Some schema_text → length schema_text ≤ most_schema_bytes }
     ensures file_bounded { result ≡ Complete ⊎ result ≡ Faulty → (file : List ℕ) → F.remaining file_in.old ≡ Some file → length file ≤ most_file_bytes }
     ensures unread { (schema_text : List ℕ) → S.remaining schema_in.old ≡ Some schema_text → HasNoReading schema_text ⊎ (most_schema_bytes < length schema_text) → file_in.new ≡ file_in.old }
     ensures schema_failed { S.failed schema_in.old ≡ false → S.failed schema_in.new ≡ true → (result ≡ Device) × (file_in.new ≡ file_in.old) × (out.new ≡ out.old) }
     ensures file_failed { F.failed file_in.old ≡ false → F.failed file_in.new ≡ true → (result ≡ Device) × (out.new ≡ out.old) }
-    ensures unwritten { result ≡ Device → K.marked out.new ≡ false → (schema_text file : List ℕ) → S.remaining schema_in.old ≡ Some schema_text → F.remaining file_in.old ≡ Some file → Keeps (K.taken out.old) (K.taken out.new) ⊎ IsLongText schema_text file }
-    ensures cause { result ≡ Device → S.marked schema_in.new ≡ false → F.marked file_in.new ≡ false → K.marked out.new ≡ false → (schema_text file : List ℕ) → S.remaining schema_in.old ≡ Some schema_text → F.remaining file_in.old ≡ Some file → IsLong schema_text file }
+    ensures unwritten { result ≡ Device → K.marked out.new ≡ false → (schema_text file : List ℕ) → S.remaining schema_in.old ≡ Some schema_text → F.remaining file_in.old ≡ Some file → Keeps (K.taken out.old) (K.taken out.new) ⊎ IsLongText all schema_text file }
+    ensures cause { result ≡ Device → S.marked schema_in.new ≡ false → F.marked file_in.new ≡ false → K.marked out.new ≡ false → (schema_text file : List ℕ) → S.remaining schema_in.old ≡ Some schema_text → F.remaining file_in.old ≡ Some file → IsLong all schema_text file }
 {
     let by = Lanes {
         gate,
         lanes,
         capacity,
+        all,
     };
     match report(rt, alloc, schema_in, file_in, &by) {
         Ok(report) => match write_bounded(out, report.text.as_slice(), WRITE_CALLS) {
@@ -74,7 +77,7 @@ fn report<R: Threads + Wait + Sync, G: Gate + Sync, S: Source, F: Source>(
     file_in: &mut F,
     by: &Lanes<'_, G>,
 ) -> Result<Report, InputError>
-    ensures due { (schema_text file : List ℕ) → S.remaining schema_in.old ≡ Some schema_text → F.remaining file_in.old ≡ Some file → IfOk result (λ report. IsDue schema_text file report.outcome report.text.items) }
+    ensures due { (schema_text file : List ℕ) → S.remaining schema_in.old ≡ Some schema_text → F.remaining file_in.old ≡ Some file → IfOk result (λ report. IsDue by.now.all schema_text file report.outcome report.text.items) }
     ensures schema_bounded { IfOk result (λ _. (schema_text : List ℕ) → S.remaining schema_in.old ≡ Some schema_text → length schema_text ≤ most_schema_bytes) }
     ensures file_bounded { IfOk result (λ report. report.outcome ≡ Complete ⊎ report.outcome ≡ Faulty → (file : List ℕ) → F.remaining file_in.old ≡ Some file → length file ≤ most_file_bytes) }
     ensures unread { (schema_text : List ℕ) → S.remaining schema_in.old ≡ Some schema_text → HasNoReading schema_text ⊎ (most_schema_bytes < length schema_text) → file_in.new ≡ file_in.old }
@@ -98,7 +101,7 @@ fn report_against<R: Threads + Wait + Sync, G: Gate + Sync, F: Source>(
     by: &Lanes<'_, G>,
 ) -> Result<Report, InputError>
     requires { IsWellFormed (plain_schema declarations) }
-    ensures due { (file : List ℕ) → F.remaining file_in.old ≡ Some file → IfOk result (λ report. IsReportOf (plain_schema declarations) file report.outcome report.text.items) }
+    ensures due { (file : List ℕ) → F.remaining file_in.old ≡ Some file → IfOk result (λ report. IsReport by.now.all (plain_schema declarations) file report.outcome report.text.items) }
     ensures bounded { IfOk result (λ _. (file : List ℕ) → F.remaining file_in.old ≡ Some file → length file ≤ most_file_bytes) }
     ensures failed { F.failed file_in.old ≡ false → F.failed file_in.new ≡ true → result ≡ Err Failed }
     ensures cause { result ≡ Err Failed → F.marked file_in.new ≡ false → (file : List ℕ) → F.remaining file_in.old ≡ Some file → most_calls ≤ length file }
@@ -115,7 +118,7 @@ fn report_of_source<R: Threads + Wait + Sync, G: Gate + Sync, F: Source>(
     file_in: &mut F,
     by: &Lanes<'_, G>,
 ) -> Result<Report, InputError>
-    ensures due { (file : List ℕ) → F.remaining file_in.old ≡ Some file → IfOk result (λ report. IsReportOf schema.now file report.outcome report.text.items) }
+    ensures due { (file : List ℕ) → F.remaining file_in.old ≡ Some file → IfOk result (λ report. IsReport by.now.all schema.now file report.outcome report.text.items) }
     ensures bounded { IfOk result (λ _. (file : List ℕ) → F.remaining file_in.old ≡ Some file → length file ≤ most_file_bytes) }
     ensures failed { F.failed file_in.old ≡ false → F.failed file_in.new ≡ true → result ≡ Err Failed }
     ensures cause { result ≡ Err Failed → F.marked file_in.new ≡ false → (file : List ℕ) → F.remaining file_in.old ≡ Some file → most_calls ≤ length file }

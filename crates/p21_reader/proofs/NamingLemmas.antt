@@ -1,0 +1,98 @@
+-- The names of instances, one more.
+use Rattle.std.proofs.Common.{◌≡◌, ◌≢◌, true, false, Option, Some, Ok, inl, inr, ℕ, zero, suc, ◌<◌, List, [], ◌∷◌, ◌++◌, length, get_or, map, refl, sym, ap, subst, ◌∙◌, arith}
+use Rattle.std.specs.Prelude.{All, Contains}
+use Rattle.std.proofs.lemmas.List.{get_or-map, length-map}
+use Rattle.std.proofs.lemmas.List.Elements.{Contains-append_cases, Contains-append_left, Contains-append_right}
+use Rattle.p21_tree.specs.declared.instances.RawInstance.{RawInstance}
+use Rattle.p21_tree.specs.Sentence.{Instance}
+use Rattle.p21_tree.specs.Views.{plain_instance}
+use Rattle.p21_tree.specs.declared.faults.FaultKind.{FaultKind}
+use Rattle.p21_tree.specs.declared.faults.FaultKind.TheVariants as kind
+use Rattle.p21_join.specs.InstanceNames.{AddsName}
+use Rattle.p21_join.specs.Model.{plain_instances}
+use Rattle.p21_reader.specs.InstanceFault.{IsRepeated}
+use Rattle.p21_reader.specs.InstanceFault as fault
+use Rattle.p21_reader.specs.Names.{AreNames}
+use Rattle.p21_reader.specs.Values.{IsCarriedFault}
+
+module _ {X Y : Type 0} (f : X → Y) where
+  -- what stands at a place of a list stands there of the list that it is mapped to
+  contains_there : (xs : List X) (x : X) → Contains xs x → Contains (map f xs) (f x)
+  contains_there xs x h = (h.0, (let l = h.1 in omega (arith, length-map xs f)), get_or-map f xs h.0 x (f x) h.1 ∙ ap f h.2)
+
+  contains_at : (xs : List X) (y : Y) (k : ℕ) → k < length (map f xs) → get_or (map f xs) k y ≡ y → (x : X) × Contains xs x × (f x ≡ y)
+  contains_at [] y k less e = absurd (omega (arith, less))
+  contains_at (x ∷ xs) y zero less e = (x, (0, omega arith, refl), e)
+  contains_at (x ∷ xs) y (suc k) less e =
+      let r = contains_at xs y k (omega (arith, less)) e in
+      (r.0, (suc r.1.0, (let l = r.1.1 in omega (arith, l)), r.1.2), r.2)
+
+  contains_back : (xs : List X) (y : Y) → Contains (map f xs) y → (x : X) × Contains xs x × (f x ≡ y)
+  contains_back xs y h = contains_at xs y h.0 h.1 h.2
+
+module _ {X : Type 0} where
+  only_one : (x y : X) → Contains (x ∷ []) y → x ≡ y
+  only_one x y h = by_place h.0 h.1 h.2 where
+    by_place : (k : ℕ) → k < length (x ∷ []) → get_or (x ∷ []) k y ≡ y → x ≡ y
+    by_place zero less e = e
+    by_place (suc k) less e = absurd (omega arith)
+
+  one_alone : (x : X) → Contains (x ∷ []) x
+  one_alone x = (0, omega arith, refl)
+
+-- the names of a joiner's instances
+pub names_of_all : (is : List RawInstance) → AreNames (map (λ (i : RawInstance). i.name) is) (plain_instances is)
+names_of_all is = record {
+  each = λ i h. let r = contains_back plain_instance is i h in subst (λ n. Contains (map (λ (x : RawInstance). x.name) is) n) (ap (λ x. x.name) r.2) (contains_there (λ (x : RawInstance). x.name) is r.0 r.1);
+  only = λ n h. let r = contains_back (λ (x : RawInstance). x.name) is n h in (plain_instance r.0, contains_there plain_instance is r.0 r.1, r.2);
+}
+
+-- a new name
+pub names_more : (names : List ℕ) (is : List Instance) (i : Instance) → AreNames names is → AreNames (names ++ i.name ∷ []) (is ++ i ∷ [])
+names_more names is i h = record {
+  each = λ x k. elim (Contains-append_cases is (i ∷ []) x k) [
+    | inl there ↦ Contains-append_left names (i.name ∷ []) x.name (h.each x there)
+    | inr here ↦ Contains-append_right names (i.name ∷ []) x.name (subst (Contains (i.name ∷ [])) (ap (λ y. y.name) (only_one i x here)) (one_alone i.name))
+  ];
+  only = λ n k. elim (Contains-append_cases names (i.name ∷ []) n k) [
+    | inl there ↦ let r = h.only n there in (r.0, Contains-append_left is (i ∷ []) r.0 r.1, r.2)
+    | inr here ↦ (i, Contains-append_right is (i ∷ []) i (one_alone i), only_one i.name n here)
+  ];
+}
+
+-- a name that is there
+pub names_again : (names : List ℕ) (is : List Instance) (i : Instance) → AreNames names is → Contains names i.name → AreNames names (is ++ i ∷ [])
+names_again names is i h again = record {
+  each = λ x k. elim (Contains-append_cases is (i ∷ []) x k) [
+    | inl there ↦ h.each x there
+    | inr here ↦ subst (Contains names) (ap (λ y. y.name) (only_one i x here)) again
+  ];
+  only = λ n k. let r = h.only n k in (r.0, Contains-append_left is (i ∷ []) r.0 r.1, r.2);
+}
+
+pub repeated_in : (names : List ℕ) (is : List Instance) (i : Instance) → AreNames names is → Contains names i.name → IsRepeated is i
+repeated_in names is i h again = h.only i.name again
+
+pub new_in : (names : List ℕ) (is : List Instance) (i : Instance) → AreNames names is → All (λ other. other ≢ i.name) names → ¬ (IsRepeated is i)
+new_in names is i h new r =
+    let there : Contains names r.0.name = h.each r.0 r.1 in
+    new there.0 r.0.name there.1 (there.2 ∙ r.2)
+
+-- that a name is there among the names of a joiner's instances
+pub named_there : (is : List RawInstance) (i : RawInstance) → (other : RawInstance) × Contains is other × (other.name ≡ i.name) → Contains (map (λ (x : RawInstance). x.name) is) i.name
+named_there is i h = subst (Contains (map (λ (x : RawInstance). x.name) is)) h.2 (contains_there (λ (x : RawInstance). x.name) is h.0 h.1)
+
+-- the fault of one more instance, by whether its name is new
+pub named_fault : (names new : List ℕ) (is : List Instance) (i : Instance) (n : ℕ) (own : Option FaultKind) → AddsName names n (Ok true) new → i.name ≡ n → AreNames names is → IsCarriedFault is (record { instance = i; own = own }) own
+named_fault names new is i n own adds e h = fault.alone (new_in names is i h (subst (λ m. All (λ other. other ≢ m) names) (sym e) adds.0)) refl
+
+pub repeated_fault : (names new : List ℕ) (is : List Instance) (i : Instance) (n : ℕ) (own : Option FaultKind) → AddsName names n (Ok false) new → i.name ≡ n → AreNames names is → IsCarriedFault is (record { instance = i; own = own }) (Some kind.DuplicateName)
+repeated_fault names new is i n own adds e h = fault.repeated (repeated_in names is i h (subst (Contains names) (sym e) adds.0))
+
+pub names_new : (names new : List ℕ) (is : List Instance) (i : Instance) (n : ℕ) → AddsName names n (Ok true) new → i.name ≡ n → AreNames names is → AreNames new (is ++ i ∷ [])
+names_new names new is i n adds e h =
+    let more = adds.1 ∙ ap (λ m. names ++ m ∷ []) (sym e) in
+    subst (λ ns. AreNames ns (is ++ i ∷ [])) (sym more) (names_more names is i h)
+
+pub names_kept : (names new : List ℕ) (is : List Instance) (i : Instance) (n : ℕ) → AddsName names n (Ok false) new → i.name ≡ n → AreNames names is → AreNames new (is ++ i ∷ [])
+names_kept names new is i n adds e h = subst (λ ns. AreNames ns (is ++ i ∷ [])) (sym adds.1) (names_again names is i h (subst (Contains names) (sym e) adds.0))
