@@ -9,6 +9,8 @@ use Rattle.p21_run.specs.declared.outcome.Outcome.{Outcome}
 use Rattle.p21_run.specs.declared.outcome.Outcome.TheVariants as outcome
 use Rattle.p21_render.specs.SchemaFaultLine.{schema_fault_text}
 use Rattle.p21_express.specs.Schema.{Schema}
+use Rattle.p21_schema.specs.Rules.{with_rules}
+use Rattle.p21_schema.specs.declared.rules.Rules.{Rules}
 use Rattle.p21_express.specs.Reading.{IsReading}
 use Rattle.p21_run.specs.Due.{IsDue, IsReportOf, Writes}
 
@@ -25,32 +27,32 @@ refused (error.Cycle at) P text holds told = holds
 refused (error.BadRedeclaration at) P text holds told = holds
 refused error.Memory P text holds told = cc
 
-pub refusal_due : (e : SchemaError) (o : Outcome) (schema_text file text : List ℕ) → OnRefusal e (HasNoReading schema_text) → schema_fault_text e ≡ Some text → o ≡ outcome.SchemaRefused → IsDue schema_text file o text
-refusal_due e o schema_text file text holds told is = subst (λ x. IsDue schema_text file x text) (sym is) (record { declares_nothing = refused e (HasNoReading schema_text) text holds told; fault = e; told = told })
+pub refusal_due : (rules : Rules) (e : SchemaError) (o : Outcome) (schema_text file text : List ℕ) → OnRefusal e (HasNoReading schema_text) → schema_fault_text e ≡ Some text → o ≡ outcome.SchemaRefused → IsDue rules schema_text file o text
+refusal_due rules e o schema_text file text holds told is = subst (λ x. IsDue rules schema_text file x text) (sym is) (record { declares_nothing = refused e (HasNoReading schema_text) text holds told; fault = e; told = told })
 
 -- a text that is due with some outcome was written whole
-pub written : (schema_text file text : List ℕ) (o : Outcome) (old new : Option (List ℕ)) → IsDue schema_text file o text → Appends old new text → Writes schema_text file o old new
-written schema_text file text outcome.Complete old new due appends = (text, due, appends)
-written schema_text file text outcome.Faulty old new due appends = (text, due, appends)
-written schema_text file text outcome.SchemaRefused old new due appends = (text, due, appends)
-written schema_text file text outcome.Device old new due appends = absurd due.2
-written schema_text file text outcome.Memory old new due appends = absurd due.2
+pub written : (rules : Rules) (schema_text file text : List ℕ) (o : Outcome) (old new : Option (List ℕ)) → IsDue rules schema_text file o text → Appends old new text → Writes rules schema_text file o old new
+written rules schema_text file text outcome.Complete old new due appends = (text, due, appends)
+written rules schema_text file text outcome.Faulty old new due appends = (text, due, appends)
+written rules schema_text file text outcome.SchemaRefused old new due appends = (text, due, appends)
+written rules schema_text file text outcome.Device old new due appends = absurd due.2
+written rules schema_text file text outcome.Memory old new due appends = absurd due.2
 
 -- no text is due where a device failed
-pub never_due : (schema_text file text : List ℕ) (o : Outcome) → IsDue schema_text file o text → o ≢ outcome.Device
-never_due schema_text file text outcome.Complete due is = cc
-never_due schema_text file text outcome.Faulty due is = cc
-never_due schema_text file text outcome.SchemaRefused due is = cc
-never_due schema_text file text outcome.Device due is = absurd due.2
-never_due schema_text file text outcome.Memory due is = cc
+pub never_due : (rules : Rules) (schema_text file text : List ℕ) (o : Outcome) → IsDue rules schema_text file o text → o ≢ outcome.Device
+never_due rules schema_text file text outcome.Complete due is = cc
+never_due rules schema_text file text outcome.Faulty due is = cc
+never_due rules schema_text file text outcome.SchemaRefused due is = cc
+never_due rules schema_text file text outcome.Device due is = absurd due.2
+never_due rules schema_text file text outcome.Memory due is = cc
 
 -- the report of a file against the schema that the text declares is due
-pub report_due : (s : Schema) (schema_text file text : List ℕ) (o : Outcome) → IsReading schema_text s → IsReportOf s file o text → IsDue schema_text file o text
-report_due s schema_text file text outcome.Complete reading report = (s, reading, report)
-report_due s schema_text file text outcome.Faulty reading report = (s, reading, report)
-report_due s schema_text file text outcome.SchemaRefused reading report = absurd report
-report_due s schema_text file text outcome.Device reading report = absurd report
-report_due s schema_text file text outcome.Memory reading report = absurd report
+pub report_due : (rules : Rules) (s : Schema) (schema_text file text : List ℕ) (o : Outcome) → IsReading schema_text s → IsReportOf (with_rules s rules) file o text → IsDue rules schema_text file o text
+report_due rules s schema_text file text outcome.Complete reading report = (s, reading, report)
+report_due rules s schema_text file text outcome.Faulty reading report = (s, reading, report)
+report_due rules s schema_text file text outcome.SchemaRefused reading report = absurd report
+report_due rules s schema_text file text outcome.Device reading report = absurd report
+report_due rules s schema_text file text outcome.Memory reading report = absurd report
 
 pub map_ok : {T E : Type 0} (r : Result T E) (P Q : T → Type 0) → ((x : T) → P x → Q x) → IfOk r P → IfOk r Q
 map_ok (Ok x) P Q f holds = f x holds

@@ -5,6 +5,7 @@ use p21_crew::OpenGate;
 use p21_desk::LaneCount;
 use p21_lanes::Capacity;
 use p21_run::{Outcome, Sink, Source, run};
+use p21_schema::Rules;
 use std::alloc::Global;
 use std::sync::Wait;
 use std::test::Fail;
@@ -27,7 +28,15 @@ fn run_by_two<R: Threads + Wait + Sync, S: Source, F: Source, K: Sink>(
 ) -> Outcome {
     match (LaneCount::new(2), Capacity::new(1)) {
         (Some(lanes), Some(capacity)) => run(
-            rt, alloc, &OpenGate, schema_in, file_in, out, lanes, capacity,
+            rt,
+            alloc,
+            &OpenGate,
+            schema_in,
+            file_in,
+            out,
+            lanes,
+            capacity,
+            Rules::default(),
         ),
         _ => Outcome::Memory,
     }
