@@ -17,9 +17,10 @@ use Rattle.p21_check.specs.Sets.{HasEntity, keywords_of, AnyIn, EachIn}
 use Rattle.p21_tree.specs.Plain.{plain_all}
 use Rattle.p21_express.specs.WellFormed.{Origin}
 use Rattle.p21_check.specs.Attributes.{AreAttributes}
-use Rattle.p21_check.specs.LocalFault.{HasWrongCount, HasBadAttribute}
+use Rattle.p21_check.specs.LocalFault.{HasWrongCount, HasBadAttribute, HasRepeatedReference}
+use Rattle.p21_check.proofs.DistinctLemmas.{repeated_at, repeating_at, repeating_along}
 use Rattle.p21_check.proofs.InstanceLemmas.{wrong_at, not_wrong_at, bad_at, unfit_at, unfit_along}
-use Rattle.p21_check.specs.Instances.{complex_instance, IsUnfitAt, NamesEntity, IsUnknown, LacksAbove, LacksBelow, IsNamedBefore}
+use Rattle.p21_check.specs.Instances.{complex_instance, IsUnfitAt, IsRepeatingAt, NamesEntity, IsUnknown, LacksAbove, LacksBelow, IsNamedBefore}
 use Rattle.p21_check.proofs.TypeLemmas.{in_map}
 use Rattle.p21_check.proofs.ElementLemmas.{count_all}
 use Rattle.p21_check.proofs.AttributeLemmas.{one_entity, entity_there}
@@ -188,11 +189,20 @@ module _ (s : Schema) (w : IsWellFormed s) (name at : ℕ) (rs : List Record) (k
   pub unfit_there : (a : ℕ) (b : Bor (List Record)) → b.now ≡ rs → HasBadAttribute s (complex_instance name at rs) k a → IsUnfitAt s (HasEntity s (set.Complex b)) os (plain_all x.params) a
   unfit_there a b e u = unfit_along s (IsInSet s (complex_instance name at rs)) (HasEntity s (set.Complex b)) os (plain_all x.params) a (λ n. ((complex_set s name at rs b e n).1, (complex_set s name at rs b e n).0)) (unfit_at s w (complex_instance name at rs) k (plain_record x) there os are a u)
 
+  pub repeated_here : s.distinct ≡ true → (a : ℕ) (b : Bor (List Record)) → b.now ≡ rs → IsRepeatingAt s (HasEntity s (set.Complex b)) os (plain_all x.params) a → HasRepeatedReference s (complex_instance name at rs) k a
+  repeated_here ruled a b e u = repeated_at s w (complex_instance name at rs) k (plain_record x) there os are ruled a (repeating_along s (HasEntity s (set.Complex b)) (IsInSet s (complex_instance name at rs)) os (plain_all x.params) a (complex_set s name at rs b e) u)
+
+  pub repeating_there : (a : ℕ) (b : Bor (List Record)) → b.now ≡ rs → HasRepeatedReference s (complex_instance name at rs) k a → IsRepeatingAt s (HasEntity s (set.Complex b)) os (plain_all x.params) a
+  repeating_there a b e u = repeating_along s (IsInSet s (complex_instance name at rs)) (HasEntity s (set.Complex b)) os (plain_all x.params) a (λ n. ((complex_set s name at rs b e n).1, (complex_set s name at rs b e n).0)) (repeating_at s w (complex_instance name at rs) k (plain_record x) there os are a u)
+
 pub no_wrong_behind : (s : Schema) (name at : ℕ) (rs : List Record) (k : ℕ) → length rs ≤ k → ¬ (HasWrongCount s (complex_instance name at rs) k)
 no_wrong_behind s name at rs k h x = let less = record_below rs k x.entry x.there in absurd (omega arith)
 
 pub no_bad_behind : (s : Schema) (name at : ℕ) (rs : List Record) (k a : ℕ) → length rs ≤ k → ¬ (HasBadAttribute s (complex_instance name at rs) k a)
 no_bad_behind s name at rs k a h x = let less = record_below rs k x.entry x.there in absurd (omega arith)
+
+pub no_repeated_behind : (s : Schema) (name at : ℕ) (rs : List Record) (k a : ℕ) → length rs ≤ k → ¬ (HasRepeatedReference s (complex_instance name at rs) k a)
+no_repeated_behind s name at rs k a h x = let less = record_below rs k x.entry x.there in absurd (omega arith)
 
 pub one_record : (rs : List Record) (x : Record) → length rs ≡ 1 → x ≡ get_or rs 0 x → rs ≡ x ∷ []
 one_record [] x h e = absurd (omega arith)

@@ -61,6 +61,6 @@ aggregate_by s a e t ps is =
 -- a list, a set or a bag
 pub collection_by : (s : Schema) (a : Aggregate) (b : Bounds) (e : Expr) (t : Tree) (ps : List Param) → IsCollection a b → t ≡ tree.items (plain_all ps) → (IsWithin b (length ps) × AreElements s false e (plain_all ps)) ↔ Conforms s (type.aggregate a e) t
 collection_by s (type.array c o) b e t ps h is = absurd h
-collection_by s (type.list c) b e t ps h is = subst (λ d. (IsWithin d (length ps) × AreElements s false e (plain_all ps)) ↔ Conforms s (type.aggregate (type.list c) e) t) h (aggregate_by s (type.list c) e t ps is)
+collection_by s (type.list c u) b e t ps h is = subst (λ d. (IsWithin d (length ps) × AreElements s false e (plain_all ps)) ↔ Conforms s (type.aggregate (type.list c u) e) t) h (aggregate_by s (type.list c u) e t ps is)
 collection_by s (type.set c) b e t ps h is = subst (λ d. (IsWithin d (length ps) × AreElements s false e (plain_all ps)) ↔ Conforms s (type.aggregate (type.set c) e) t) h (aggregate_by s (type.set c) e t ps is)
 collection_by s (type.bag c) b e t ps h is = subst (λ d. (IsWithin d (length ps) × AreElements s false e (plain_all ps)) ↔ Conforms s (type.aggregate (type.bag c) e) t) h (aggregate_by s (type.bag c) e t ps is)

@@ -25,9 +25,9 @@ pub array_names : (s : Schema) (b : Bounds) (o : Bool) (e : Box ResolvedExpr Glo
 unfolding names_step
 array_names s b o e = ap (by_names s) (sym (seen.rolls-Array b o e)) ∙ fold-roll-ResolvedExpr (Option Expr) (names_step s) (level.Array b o e)
 
-pub list_names : (s : Schema) (b : Bounds) (e : Box ResolvedExpr Global) → by_names s (seen.List b e) ≡ option_map (aggregate (list b)) (by_names s e.value)
+pub list_names : (s : Schema) (b : Bounds) (u : Bool) (e : Box ResolvedExpr Global) → by_names s (seen.List b u e) ≡ option_map (aggregate (list b u)) (by_names s e.value)
 unfolding names_step
-list_names s b e = ap (by_names s) (sym (seen.rolls-List b e)) ∙ fold-roll-ResolvedExpr (Option Expr) (names_step s) (level.List b e)
+list_names s b u e = ap (by_names s) (sym (seen.rolls-List b u e)) ∙ fold-roll-ResolvedExpr (Option Expr) (names_step s) (level.List b u e)
 
 pub set_names : (s : Schema) (b : Bounds) (e : Box ResolvedExpr Global) → by_names s (seen.Set b e) ≡ option_map (aggregate (set b)) (by_names s e.value)
 unfolding names_step
@@ -78,13 +78,13 @@ word s l y x h e f = let equal : y ≡ x = cc in subst IsWord equal h
 -- a type that is neither an aggregate nor a name is a word
 word_level : (s : Schema) (l : ResolvedExpr-F ResolvedExpr) (x : Expr) →
     ((b : Bounds) (o : Bool) (e : Box ResolvedExpr Global) → ¬ (roll-ResolvedExpr l ≡ seen.Array b o e)) →
-    ((b : Bounds) (e : Box ResolvedExpr Global) → ¬ (roll-ResolvedExpr l ≡ seen.List b e)) →
+    ((b : Bounds) (u : Bool) (e : Box ResolvedExpr Global) → ¬ (roll-ResolvedExpr l ≡ seen.List b u e)) →
     ((b : Bounds) (e : Box ResolvedExpr Global) → ¬ (roll-ResolvedExpr l ≡ seen.Set b e)) →
     ((b : Bounds) (e : Box ResolvedExpr Global) → ¬ (roll-ResolvedExpr l ≡ seen.Bag b e)) →
     ((n : List ℕ) → ¬ (x ≡ named n)) → by_names s (roll-ResolvedExpr l) ≡ Some x → IsWord x
 unfolding names_step
 word_level s (level.Array b o e) x na nl ns nb nn f = absurd (na b o e (seen.rolls-Array b o e))
-word_level s (level.List b e) x na nl ns nb nn f = absurd (nl b e (seen.rolls-List b e))
+word_level s (level.List b u e) x na nl ns nb nn f = absurd (nl b u e (seen.rolls-List b u e))
 word_level s (level.Set b e) x na nl ns nb nn f = absurd (ns b e (seen.rolls-Set b e))
 word_level s (level.Bag b e) x na nl ns nb nn f = absurd (nb b e (seen.rolls-Bag b e))
 word_level s (level.Named t) x na nl ns nb nn f =
@@ -101,18 +101,18 @@ word_level s (level.Binary w) x na nl ns nb nn f = word s (level.Binary w) (type
 -- the same, where the type is known by what it is not
 pub plain_word : (s : Schema) (v : ResolvedExpr) (x : Expr) →
     ((b : Bounds) (o : Bool) (e : Box ResolvedExpr Global) → ¬ (v ≡ seen.Array b o e)) →
-    ((b : Bounds) (e : Box ResolvedExpr Global) → ¬ (v ≡ seen.List b e)) →
+    ((b : Bounds) (u : Bool) (e : Box ResolvedExpr Global) → ¬ (v ≡ seen.List b u e)) →
     ((b : Bounds) (e : Box ResolvedExpr Global) → ¬ (v ≡ seen.Set b e)) →
     ((b : Bounds) (e : Box ResolvedExpr Global) → ¬ (v ≡ seen.Bag b e)) →
     ((n : List ℕ) → ¬ (x ≡ named n)) → by_names s v ≡ Some x → IsWord x
 plain_word s v x na nl ns nb nn f =
     let same = roll-out-ResolvedExpr v in
-    word_level s (out-ResolvedExpr v) x (λ b o e g. na b o e (sym same ∙ g)) (λ b e g. nl b e (sym same ∙ g)) (λ b e g. ns b e (sym same ∙ g)) (λ b e g. nb b e (sym same ∙ g)) nn (ap (by_names s) same ∙ f)
+    word_level s (out-ResolvedExpr v) x (λ b o e g. na b o e (sym same ∙ g)) (λ b u e g. nl b u e (sym same ∙ g)) (λ b e g. ns b e (sym same ∙ g)) (λ b e g. nb b e (sym same ∙ g)) nn (ap (by_names s) same ∙ f)
 
 unnamed_level : (s : Schema) (l : ResolvedExpr-F ResolvedExpr) (x : Expr) → ((t : Target) → ¬ (roll-ResolvedExpr l ≡ Named t)) → by_names s (roll-ResolvedExpr l) ≡ Some x → (n : List ℕ) → ¬ (x ≡ named n)
 unfolding names_step
 unnamed_level s (level.Array b o e) x h f n g = let found = mapped (aggregate (array b o)) (by_names s e.value) x (sym (array_names s b o e) ∙ ap (by_names s) (sym (seen.rolls-Array b o e)) ∙ f) in let k = found.2 in cc
-unnamed_level s (level.List b e) x h f n g = let found = mapped (aggregate (list b)) (by_names s e.value) x (sym (list_names s b e) ∙ ap (by_names s) (sym (seen.rolls-List b e)) ∙ f) in let k = found.2 in cc
+unnamed_level s (level.List b u e) x h f n g = let found = mapped (aggregate (list b u)) (by_names s e.value) x (sym (list_names s b u e) ∙ ap (by_names s) (sym (seen.rolls-List b u e)) ∙ f) in let k = found.2 in cc
 unnamed_level s (level.Set b e) x h f n g = let found = mapped (aggregate (set b)) (by_names s e.value) x (sym (set_names s b e) ∙ ap (by_names s) (sym (seen.rolls-Set b e)) ∙ f) in let k = found.2 in cc
 unnamed_level s (level.Bag b e) x h f n g = let found = mapped (aggregate (bag b)) (by_names s e.value) x (sym (bag_names s b e) ∙ ap (by_names s) (sym (seen.rolls-Bag b e)) ∙ f) in let k = found.2 in cc
 unnamed_level s (level.Named t) x h f n g = h t (rolls-Named t)

@@ -33,3 +33,8 @@ pub mod EntryLemmas
 pub mod AskerLemmas
 pub mod RecordLemmas
 pub mod UniqueLemmas
+pub mod TwiceLemmas
+pub mod RepeatedNameLemmas
+pub mod RepeatsLemmas
+pub mod ListsLemmas
+pub mod DistinctLemmas

@@ -24,8 +24,8 @@ module _ (es ts : List (List ℕ)) where
   expr_array : (x : ResolvedExpr) (b : Bounds) (o : Bool) (i : Box ResolvedExpr Global) → x ≡ view.Array b o i → resolved_expr es ts x ≡ option_map (aggregate (array b o)) (resolved_expr es ts i.value)
   expr_array x b o i e = ap (resolved_expr es ts) (e ∙ sym (view.rolls-Array b o i)) ∙ fold-roll-ResolvedExpr (Option Expr) (resolved_level es ts) (level.Array b o i)
 
-  expr_list : (x : ResolvedExpr) (b : Bounds) (i : Box ResolvedExpr Global) → x ≡ view.List b i → resolved_expr es ts x ≡ option_map (aggregate (list b)) (resolved_expr es ts i.value)
-  expr_list x b i e = ap (resolved_expr es ts) (e ∙ sym (view.rolls-List b i)) ∙ fold-roll-ResolvedExpr (Option Expr) (resolved_level es ts) (level.List b i)
+  expr_list : (x : ResolvedExpr) (b : Bounds) (u : Bool) (i : Box ResolvedExpr Global) → x ≡ view.List b u i → resolved_expr es ts x ≡ option_map (aggregate (list b u)) (resolved_expr es ts i.value)
+  expr_list x b u i e = ap (resolved_expr es ts) (e ∙ sym (view.rolls-List b u i)) ∙ fold-roll-ResolvedExpr (Option Expr) (resolved_level es ts) (level.List b u i)
 
   expr_set : (x : ResolvedExpr) (b : Bounds) (i : Box ResolvedExpr Global) → x ≡ view.Set b i → resolved_expr es ts x ≡ option_map (aggregate (set b)) (resolved_expr es ts i.value)
   expr_set x b i e = ap (resolved_expr es ts) (e ∙ sym (view.rolls-Set b i)) ∙ fold-roll-ResolvedExpr (Option Expr) (resolved_level es ts) (level.Set b i)
@@ -41,8 +41,8 @@ module _ (es ts : List (List ℕ)) where
 pub known_array : (s : Schema) (x : ResolvedExpr) (b : Bounds) (o : Bool) (i : Box ResolvedExpr Global) → IsKnownExpr s x → x ≡ view.Array b o i → IsKnownExpr s i.value
 known_array s x b o i k e = part (aggregate (array b o)) _ k.0 (sym (expr_array _ _ x b o i e) ∙ k.1)
 
-pub known_list : (s : Schema) (x : ResolvedExpr) (b : Bounds) (i : Box ResolvedExpr Global) → IsKnownExpr s x → x ≡ view.List b i → IsKnownExpr s i.value
-known_list s x b i k e = part (aggregate (list b)) _ k.0 (sym (expr_list _ _ x b i e) ∙ k.1)
+pub known_list : (s : Schema) (x : ResolvedExpr) (b : Bounds) (u : Bool) (i : Box ResolvedExpr Global) → IsKnownExpr s x → x ≡ view.List b u i → IsKnownExpr s i.value
+known_list s x b u i k e = part (aggregate (list b u)) _ k.0 (sym (expr_list _ _ x b u i e) ∙ k.1)
 
 pub known_set : (s : Schema) (x : ResolvedExpr) (b : Bounds) (i : Box ResolvedExpr Global) → IsKnownExpr s x → x ≡ view.Set b i → IsKnownExpr s i.value
 known_set s x b i k e = part (aggregate (set b)) _ k.0 (sym (expr_set _ _ x b i e) ∙ k.1)

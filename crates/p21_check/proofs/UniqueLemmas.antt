@@ -69,7 +69,7 @@ header_once one s o a b h k = header_same one s o a b (header_case s o a h) (hea
 
 -- the kind of this number, for this record and attribute
 kind_of : ℕ → ℕ → ℕ → FaultKind
-kind_of n r a = cond (eqb n 8) kind.UnknownEntity (cond (eqb n 9) kind.AbstractEntity (cond (eqb n 10) kind.BadComplex (cond (eqb n 11) (kind.WrongCount r) (kind.BadAttribute r a))))
+kind_of n r a = cond (eqb n 8) kind.UnknownEntity (cond (eqb n 9) kind.AbstractEntity (cond (eqb n 10) kind.BadComplex (cond (eqb n 11) (kind.WrongCount r) (cond (eqb n 12) (kind.BadAttribute r a) (kind.RepeatedReference r a)))))
 
 kind_is : (s : Schema) (i : Instance) (k : FaultKind) → HasFault s i k → k ≡ kind_of (kind_number k) (kind_record k) (kind_attribute k)
 unfolding kind_of
@@ -78,6 +78,7 @@ kind_is s i kind.AbstractEntity h = refl
 kind_is s i kind.BadComplex h = refl
 kind_is s i (kind.WrongCount r) h = refl
 kind_is s i (kind.BadAttribute r a) h = refl
+kind_is s i (kind.RepeatedReference r a) h = refl
 kind_is s i _ h = absurd h
 
 -- what comes neither before nor behind is the same

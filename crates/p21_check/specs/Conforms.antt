@@ -37,14 +37,14 @@ IsSpan (Some low) None n = Unit {0}
 -- the number of elements that an aggregate has
 abbrev pub AreCounted : Aggregate → ℕ → Type 0
 AreCounted (array b o) n = IsSpan b.low b.high n
-AreCounted (list b) n = IsWithin b n
+AreCounted (list b u) n = IsWithin b n
 AreCounted (set b) n = IsWithin b n
 AreCounted (bag b) n = IsWithin b n
 
 -- an element of the aggregate may be left out
 abbrev pub may_be_absent : Aggregate → Bool
 may_be_absent (array b o) = o
-may_be_absent (list b) = false
+may_be_absent (list b u) = false
 may_be_absent (set b) = false
 may_be_absent (bag b) = false
 

@@ -8,9 +8,11 @@ use Rattle.p21_tree.specs.Sentence.{Instance}
 use Rattle.p21_tree.specs.Views.{plain_record}
 use Rattle.p21_tree.specs.declared.instances.Record.{Record}
 use Rattle.p21_tree.specs.declared.faults.FaultKind.{FaultKind}
+use Rattle.p21_tree.specs.declared.faults.FaultKind.TheVariants as kind
 use Rattle.p21_check.specs.Attributes.{AreAttributes}
 use Rattle.p21_check.specs.Slot.{FitsSlot}
-use Rattle.p21_check.specs.LocalFault.{IsLocalFault, tree_get, IsAbstract, HasWrongCount, HasBadAttribute}
+use Rattle.p21_check.specs.Repeats.{RepeatsInSlot}
+use Rattle.p21_check.specs.LocalFault.{IsLocalFault, tree_get, IsAbstract, HasWrongCount, HasBadAttribute, HasRepeatedReference}
 use Rattle.p21_check.specs.Sets.{AnyIn}
 
 abbrev pub simple_instance : ℕ → ℕ → Entry → Instance
@@ -22,6 +24,27 @@ complex_instance name at rs = record { name = name; at = at; complex = true; rec
 -- what `check_local` answers
 abbrev pub IsAnswer : Schema → Instance → Result (Unit {0}) FaultKind → Type 0
 IsAnswer s i r = MatchResult r (λ _. IsLocalFault s i None) (λ k. IsLocalFault s i (Some k))
+
+-- the first record with a repeated reference, and the first attribute of that one
+pub record IsFirstRepeated (s : Schema) (i : Instance) (k : FaultKind) : Type 0 where
+  pub rec_ : ℕ
+  pub attr : ℕ
+  pub is : k ≡ kind.RepeatedReference rec_ attr
+  pub repeated : HasRepeatedReference s i rec_ attr
+  pub records : (q b : ℕ) → q < rec_ → ¬ (HasRepeatedReference s i q b)
+  pub attributes : (b : ℕ) → b < attr → ¬ (HasRepeatedReference s i rec_ b)
+
+-- what the search for repeated references answers
+abbrev pub IsDistinctAnswer : Schema → Instance → Result (Unit {0}) FaultKind → Type 0
+IsDistinctAnswer s i r = MatchResult r (λ _. (q b : ℕ) → ¬ (HasRepeatedReference s i q b)) (IsFirstRepeated s i)
+
+-- the parameter at this place repeats a name in a list, by a declaration of its attribute that counts
+abbrev pub IsRepeatingAt : Schema → (List ℕ → Type 0) → List Origin → Trees → ℕ → Type 0
+IsRepeatingAt s InSet os ts a = (o : Origin) × (t : Tree) × (slice_get os a ≡ Some o) × (tree_get ts a ≡ Some t) × RepeatsInSlot s InSet o t
+
+-- the first such parameter, or there is none
+abbrev pub IsFirstRepeating : Schema → (List ℕ → Type 0) → List Origin → Trees → Option ℕ → Type 0
+IsFirstRepeating s InSet os ts r = MatchOption r ((b : ℕ) → ¬ (IsRepeatingAt s InSet os ts b)) (λ a. IsRepeatingAt s InSet os ts a × ((b : ℕ) → b < a → ¬ (IsRepeatingAt s InSet os ts b)))
 
 -- the parameter at this place does not fit its attribute
 abbrev pub IsUnfitAt : Schema → (List ℕ → Type 0) → List Origin → Trees → ℕ → Type 0

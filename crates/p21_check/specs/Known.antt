@@ -26,7 +26,7 @@ IsKnownTarget s t = (n : List ℕ) × IsTarget s t n
 -- a LIST, SET or BAG with these bounds
 abbrev pub IsCollection : Aggregate → Bounds → Type 0
 IsCollection (array b o) bounds = ⊥
-IsCollection (list b) bounds = b ≡ bounds
+IsCollection (list b u) bounds = b ≡ bounds
 IsCollection (set b) bounds = b ≡ bounds
 IsCollection (bag b) bounds = b ≡ bounds
 

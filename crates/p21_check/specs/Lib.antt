@@ -1,6 +1,8 @@
 pub mod EntitySet
 pub mod Slot
 pub mod Conforms
+pub mod Repeats
+pub mod RepeatedNames
 pub mod Known
 pub mod Attributes
 pub mod LocalFault
@@ -12,6 +14,7 @@ pub mod References
 pub mod Laws
 pub mod Wanted
 pub mod Walk
+pub mod Lists
 pub mod Asked
 pub mod EntityOf
 pub mod AmongTests

@@ -11,6 +11,7 @@ use Rattle.p21_check.specs.EntitySet.{IsInSet, keywords}
 use Rattle.p21_check.specs.Attributes.{AreAttributes}
 use Rattle.p21_check.specs.Conforms.{tree_count}
 use Rattle.p21_check.specs.Slot.{FitsSlot}
+use Rattle.p21_check.specs.Repeats.{RepeatsInSlot}
 
 -- the parameter at a place
 abbrev pub tree_get : Trees → ℕ → Option Tree
@@ -88,6 +89,21 @@ pub record HasBadAttribute (s : Schema) (i : Instance) (rec_ attr : ℕ) : Type 
   pub given : tree_get entry.params attr ≡ Some parameter
   pub unfit : ¬ (FitsSlot s (IsInSet s i) attribute parameter)
 
+-- A list in the parameter at this place of the record at this place has one instance name twice, and stands for a SET or a
+-- LIST OF UNIQUE by a declaration that counts. This is asked where the schema's rules say so. (A parameter that does not fit
+-- is a fault that comes before.)
+pub record HasRepeatedReference (s : Schema) (i : Instance) (rec_ attr : ℕ) : Type 0 where
+  pub entry : Entry
+  pub attributes : List Origin
+  pub attribute : Origin
+  pub parameter : Tree
+  pub ruled : s.distinct ≡ true
+  pub there : slice_get i.records rec_ ≡ Some entry
+  pub are : AreAttributes s i.complex entry.keyword attributes
+  pub for_ : slice_get attributes attr ≡ Some attribute
+  pub given : tree_get entry.params attr ≡ Some parameter
+  pub repeats : RepeatsInSlot s (IsInSet s i) attribute parameter
+
 -- the instance has a fault of this kind, there where the kind says
 abbrev pub HasFault : Schema → Instance → FaultKind → Type 0
 HasFault s i kind.UnknownEntity = HasUnknownEntity s i
@@ -95,6 +111,7 @@ HasFault s i kind.AbstractEntity = HasAbstractEntity s i
 HasFault s i kind.BadComplex = IsBadComplex s i
 HasFault s i (kind.WrongCount r) = HasWrongCount s i r
 HasFault s i (kind.BadAttribute r a) = HasBadAttribute s i r a
+HasFault s i (kind.RepeatedReference r a) = HasRepeatedReference s i r a
 HasFault s i kind.BadToken = ⊥
 HasFault s i kind.Unexpected = ⊥
 HasFault s i kind.Truncated = ⊥
@@ -112,6 +129,7 @@ kind_number kind.AbstractEntity = 9
 kind_number kind.BadComplex = 10
 kind_number (kind.WrongCount r) = 11
 kind_number (kind.BadAttribute r a) = 12
+kind_number (kind.RepeatedReference r a) = 15
 kind_number kind.BadToken = 0
 kind_number kind.Unexpected = 0
 kind_number kind.Truncated = 0
@@ -126,6 +144,7 @@ kind_number (kind.WrongReference r a n) = 0
 abbrev pub kind_record : FaultKind → ℕ
 kind_record (kind.WrongCount r) = r
 kind_record (kind.BadAttribute r a) = r
+kind_record (kind.RepeatedReference r a) = r
 kind_record kind.BadToken = 0
 kind_record kind.Unexpected = 0
 kind_record kind.Truncated = 0
@@ -142,6 +161,7 @@ kind_record (kind.WrongReference r a n) = 0
 -- the attribute that a kind speaks of
 abbrev pub kind_attribute : FaultKind → ℕ
 kind_attribute (kind.BadAttribute r a) = a
+kind_attribute (kind.RepeatedReference r a) = a
 kind_attribute kind.BadToken = 0
 kind_attribute kind.Unexpected = 0
 kind_attribute kind.Truncated = 0

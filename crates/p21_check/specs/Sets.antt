@@ -11,6 +11,7 @@ use Rattle.p21_schema.specs.Declaration as form
 use Rattle.p21_check.specs.declared.entity_set.EntitySet.{EntitySet}
 use Rattle.p21_check.specs.declared.entity_set.EntitySet.TheVariants as set
 use Rattle.p21_check.specs.Known.{IsElement}
+use Rattle.p21_check.specs.Repeats.{RepeatsByForm}
 
 -- the keywords of some records
 abbrev pub keywords_of : List Record → List (List ℕ)
@@ -54,6 +55,10 @@ CountsAmong s InSet ds d = InSet d.entity × ¬ (AnyIn ds (Derives InSet)) × ¬
 -- where it counts, the parameter fits it
 abbrev pub FitsCounting : Schema → (List ℕ → Type 0) → List Declaration → Tree → Declaration → Type 0
 FitsCounting s InSet ds t d = CountsAmong s InSet ds d → FitsForm s t d.form
+
+-- it counts, and a list in the parameter repeats a name by it
+abbrev pub RepeatsCounting : Schema → (List ℕ → Type 0) → List Declaration → Tree → Declaration → Type 0
+RepeatsCounting s InSet ds t d = CountsAmong s InSet ds d × RepeatsByForm s t d.form
 
 -- each element of the list is such
 abbrev pub EachIn : {X : Type 0} → List X → (X → Type 0) → Type 0

@@ -9,6 +9,7 @@ ghost use Rattle.p21_check.specs.Instances.{IsAnswer, complex_instance, IsFirstW
 ghost use Rattle.p21_check.specs.Sets.{keywords_of, HasEntity, AnyIn, EachIn};
 
 use crate::attributes::{attribute_count, first_unfit};
+use crate::distinct::check_complex_distinct;
 use crate::entity_set::{EntitySet, is_in_set};
 use p21_schema::{EntityId, Schema};
 use p21_tree::{FaultKind, Record};
@@ -31,7 +32,7 @@ pub(crate) fn check_complex(schema: &Schema, records: &[Record<'_>]) -> Result<(
             rec: rec as u64,
             attr: attr as u64,
         }),
-        None => Ok(()),
+        None => check_complex_distinct(schema, records),
     }
 }
 
@@ -58,7 +59,7 @@ fn is_entity(schema: &Schema, name: &[u8]) -> bool
 }
 
 /// The entity of a name that is one.
-fn known(schema: &Schema, name: &[u8]) -> EntityId
+pub(crate) fn known(schema: &Schema, name: &[u8]) -> EntityId
     requires { IsEntity schema.now name.now }
     ensures { IsEntityOf schema.now result × (entity_name schema.now result ≡ name.now) }
 {

@@ -38,7 +38,7 @@ pub(crate) fn conforms(schema: &Schema, texpr: &ResolvedExpr, param: &Param<'_>)
             optional,
             item,
         } => is_array(schema, *bounds, *optional, item, param),
-        ResolvedExpr::List { bounds, item } => is_collection(schema, *bounds, item, param),
+        ResolvedExpr::List { bounds, item, .. } => is_collection(schema, *bounds, item, param),
         ResolvedExpr::Set { bounds, item } => is_collection(schema, *bounds, item, param),
         ResolvedExpr::Bag { bounds, item } => is_collection(schema, *bounds, item, param),
         ResolvedExpr::Named(target) => is_named(schema, *target, param),

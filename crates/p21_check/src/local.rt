@@ -9,6 +9,7 @@ ghost use Rattle.p21_check.specs.Instances.{IsAnswer, simple_instance};
 
 use crate::attributes::{attribute_count, first_unfit};
 use crate::complex::check_complex;
+use crate::distinct::check_simple_distinct;
 use crate::entity_of::simple_entity;
 use crate::entity_set::EntitySet;
 use p21_schema::{EntityId, Schema};
@@ -18,7 +19,9 @@ use p21_tree::{FaultKind, RawInstance, Record};
 /// looked for over the whole instance from the left: `UnknownEntity` where a record's keyword is no entity; `AbstractEntity`
 /// where it is a simple instance of an abstract entity; `BadComplex` where a complex instance names an entity twice, or
 /// without one of its supertypes, or an abstract one without a subtype; `WrongCount` where a record has a wrong number of
-/// parameters; `BadAttribute` where a parameter does not conform to its attribute.
+/// parameters; `BadAttribute` where a parameter does not conform to its attribute; and, where the schema's rules say so
+/// (`Schema::distinct`), `RepeatedReference` where a list in a parameter names one instance twice and stands for a SET or a
+/// LIST OF UNIQUE, by a declaration of the attribute that counts.
 ///
 /// This takes no memory.
 pub fn check_local(schema: &Schema, instance: &RawInstance<'_>) -> Result<(), FaultKind>
@@ -85,6 +88,6 @@ fn check_simple(schema: &Schema, entity: EntityId, entry: &Record<'_>) -> Result
             rec: 0,
             attr: attr as u64,
         }),
-        None => Ok(()),
+        None => check_simple_distinct(schema, entity, entry),
     }
 }

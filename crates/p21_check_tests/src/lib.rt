@@ -4,6 +4,8 @@
 #[cfg(test)]
 mod among_tests;
 #[cfg(test)]
+mod distinct_tests;
+#[cfg(test)]
 mod header_tests;
 #[cfg(test)]
 mod local_tests;

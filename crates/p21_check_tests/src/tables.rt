@@ -1,11 +1,16 @@
 //! The table of a schema's text.
 
 use p21_express::read_declarations;
-use p21_schema::Schema;
+use p21_schema::{Rules, Schema};
 use std::alloc::Global;
 
 /// The table of a schema's text.
 pub(crate) fn table(alloc: Global, text: &[u8]) -> Option<Schema> {
+    table_under(alloc, text, Rules::default())
+}
+
+/// The table of a schema's text, under these rules.
+pub(crate) fn table_under(alloc: Global, text: &[u8], rules: Rules) -> Option<Schema> {
     let declarations = read_declarations(alloc, text).ok()?;
-    Schema::build(alloc, declarations).ok()
+    Schema::build(alloc, declarations, rules).ok()
 }

@@ -380,22 +380,22 @@ declarations_sound ws x h =
     (d.0.0, b.0, symbol_sound 59 ws b.0 b.1, ap (λ (y : (List Entity × List Defined) × List Word). y.0) e, subst (λ (y : (List Entity × List Defined) × List Word). Many (begins_name (codes "END_SCHEMA")) DeclarationIs b.0 d.0.0 y.1) e m)
 
 abbrev schema_of : List ℕ → (List Entity × List Defined) → Schema
-schema_of n x = record { name = n; entities = x.0; types = x.1 }
+schema_of n x = record { name = n; entities = x.0; types = x.1; distinct = false }
 
 pub schema_sound : (ws : List Word) (s : Schema) → schema_at ws ≡ Some s → SchemaIs ws s
 unfolding schema_at
 schema_sound ws s h =
-    let f = bind_some (word_at (codes "SCHEMA") ws) (λ first. name_at first >>= λ n. declarations_at n.1 >>= λ ds. word_at (codes "END_SCHEMA") ds.1 >>= λ end. symbol_at 59 end >>= λ rest. ended rest (Some (record { name = n.0; entities = ds.0.0; types = ds.0.1 }))) s h in
-    let n = bind_some (name_at f.0) (λ n. declarations_at n.1 >>= λ ds. word_at (codes "END_SCHEMA") ds.1 >>= λ end. symbol_at 59 end >>= λ rest. ended rest (Some (record { name = n.0; entities = ds.0.0; types = ds.0.1 }))) s f.2 in
-    let d = bind_some (declarations_at n.0.1) (λ ds. word_at (codes "END_SCHEMA") ds.1 >>= λ end. symbol_at 59 end >>= λ rest. ended rest (Some (record { name = n.0.0; entities = ds.0.0; types = ds.0.1 }))) s n.2 in
-    let e = bind_some (word_at (codes "END_SCHEMA") d.0.1) (λ end. symbol_at 59 end >>= λ rest. ended rest (Some (record { name = n.0.0; entities = d.0.0.0; types = d.0.0.1 }))) s d.2 in
-    let c = bind_some (symbol_at 59 e.0) (λ rest. ended rest (Some (record { name = n.0.0; entities = d.0.0.0; types = d.0.0.1 }))) s e.2 in
+    let f = bind_some (word_at (codes "SCHEMA") ws) (λ first. name_at first >>= λ n. declarations_at n.1 >>= λ ds. word_at (codes "END_SCHEMA") ds.1 >>= λ end. symbol_at 59 end >>= λ rest. ended rest (Some (record { name = n.0; entities = ds.0.0; types = ds.0.1; distinct = false }))) s h in
+    let n = bind_some (name_at f.0) (λ n. declarations_at n.1 >>= λ ds. word_at (codes "END_SCHEMA") ds.1 >>= λ end. symbol_at 59 end >>= λ rest. ended rest (Some (record { name = n.0; entities = ds.0.0; types = ds.0.1; distinct = false }))) s f.2 in
+    let d = bind_some (declarations_at n.0.1) (λ ds. word_at (codes "END_SCHEMA") ds.1 >>= λ end. symbol_at 59 end >>= λ rest. ended rest (Some (record { name = n.0.0; entities = ds.0.0; types = ds.0.1; distinct = false }))) s n.2 in
+    let e = bind_some (word_at (codes "END_SCHEMA") d.0.1) (λ end. symbol_at 59 end >>= λ rest. ended rest (Some (record { name = n.0.0; entities = d.0.0.0; types = d.0.0.1; distinct = false }))) s d.2 in
+    let c = bind_some (symbol_at 59 e.0) (λ rest. ended rest (Some (record { name = n.0.0; entities = d.0.0.0; types = d.0.0.1; distinct = false }))) s e.2 in
     let g : ended c.0 (Some (schema_of n.0.0 d.0.0)) ≡ Some s = c.2 in
     let z = ended_sound c.0 (schema_of n.0.0 d.0.0) s g in
     let k = declarations_sound n.0.1 d.0 d.1 in
     let tail : d.0.1 ≡ name (codes "END_SCHEMA") ∷ symbol 59 ∷ [] = word_sound (codes "END_SCHEMA") d.0.1 e.0 e.1 ∙ ap (λ (v : List Word). name (codes "END_SCHEMA") ∷ v) (symbol_sound 59 e.0 c.0 c.1 ∙ ap (λ (v : List Word). symbol 59 ∷ v) z.0) in
     let m : Many (begins_name (codes "END_SCHEMA")) DeclarationIs k.1 k.0 (name (codes "END_SCHEMA") ∷ symbol 59 ∷ []) = subst (λ (v : List Word). Many (begins_name (codes "END_SCHEMA")) DeclarationIs k.1 k.0 v) tail k.4 in
-    let same : record { name = n.0.0; entities = entities_of k.0; types = types_of k.0 } ≡ s = ap (λ (y : List Entity × List Defined). schema_of n.0.0 y) k.3 ∙ z.1 in
+    let same : record { name = n.0.0; entities = entities_of k.0; types = types_of k.0; distinct = false } ≡ s = ap (λ (y : List Entity × List Defined). schema_of n.0.0 y) k.3 ∙ z.1 in
     let whole : SchemaIs (name (codes "SCHEMA") ∷ name n.0.0 ∷ symbol 59 ∷ k.1) s = subst (λ (t : Schema). SchemaIs (name (codes "SCHEMA") ∷ name n.0.0 ∷ symbol 59 ∷ k.1) t) same (made m) in
     rw (word_sound (codes "SCHEMA") ws f.0 f.1, name_sound f.0 n.0 n.1, k.2) whole
 

@@ -27,7 +27,7 @@ one_entity : List Word
 one_entity = name (codes "SCHEMA") ∷ name (codes "S") ∷ symbol 59 ∷ name (codes "ENTITY") ∷ name (codes "A") ∷ symbol 59 ∷ name (codes "X") ∷ symbol 58 ∷ name (codes "INTEGER") ∷ symbol 59 ∷ name (codes "END_ENTITY") ∷ symbol 59 ∷ name (codes "END_SCHEMA") ∷ symbol 59 ∷ []
 
 its_schema : Schema
-its_schema = record { name = codes "S"; entities = record { name = codes "A"; is_abstract = false; supertypes = []; attributes = record { name = codes "X"; of = None; optional = false; texpr = schema.integer } ∷ []; derived = [] } ∷ []; types = [] }
+its_schema = record { name = codes "S"; entities = record { name = codes "A"; is_abstract = false; supertypes = []; attributes = record { name = codes "X"; of = None; optional = false; texpr = schema.integer } ∷ []; derived = [] } ∷ []; types = []; distinct = false }
 
 example_schema : SchemaIs one_entity its_schema
 unfolding one_entity its_schema schema_at declarations_at declaration_at entity_at supertype_at subtype_at all_attributes_at attributes_at namings_at naming_at expr_at derives_at rules_end many type_word_of decl_word_of is_rules_word

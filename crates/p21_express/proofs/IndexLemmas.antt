@@ -53,7 +53,7 @@ slice_get_pushed (z ∷ xs) y = slice_get_pushed xs y
 
 -- some entities and types, under no name
 abbrev pub some_schema : List Entity → List Defined → Schema
-some_schema es ts = record { name = []; entities = es; types = ts }
+some_schema es ts = record { name = []; entities = es; types = ts; distinct = false }
 
 named_before : {X : Type 0} (name_of : X → List ℕ) (xs : List X) (y : X) (n : List ℕ) → ¬ (name_of y ≡ n) → ¬ (IsIn (map name_of xs) n) → ¬ (IsIn (map name_of (xs ++ y ∷ [])) n)
 named_before name_of xs y n other none h = ⊎_elim (λ (k : IsIn (map name_of xs) n). none k) (λ (e : name_of y ≡ n). other e) (is_in_push (map name_of xs) (name_of y) n (subst (λ ns. IsIn ns n) (map_push name_of xs y) h))

@@ -93,7 +93,7 @@ pub data IfBounds : List Word → Bounds → List Word → Type 0 where
 -- ARRAY bounds OF [ OPTIONAL ] [ UNIQUE ] | LIST [ bounds ] OF [ UNIQUE ] | ( SET | BAG ) [ bounds ] OF
 pub data AggregateIs : List Word → Aggregate → List Word → Type 0 where
   array : {n : List ℕ} {ws mid next rest : List Word} {b : Bounds} {optional unique : Bool} → type_word_of n ≡ types.Aggregate aggregates.Array → BoundsAre ws b (name (codes "OF") ∷ mid) → IfName (codes "OPTIONAL") mid optional next → IfName (codes "UNIQUE") next unique rest → AggregateIs (name n ∷ ws) (schema.array b optional) rest
-  list : {n : List ℕ} {ws mid rest : List Word} {b : Bounds} {unique : Bool} → type_word_of n ≡ types.Aggregate aggregates.List → IfBounds ws b (name (codes "OF") ∷ mid) → IfName (codes "UNIQUE") mid unique rest → AggregateIs (name n ∷ ws) (schema.list b) rest
+  list : {n : List ℕ} {ws mid rest : List Word} {b : Bounds} {unique : Bool} → type_word_of n ≡ types.Aggregate aggregates.List → IfBounds ws b (name (codes "OF") ∷ mid) → IfName (codes "UNIQUE") mid unique rest → AggregateIs (name n ∷ ws) (schema.list b unique) rest
   set : {n : List ℕ} {ws rest : List Word} {b : Bounds} → type_word_of n ≡ types.Aggregate aggregates.Set → IfBounds ws b (name (codes "OF") ∷ rest) → AggregateIs (name n ∷ ws) (schema.set b) rest
   bag : {n : List ℕ} {ws rest : List Word} {b : Bounds} → type_word_of n ≡ types.Aggregate aggregates.Bag → IfBounds ws b (name (codes "OF") ∷ rest) → AggregateIs (name n ∷ ws) (schema.bag b) rest
 
@@ -247,6 +247,6 @@ types_of (an_entity e ∷ ds) = types_of ds
 types_of (a_type t ∷ ds) = t ∷ types_of ds
 types_of (skipped ∷ ds) = types_of ds
 
--- schema = SCHEMA id ';' { decl } END_SCHEMA ';', and no words behind it
+-- schema = SCHEMA id ';' { decl } END_SCHEMA ';', and no words behind it. A text sets no rule.
 pub data SchemaIs : List Word → Schema → Type 0 where
-  made : {n : List ℕ} {ws : List Word} {ds : List Declaration} → Many (begins_name (codes "END_SCHEMA")) DeclarationIs ws ds (name (codes "END_SCHEMA") ∷ symbol 59 ∷ []) → SchemaIs (name (codes "SCHEMA") ∷ name n ∷ symbol 59 ∷ ws) (record { name = n; entities = entities_of ds; types = types_of ds })
+  made : {n : List ℕ} {ws : List Word} {ds : List Declaration} → Many (begins_name (codes "END_SCHEMA")) DeclarationIs ws ds (name (codes "END_SCHEMA") ∷ symbol 59 ∷ []) → SchemaIs (name (codes "SCHEMA") ∷ name n ∷ symbol 59 ∷ ws) (record { name = n; entities = entities_of ds; types = types_of ds; distinct = false })

@@ -1,5 +1,5 @@
 -- The declarations of the code as plain values.
-use Rattle.std.specs.Prelude.{map, option_map}
+use Rattle.std.specs.Prelude.{false, map, option_map}
 use Rattle.p21_express.specs.declared.declarations.Declarations.{Declarations}
 use Rattle.p21_express.specs.declared.declarations.EntityDecl.{EntityDecl}
 use Rattle.p21_express.specs.declared.declarations.AttrDecl.{AttrDecl}
@@ -20,7 +20,7 @@ plain_level level.Real = real
 plain_level (level.Text w) = text w
 plain_level (level.Binary w) = binary w
 plain_level (level.Array b o e) = aggregate (array b o) e.value
-plain_level (level.List b e) = aggregate (list b) e.value
+plain_level (level.List b u e) = aggregate (list b u) e.value
 plain_level (level.Set b e) = aggregate (set b) e.value
 plain_level (level.Bag b e) = aggregate (bag b) e.value
 plain_level (level.Named n) = named n.items
@@ -46,4 +46,4 @@ abbrev pub plain_type : TypeDecl → Defined
 plain_type t = record { name = t.name.items; under = plain_under t.under }
 
 abbrev pub plain_schema : Declarations → Schema
-plain_schema d = record { name = d.name.items; entities = map plain_entity d.entities.items; types = map plain_type d.types.items }
+plain_schema d = record { name = d.name.items; entities = map plain_entity d.entities.items; types = map plain_type d.types.items; distinct = false }

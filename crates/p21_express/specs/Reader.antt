@@ -148,7 +148,7 @@ unfoldable pub list_at : List Word → Option (Aggregate × List Word)
 list_at ws = do
   b ← if_bounds ws
   mid ← word_at (codes "OF") b.1
-  Some (schema.list b.0, (if_name (codes "UNIQUE") mid).1)
+  Some (schema.list b.0 (if_name (codes "UNIQUE") mid).0, (if_name (codes "UNIQUE") mid).1)
 
 unfoldable pub set_at : List Word → Option (Aggregate × List Word)
 set_at ws = do
@@ -422,7 +422,7 @@ schema_at ws = do
   ds ← declarations_at n.1
   end ← word_at (codes "END_SCHEMA") ds.1
   rest ← symbol_at 59 end
-  ended rest (Some (record { name = n.0; entities = ds.0.0; types = ds.0.1 }))
+  ended rest (Some (record { name = n.0; entities = ds.0.0; types = ds.0.1; distinct = false }))
 
 -- what is read of words that reach the end of their text
 abbrev pub if_whole : Bool → Option Schema → Option Schema

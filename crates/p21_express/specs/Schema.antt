@@ -3,10 +3,10 @@ use Rattle.std.specs.Prelude.{ℕ, Bool, List, Option}
 use Rattle.p21_express.specs.declared.declarations.Width.{Width}
 use Rattle.p21_express.specs.declared.declarations.Bounds.{Bounds}
 
--- an aggregate without its element; of an ARRAY also whether an element may be left out
+-- an aggregate without its element; of an ARRAY also whether an element may be left out, and of a LIST whether UNIQUE stands there
 pub data Aggregate : Type 0 where
   array : Bounds → Bool → Aggregate
-  list : Bounds → Aggregate
+  list : Bounds → Bool → Aggregate
   set : Bounds → Aggregate
   bag : Bounds → Aggregate
 
@@ -50,7 +50,9 @@ pub record Defined : Type 0 where
   pub name : List ℕ
   pub under : Underlying
 
+-- `distinct` is no declaration: it is the rule under which a schema is checked, that a SET or a LIST OF UNIQUE names no instance twice
 pub record Schema : Type 0 where
   pub name : List ℕ
   pub entities : List Entity
   pub types : List Defined
+  pub distinct : Bool

@@ -27,8 +27,13 @@ pub(crate) fn copied(alloc: Global, texpr: &TypeExpr) -> Result<TypeExpr, AllocE
             optional: *optional,
             item: Box::new(alloc, copied(alloc, item)?)?,
         },
-        TypeExpr::List { bounds, item } => TypeExpr::List {
+        TypeExpr::List {
+            bounds,
+            unique,
+            item,
+        } => TypeExpr::List {
             bounds: *bounds,
+            unique: *unique,
             item: Box::new(alloc, copied(alloc, item)?)?,
         },
         TypeExpr::Set { bounds, item } => TypeExpr::Set {

@@ -77,6 +77,8 @@ pub enum TypeExpr {
     },
     List {
         bounds: Bounds,
+        /// Whether UNIQUE stands behind OF: no two elements may be equal.
+        unique: bool,
         item: Box<TypeExpr>,
     },
     Set {

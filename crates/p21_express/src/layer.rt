@@ -12,7 +12,8 @@ use std::alloc::{AllocError, Global};
 pub(crate) enum Layer {
     /// Its bounds, and whether an element may be left out.
     Array(Bounds, bool),
-    List(Bounds),
+    /// Its bounds, and whether its elements are to differ.
+    List(Bounds, bool),
     Set(Bounds),
     Bag(Bounds),
 }
@@ -29,7 +30,11 @@ impl Layer {
                 optional,
                 item,
             },
-            Layer::List(bounds) => TypeExpr::List { bounds, item },
+            Layer::List(bounds, unique) => TypeExpr::List {
+                bounds,
+                unique,
+                item,
+            },
             Layer::Set(bounds) => TypeExpr::Set { bounds, item },
             Layer::Bag(bounds) => TypeExpr::Bag { bounds, item },
         })

@@ -89,8 +89,8 @@ fn layer<'t, 'a>(
         }
         AggregateWord::List => {
             let (bounds, rest) = if_bounds(words)?;
-            let (_, rest) = if_name(word(rest, b"OF")?, b"UNIQUE");
-            Ok((Layer::List(bounds), rest))
+            let (unique, rest) = if_name(word(rest, b"OF")?, b"UNIQUE");
+            Ok((Layer::List(bounds, unique), rest))
         }
         AggregateWord::Set => {
             let (bounds, rest) = if_bounds(words)?;

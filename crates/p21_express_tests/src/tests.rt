@@ -302,7 +302,7 @@ ENTITY SIZES; N : NUMBER; X : REAL; G : LOGICAL; A : ARRAY [0:1] OF OPTIONAL INT
         ),
         (
             b"SCHEMA s; ENTITY a; a, b : STRING(); c : LIST [:] OF REAL(2); d : SET [- 1:+2] OF STRING(+3); e : BAG [(1):1+1] OF STRING(000000000000000001); f : ARRAY [- -1:0000000000000000001] OF OPTIONAL UNIQUE BINARY(2) FIXED; g : LIST OF UNIQUE a; DERIVE h : REAL := 1; END_ENTITY; END_SCHEMA;",
-            b"S\nENTITY A; A : STRING; B : STRING; C : LIST [?:?] OF REAL; D : SET [-1:2] OF STRING; E : BAG [?:?] OF STRING(1); F : ARRAY [?:?] OF OPTIONAL BINARY(2) FIXED; G : LIST [0:?] OF A; DERIVE H;",
+            b"S\nENTITY A; A : STRING; B : STRING; C : LIST [?:?] OF REAL; D : SET [-1:2] OF STRING; E : BAG [?:?] OF STRING(1); F : ARRAY [?:?] OF OPTIONAL BINARY(2) FIXED; G : LIST [0:?] OF UNIQUE A; DERIVE H;",
         ),
     ];
     for (text, expected) in &rows {

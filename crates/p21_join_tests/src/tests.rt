@@ -6,7 +6,7 @@ ghost use Rattle.p21_join.specs.Entities.{model_of};
 use p21_check::{EntityOf, Named};
 use p21_express::read_declarations;
 use p21_join::{JoinError, Joiner, Model, ModelEntities};
-use p21_schema::{EntityId, Schema};
+use p21_schema::{EntityId, Rules, Schema};
 use p21_tree::{Piece, RawInstance, TreeError, read_piece};
 use std::alloc::Global;
 use std::process::Abort;
@@ -82,7 +82,7 @@ fn table(alloc: Global, text: &[u8]) -> Result<Schema, Fail> {
     let Ok(declarations) = read_declarations(alloc, text) else {
         return Err("a schema")?;
     };
-    Ok(Schema::build(alloc, declarations)?)
+    Ok(Schema::build(alloc, declarations, Rules::default())?)
 }
 
 /// What is known of the instance of a name.

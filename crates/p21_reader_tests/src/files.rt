@@ -2,7 +2,7 @@
 
 use p21_express::read_declarations;
 use p21_reader::{ReadError, Reading};
-use p21_schema::Schema;
+use p21_schema::{Rules, Schema};
 use p21_tree::FaultKind;
 use std::alloc::{AllocError, Global};
 use std::test::Fail;
@@ -24,7 +24,11 @@ pub(crate) const EIGHT: &[u8] = b"#1=MARK('a');#2=MARK('a');#3=MARK('a');#4=MARK
 /// The table of the small schema.
 pub(crate) fn toy(alloc: Global) -> Result<Schema, Fail> {
     let declarations = read_declarations(alloc, TOY).ok().ok_or("declarations")?;
-    Ok(Schema::build(alloc, declarations).ok().ok_or("a schema")?)
+    Ok(
+        Schema::build(alloc, declarations, Rules::default())
+            .ok()
+            .ok_or("a schema")?,
+    )
 }
 
 /// A file of the small schema: its preface, what stands between, and a tail.

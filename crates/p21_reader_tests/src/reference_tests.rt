@@ -3,7 +3,7 @@
 use p21_check::{check_local, check_references};
 use p21_express::read_declarations;
 use p21_join::Joiner;
-use p21_schema::Schema;
+use p21_schema::{Rules, Schema};
 use p21_tree::{FaultKind, Piece, RawInstance, read_piece};
 use std::alloc::Global;
 use std::test::Fail;
@@ -17,7 +17,7 @@ END_SCHEMA;";
 /// The table of a schema's text.
 fn table(alloc: Global, text: &[u8]) -> Option<Schema> {
     let declarations = read_declarations(alloc, text).ok()?;
-    Schema::build(alloc, declarations).ok()
+    Schema::build(alloc, declarations, Rules::default()).ok()
 }
 
 fn instance(alloc: Global, text: &[u8]) -> Option<RawInstance<'_>> {

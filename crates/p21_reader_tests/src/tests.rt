@@ -7,7 +7,7 @@ use p21_desk::LaneCount;
 use p21_express::read_declarations;
 use p21_lanes::Capacity;
 use p21_reader::{ReadError, read_lanes, read_serial};
-use p21_schema::Schema;
+use p21_schema::{Rules, Schema};
 use std::alloc::Global;
 
 /// A small schema of two dozen declarations.
@@ -69,7 +69,7 @@ const FILE: &[u8] =
 /// The table of the small schema.
 fn toy(alloc: Global) -> Option<Schema> {
     let declarations = read_declarations(alloc, TOY).ok()?;
-    Schema::build(alloc, declarations).ok()
+    Schema::build(alloc, declarations, Rules::default()).ok()
 }
 
 /// Its answer is right also where a request for memory is refused, which `tests/refused_memory` does in turn.

@@ -8,7 +8,7 @@ use crate::{all_bad, all_bad_among, first_bad, first_bad_among};
 use p21_check::check_local;
 use p21_express::read_declarations;
 use p21_join::{Joiner, Model, ModelEntities};
-use p21_schema::Schema;
+use p21_schema::{Rules, Schema};
 use p21_tree::{Fault, FaultKind, Piece, read_piece};
 use std::alloc::{AllocError, Global};
 use std::test::Fail;
@@ -24,7 +24,7 @@ const COUNT: u64 = 5000;
 /// The table of a schema's text.
 fn table(alloc: Global, text: &[u8]) -> Option<Schema> {
     let declarations = read_declarations(alloc, text).ok()?;
-    Schema::build(alloc, declarations).ok()
+    Schema::build(alloc, declarations, Rules::default()).ok()
 }
 
 /// Instances, each of which refers to the next by its name, but for one, which refers to another or to none.

@@ -20,6 +20,7 @@ number_of (kind.WrongCount rec) = 11
 number_of (kind.BadAttribute rec attr) = 12
 number_of (kind.MissingReference rec attr name) = 13
 number_of (kind.WrongReference rec attr name) = 14
+number_of (kind.RepeatedReference rec attr) = 15
 
 -- and a name
 abbrev pub name_of : FaultKind → List ℕ
@@ -37,6 +38,7 @@ name_of (kind.WrongCount rec) = codes "WrongCount"
 name_of (kind.BadAttribute rec attr) = codes "BadAttribute"
 name_of (kind.MissingReference rec attr name) = codes "MissingReference"
 name_of (kind.WrongReference rec attr name) = codes "WrongReference"
+name_of (kind.RepeatedReference rec attr) = codes "RepeatedReference"
 
 -- the record
 abbrev pub record_text : ℕ → List ℕ
@@ -64,6 +66,7 @@ detail_of kind.AbstractEntity = []
 detail_of kind.BadComplex = []
 detail_of (kind.WrongCount rec) = record_text rec
 detail_of (kind.BadAttribute rec attr) = attribute_text rec attr
+detail_of (kind.RepeatedReference rec attr) = attribute_text rec attr
 detail_of (kind.MissingReference rec attr name) = reference_text rec attr name
 detail_of (kind.WrongReference rec attr name) = reference_text rec attr name
 

@@ -62,6 +62,7 @@ fn number(kind: FaultKind) -> u8
         FaultKind::BadAttribute { .. } => 12,
         FaultKind::MissingReference { .. } => 13,
         FaultKind::WrongReference { .. } => 14,
+        FaultKind::RepeatedReference { .. } => 15,
     }
 }
 
@@ -84,6 +85,7 @@ fn kind_name(kind: FaultKind) -> &'static [u8]
         FaultKind::BadAttribute { .. } => b"BadAttribute",
         FaultKind::MissingReference { .. } => b"MissingReference",
         FaultKind::WrongReference { .. } => b"WrongReference",
+        FaultKind::RepeatedReference { .. } => b"RepeatedReference",
     }
 }
 
@@ -104,6 +106,7 @@ fn push_detail(line: &mut Vec<u8>, kind: FaultKind) -> Result<(), AllocError>
         | FaultKind::BadComplex => Ok(()),
         FaultKind::WrongCount { rec } => push_record(line, rec),
         FaultKind::BadAttribute { rec, attr } => push_attribute(line, rec, attr),
+        FaultKind::RepeatedReference { rec, attr } => push_attribute(line, rec, attr),
         FaultKind::MissingReference { rec, attr, name } => push_reference(line, rec, attr, name),
         FaultKind::WrongReference { rec, attr, name } => push_reference(line, rec, attr, name),
     }

@@ -2,9 +2,10 @@
 
 use crate::program_error::ProgramError;
 use clap::error::ErrorKind;
-use clap::{Arg, Command, value_parser};
+use clap::{Arg, ArgAction, Command, value_parser};
 use p21_desk::LaneCount;
 use p21_lanes::Capacity;
+use p21_schema::Rules;
 use std::alloc::Global;
 
 /// What the words ask for.
@@ -16,6 +17,7 @@ pub(crate) struct Wanted<'a> {
     pub(crate) file: &'a str,
     pub(crate) lanes: LaneCount,
     pub(crate) capacity: Capacity,
+    pub(crate) rules: Rules,
 }
 
 /// What the words ask for; the first word is the program's own name.
@@ -27,12 +29,16 @@ pub(crate) fn what_is_wanted<'a>(
     let paths = (matches.get_str("SCHEMA"), matches.get_str("FILE"));
     let lanes = matches.get_one("lanes").and_then(LaneCount::new);
     let capacity = matches.get_one("capacity").and_then(Capacity::new);
+    let rules = Rules {
+        distinct: matches.get_flag("distinct"),
+    };
     match (paths, lanes, capacity) {
         ((Some(schema), Some(file)), Some(lanes), Some(capacity)) => Ok(Wanted {
             schema,
             file,
             lanes,
             capacity,
+            rules,
         }),
         _ => Err(refused(
             alloc,
@@ -80,11 +86,16 @@ fn command<'a>(alloc: Global) -> Result<Command<'a>, ProgramError> {
         .default_value("256")
         .value_parser(value_parser!(u32).range(1..=4096))
         .help("how many instances may be out with one of them, 1 to 4096");
+    let distinct = Arg::new(alloc, "distinct")
+        .long("distinct")
+        .action(ArgAction::SetTrue)
+        .help("tell where a SET or a LIST OF UNIQUE names one instance twice");
     let command = Command::new(alloc, "p21check")
         .about("Reads a STEP file (ISO 10303-21) and checks it against an EXPRESS schema")
         .arg(schema)?
         .arg(file)?
         .arg(lanes)?
-        .arg(capacity)?;
+        .arg(capacity)?
+        .arg(distinct)?;
     Ok(command)
 }

@@ -9,6 +9,8 @@ use Rattle.p21_run.specs.declared.outcome.Outcome.{Outcome}
 use Rattle.p21_run.specs.declared.outcome.Outcome.TheVariants as outcome
 use Rattle.p21_render.specs.SchemaFaultLine.{schema_fault_text}
 use Rattle.p21_express.specs.Schema.{Schema}
+use Rattle.p21_schema.specs.Rules.{with_rules}
+use Rattle.p21_schema.specs.declared.rules.Rules.{Rules}
 use Rattle.p21_express.specs.Reading.{IsReading}
 use Rattle.p21_tree.specs.Sentence.{Instance}
 use Rattle.p21_run.specs.Due.{outcome_of, IsDue, IsReport, Writes}
@@ -26,8 +28,8 @@ refused (error.Cycle at) P text holds told = holds
 refused (error.BadRedeclaration at) P text holds told = holds
 refused error.Memory P text holds told = cc
 
-pub refusal_due : (all : Bool) (e : SchemaError) (o : Outcome) (schema_text file text : List ℕ) → OnRefusal e (HasNoReading schema_text) → schema_fault_text e ≡ Some text → o ≡ outcome.SchemaRefused → IsDue all schema_text file o text
-refusal_due all e o schema_text file text holds told is = subst (λ x. IsDue all schema_text file x text) (sym is) (record { declares_nothing = refused e (HasNoReading schema_text) text holds told; fault = e; told = told })
+pub refusal_due : (all : Bool) (rules : Rules) (e : SchemaError) (o : Outcome) (schema_text file text : List ℕ) → OnRefusal e (HasNoReading schema_text) → schema_fault_text e ≡ Some text → o ≡ outcome.SchemaRefused → IsDue all rules schema_text file o text
+refusal_due all rules e o schema_text file text holds told is = subst (λ x. IsDue all rules schema_text file x text) (sym is) (record { declares_nothing = refused e (HasNoReading schema_text) text holds told; fault = e; told = told })
 
 -- a report ends with a model or with a fault
 
@@ -52,28 +54,28 @@ never_memory (inl e) = cc
 never_memory (inr e) = cc
 
 -- a text that is due with some outcome was written whole
-pub written : (all : Bool) (schema_text file text : List ℕ) (o : Outcome) (old new : Option (List ℕ)) → IsDue all schema_text file o text → Appends old new text → Writes all schema_text file o old new
-written all schema_text file text outcome.Complete old new due appends = (text, due, appends)
-written all schema_text file text outcome.Faulty old new due appends = (text, due, appends)
-written all schema_text file text outcome.SchemaRefused old new due appends = (text, due, appends)
-written all schema_text file text outcome.Device old new due appends = absurd (never_device (ends all due.0 file text outcome.Device due.2))
-written all schema_text file text outcome.Memory old new due appends = absurd (never_memory (ends all due.0 file text outcome.Memory due.2))
+pub written : (all : Bool) (rules : Rules) (schema_text file text : List ℕ) (o : Outcome) (old new : Option (List ℕ)) → IsDue all rules schema_text file o text → Appends old new text → Writes all rules schema_text file o old new
+written all rules schema_text file text outcome.Complete old new due appends = (text, due, appends)
+written all rules schema_text file text outcome.Faulty old new due appends = (text, due, appends)
+written all rules schema_text file text outcome.SchemaRefused old new due appends = (text, due, appends)
+written all rules schema_text file text outcome.Device old new due appends = absurd (never_device (ends all (with_rules due.0 rules) file text outcome.Device due.2))
+written all rules schema_text file text outcome.Memory old new due appends = absurd (never_memory (ends all (with_rules due.0 rules) file text outcome.Memory due.2))
 
 -- no text is due where a device failed
-pub never_due : (all : Bool) (schema_text file text : List ℕ) (o : Outcome) → IsDue all schema_text file o text → o ≢ outcome.Device
-never_due all schema_text file text outcome.Complete due is = cc
-never_due all schema_text file text outcome.Faulty due is = cc
-never_due all schema_text file text outcome.SchemaRefused due is = cc
-never_due all schema_text file text outcome.Device due is = never_device (ends all due.0 file text outcome.Device due.2)
-never_due all schema_text file text outcome.Memory due is = cc
+pub never_due : (all : Bool) (rules : Rules) (schema_text file text : List ℕ) (o : Outcome) → IsDue all rules schema_text file o text → o ≢ outcome.Device
+never_due all rules schema_text file text outcome.Complete due is = cc
+never_due all rules schema_text file text outcome.Faulty due is = cc
+never_due all rules schema_text file text outcome.SchemaRefused due is = cc
+never_due all rules schema_text file text outcome.Device due is = never_device (ends all (with_rules due.0 rules) file text outcome.Device due.2)
+never_due all rules schema_text file text outcome.Memory due is = cc
 
 -- the report of a file against the schema that the text declares is due
-pub report_due : (all : Bool) (s : Schema) (schema_text file text : List ℕ) (o : Outcome) → IsReading schema_text s → IsReport all s file o text → IsDue all schema_text file o text
-report_due all s schema_text file text outcome.Complete reading report = (s, reading, report)
-report_due all s schema_text file text outcome.Faulty reading report = (s, reading, report)
-report_due all s schema_text file text outcome.SchemaRefused reading report = absurd (never_refused (ends all s file text outcome.SchemaRefused report))
-report_due all s schema_text file text outcome.Device reading report = (s, reading, report)
-report_due all s schema_text file text outcome.Memory reading report = (s, reading, report)
+pub report_due : (all : Bool) (rules : Rules) (s : Schema) (schema_text file text : List ℕ) (o : Outcome) → IsReading schema_text s → IsReport all (with_rules s rules) file o text → IsDue all rules schema_text file o text
+report_due all rules s schema_text file text outcome.Complete reading report = (s, reading, report)
+report_due all rules s schema_text file text outcome.Faulty reading report = (s, reading, report)
+report_due all rules s schema_text file text outcome.SchemaRefused reading report = absurd (never_refused (ends all (with_rules s rules) file text outcome.SchemaRefused report))
+report_due all rules s schema_text file text outcome.Device reading report = (s, reading, report)
+report_due all rules s schema_text file text outcome.Memory reading report = (s, reading, report)
 
 pub map_ok : {T E : Type 0} (r : Result T E) (P Q : T → Type 0) → ((x : T) → P x → Q x) → IfOk r P → IfOk r Q
 map_ok (Ok x) P Q f holds = f x holds

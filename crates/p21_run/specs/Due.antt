@@ -7,6 +7,8 @@ use Rattle.p21_express.specs.Answer.{HasNoReading}
 use Rattle.p21_express.specs.declared.error.SchemaError.{SchemaError}
 use Rattle.p21_tree.specs.Sentence.{Instance}
 use Rattle.p21_tree.specs.declared.faults.Fault.{Fault}
+use Rattle.p21_schema.specs.Rules.{with_rules}
+use Rattle.p21_schema.specs.declared.rules.Rules.{Rules}
 use Rattle.p21_reader.specs.AllFaults.{IsReadingWithAll}
 use Rattle.p21_reader.specs.Reading.{IsReading}
 use Rattle.p21_render.specs.ReadingText.{IsAllText, IsReadingText}
@@ -45,17 +47,17 @@ pub record IsRefusal (schema_text text : List ℕ) : Type 0 where
   pub told : schema_fault_text fault ≡ Some text
 
 -- The text that is due with an outcome: the line of the schema's fault where it declares nothing, and otherwise the report of
--- the file against the schema that it declares.
-abbrev pub IsDue : (all : Bool) → List ℕ → List ℕ → Outcome → List ℕ → Type 0
-IsDue all schema_text file outcome.SchemaRefused text = IsRefusal schema_text text
-IsDue all schema_text file o text = (s : Schema) × express.IsReading schema_text s × IsReport all s file o text
+-- the file against the schema that it declares, under these rules.
+abbrev pub IsDue : (all : Bool) → Rules → List ℕ → List ℕ → Outcome → List ℕ → Type 0
+IsDue all rules schema_text file outcome.SchemaRefused text = IsRefusal schema_text text
+IsDue all rules schema_text file o text = (s : Schema) × express.IsReading schema_text s × IsReport all (with_rules s rules) file o text
 
 -- The text that is due is written, and nothing else; nothing is written for want of memory; where a reader or the writer failed,
 -- or a bound was passed, a front of a text that is due is written, or nothing.
-abbrev pub Writes : (all : Bool) → List ℕ → List ℕ → Outcome → Option (List ℕ) → Option (List ℕ) → Type 0
-Writes all schema_text file outcome.Device old new = Keeps old new ⊎ ((o : Outcome) × (text : List ℕ) × (n : ℕ) × IsDue all schema_text file o text × Appends old new (take n text))
-Writes all schema_text file outcome.Memory old new = Keeps old new
-Writes all schema_text file o old new = (text : List ℕ) × IsDue all schema_text file o text × Appends old new text
+abbrev pub Writes : (all : Bool) → Rules → List ℕ → List ℕ → Outcome → Option (List ℕ) → Option (List ℕ) → Type 0
+Writes all rules schema_text file outcome.Device old new = Keeps old new ⊎ ((o : Outcome) × (text : List ℕ) × (n : ℕ) × IsDue all rules schema_text file o text × Appends old new (take n text))
+Writes all rules schema_text file outcome.Memory old new = Keeps old new
+Writes all rules schema_text file o old new = (text : List ℕ) × IsDue all rules schema_text file o text × Appends old new text
 
 -- the most calls of a reader or of the writer
 abbrev pub most_calls : ℕ
@@ -69,9 +71,9 @@ abbrev pub most_file_bytes : ℕ
 most_file_bytes = 4294967296
 
 -- a text that is due has at least as many bytes as there may be calls
-abbrev pub IsLongText : (all : Bool) → List ℕ → List ℕ → Type 0
-IsLongText all schema_text file = (o : Outcome) × (text : List ℕ) × IsDue all schema_text file o text × (most_calls ≤ length text)
+abbrev pub IsLongText : (all : Bool) → Rules → List ℕ → List ℕ → Type 0
+IsLongText all rules schema_text file = (o : Outcome) × (text : List ℕ) × IsDue all rules schema_text file o text × (most_calls ≤ length text)
 
 -- an input has at least as many bytes as there may be calls, or a text that is due has
-abbrev pub IsLong : (all : Bool) → List ℕ → List ℕ → Type 0
-IsLong all schema_text file = (most_calls ≤ length schema_text) ⊎ ((most_calls ≤ length file) ⊎ IsLongText all schema_text file)
+abbrev pub IsLong : (all : Bool) → Rules → List ℕ → List ℕ → Type 0
+IsLong all rules schema_text file = (most_calls ≤ length schema_text) ⊎ ((most_calls ≤ length file) ⊎ IsLongText all rules schema_text file)

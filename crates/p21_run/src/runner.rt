@@ -3,6 +3,7 @@
 ghost use Rattle.std.specs.Prelude.{◌≡◌, ◌<◌, ◌≤◌, ◌⊎◌, ℕ, List, Some, Err, false, true, length, IfOk};
 ghost use Rattle.p21_express.specs.Plain.{plain_schema};
 ghost use Rattle.p21_express.specs.WellFormed.{IsWellFormed};
+ghost use Rattle.p21_schema.specs.Rules.{with_rules};
 ghost use Rattle.p21_run.specs.Due.{IsDue, IsReport, Writes, IsLong, IsLongText, most_calls, most_file_bytes, most_schema_bytes};
 ghost use Rattle.std.specs.Io.KnownBytes.{Keeps};
 ghost use Rattle.p21_express.specs.Answer.{HasNoReading};
@@ -18,7 +19,7 @@ use p21_crew::Gate;
 use p21_desk::LaneCount;
 use p21_express::{Declarations, read_declarations};
 use p21_lanes::Capacity;
-use p21_schema::Schema;
+use p21_schema::{Rules, Schema};
 use std::alloc::Global;
 use std::sync::Wait;
 use std::thread::Threads;
@@ -32,7 +33,8 @@ use std::thread::Threads;
 /// file is not read where the schema is refused.
 ///
 /// The file is read by so many lanes, whose workers pass the gate before each piece; on no lane are more pieces out at a time
-/// than the capacity. What is written hangs on neither.
+/// than the capacity. What is written hangs on neither. The schema is read under the rules: with `distinct`, no SET and no LIST
+/// OF UNIQUE may name one instance twice.
 pub fn run<R: Threads + Wait + Sync, G: Gate + Sync, S: Source, F: Source, K: Sink>(
     rt: &R,
     alloc: Global,
@@ -43,15 +45,16 @@ pub fn run<R: Threads + Wait + Sync, G: Gate + Sync, S: Source, F: Source, K: Si
     lanes: LaneCount,
     capacity: Capacity,
     all: bool,
+    rules: Rules,
 ) -> Outcome
-    ensures written { (schema_text file : List ℕ) → S.remaining schema_in.old ≡ Some schema_text → F.remaining file_in.old ≡ Some file → Writes all schema_text file result (K.taken out.old) (K.taken out.new) }
+    ensures written { (schema_text file : List ℕ) → S.remaining schema_in.old ≡ Some schema_text → F.remaining file_in.old ≡ Some file → Writes all rules schema_text file result (K.taken out.old) (K.taken out.new) }
     ensures schema_bounded { result ≡ Complete ⊎ (result ≡ Faulty ⊎ result ≡ SchemaRefused) → (schema_text : List ℕ) → S.remaining schema_in.old ≡ Some schema_text → length schema_text ≤ most_schema_bytes }
     ensures file_bounded { result ≡ Complete ⊎ result ≡ Faulty → (file : List ℕ) → F.remaining file_in.old ≡ Some file → length file ≤ most_file_bytes }
     ensures unread { (schema_text : List ℕ) → S.remaining schema_in.old ≡ Some schema_text → HasNoReading schema_text ⊎ (most_schema_bytes < length schema_text) → file_in.new ≡ file_in.old }
     ensures schema_failed { S.failed schema_in.old ≡ false → S.failed schema_in.new ≡ true → (result ≡ Device) × (file_in.new ≡ file_in.old) × (out.new ≡ out.old) }
     ensures file_failed { F.failed file_in.old ≡ false → F.failed file_in.new ≡ true → (result ≡ Device) × (out.new ≡ out.old) }
-    ensures unwritten { result ≡ Device → K.marked out.new ≡ false → (schema_text file : List ℕ) → S.remaining schema_in.old ≡ Some schema_text → F.remaining file_in.old ≡ Some file → Keeps (K.taken out.old) (K.taken out.new) ⊎ IsLongText all schema_text file }
-    ensures cause { result ≡ Device → S.marked schema_in.new ≡ false → F.marked file_in.new ≡ false → K.marked out.new ≡ false → (schema_text file : List ℕ) → S.remaining schema_in.old ≡ Some schema_text → F.remaining file_in.old ≡ Some file → IsLong all schema_text file }
+    ensures unwritten { result ≡ Device → K.marked out.new ≡ false → (schema_text file : List ℕ) → S.remaining schema_in.old ≡ Some schema_text → F.remaining file_in.old ≡ Some file → Keeps (K.taken out.old) (K.taken out.new) ⊎ IsLongText all rules schema_text file }
+    ensures cause { result ≡ Device → S.marked schema_in.new ≡ false → F.marked file_in.new ≡ false → K.marked out.new ≡ false → (schema_text file : List ℕ) → S.remaining schema_in.old ≡ Some schema_text → F.remaining file_in.old ≡ Some file → IsLong all rules schema_text file }
 {
     let by = Lanes {
         gate,
@@ -59,7 +62,7 @@ pub fn run<R: Threads + Wait + Sync, G: Gate + Sync, S: Source, F: Source, K: Si
         capacity,
         all,
     };
-    match report(rt, alloc, schema_in, file_in, &by) {
+    match report(rt, alloc, schema_in, file_in, &by, rules) {
         Ok(report) => match write_bounded(out, report.text.as_slice(), WRITE_CALLS) {
             Ok(()) => report.outcome,
             Err(OutputError) => Outcome::Device,
@@ -76,8 +79,9 @@ fn report<R: Threads + Wait + Sync, G: Gate + Sync, S: Source, F: Source>(
     schema_in: &mut S,
     file_in: &mut F,
     by: &Lanes<'_, G>,
+    rules: Rules,
 ) -> Result<Report, InputError>
-    ensures due { (schema_text file : List ℕ) → S.remaining schema_in.old ≡ Some schema_text → F.remaining file_in.old ≡ Some file → IfOk result (λ report. IsDue by.now.all schema_text file report.outcome report.text.items) }
+    ensures due { (schema_text file : List ℕ) → S.remaining schema_in.old ≡ Some schema_text → F.remaining file_in.old ≡ Some file → IfOk result (λ report. IsDue by.now.all rules schema_text file report.outcome report.text.items) }
     ensures schema_bounded { IfOk result (λ _. (schema_text : List ℕ) → S.remaining schema_in.old ≡ Some schema_text → length schema_text ≤ most_schema_bytes) }
     ensures file_bounded { IfOk result (λ report. report.outcome ≡ Complete ⊎ report.outcome ≡ Faulty → (file : List ℕ) → F.remaining file_in.old ≡ Some file → length file ≤ most_file_bytes) }
     ensures unread { (schema_text : List ℕ) → S.remaining schema_in.old ≡ Some schema_text → HasNoReading schema_text ⊎ (most_schema_bytes < length schema_text) → file_in.new ≡ file_in.old }
@@ -87,7 +91,7 @@ fn report<R: Threads + Wait + Sync, G: Gate + Sync, S: Source, F: Source>(
 {
     let schema_text = read_bounded(alloc, schema_in, SCHEMA_BOUNDS)?;
     match read_declarations(alloc, schema_text.as_slice()) {
-        Ok(declarations) => report_against(rt, alloc, declarations, file_in, by),
+        Ok(declarations) => report_against(rt, alloc, declarations, file_in, by, rules),
         Err(error) => Ok(report_of_refusal(alloc, error)?),
     }
 }
@@ -99,14 +103,15 @@ fn report_against<R: Threads + Wait + Sync, G: Gate + Sync, F: Source>(
     declarations: Declarations,
     file_in: &mut F,
     by: &Lanes<'_, G>,
+    rules: Rules,
 ) -> Result<Report, InputError>
     requires { IsWellFormed (plain_schema declarations) }
-    ensures due { (file : List ℕ) → F.remaining file_in.old ≡ Some file → IfOk result (λ report. IsReport by.now.all (plain_schema declarations) file report.outcome report.text.items) }
+    ensures due { (file : List ℕ) → F.remaining file_in.old ≡ Some file → IfOk result (λ report. IsReport by.now.all (with_rules (plain_schema declarations) rules) file report.outcome report.text.items) }
     ensures bounded { IfOk result (λ _. (file : List ℕ) → F.remaining file_in.old ≡ Some file → length file ≤ most_file_bytes) }
     ensures failed { F.failed file_in.old ≡ false → F.failed file_in.new ≡ true → result ≡ Err Failed }
     ensures cause { result ≡ Err Failed → F.marked file_in.new ≡ false → (file : List ℕ) → F.remaining file_in.old ≡ Some file → most_calls ≤ length file }
 {
-    let schema = Schema::build(alloc, declarations)?;
+    let schema = Schema::build(alloc, declarations, rules)?;
     report_of_source(rt, alloc, &schema, file_in, by)
 }
 

@@ -1,7 +1,7 @@
 //! Runs over readers and writers that fail, are interrupted, or move few bytes a call; and over those of the standard library in
 //! memory.
 
-ghost use Rattle.std.specs.Prelude.{◌≡◌, ℕ, List, Some};
+ghost use Rattle.std.specs.Prelude.{◌≡◌, ℕ, List, Some, false};
 ghost use Rattle.p21_run.specs.Due.{Writes};
 ghost use Rattle.p21_run.specs.Stream.{inner_of};
 
@@ -10,6 +10,7 @@ use p21_crew::OpenGate;
 use p21_desk::LaneCount;
 use p21_lanes::Capacity;
 use p21_run::{Outcome, Sink, Source, Stream, run};
+use p21_schema::Rules;
 use std::alloc::Global;
 use std::sync::Wait;
 use std::test::Fail;
@@ -30,11 +31,20 @@ fn run_by_two<R: Threads + Wait + Sync, S: Source, F: Source, K: Sink>(
     file_in: &mut F,
     out: &mut K,
 ) -> Outcome
-    ensures { (schema_text file : List ℕ) → S.remaining schema_in.old ≡ Some schema_text → F.remaining file_in.old ≡ Some file → Writes schema_text file result (K.taken out.old) (K.taken out.new) }
+    ensures { (schema_text file : List ℕ) → S.remaining schema_in.old ≡ Some schema_text → F.remaining file_in.old ≡ Some file → Writes false (record { distinct = false }) schema_text file result (K.taken out.old) (K.taken out.new) }
 {
     match (LaneCount::new(2), Capacity::new(1)) {
         (Some(lanes), Some(capacity)) => run(
-            rt, alloc, &OpenGate, schema_in, file_in, out, lanes, capacity,
+            rt,
+            alloc,
+            &OpenGate,
+            schema_in,
+            file_in,
+            out,
+            lanes,
+            capacity,
+            false,
+            Rules { distinct: false },
         ),
         _ => Outcome::Memory,
     }
@@ -178,7 +188,7 @@ fn run_in_memory<R: Threads + Wait + Sync>(
     file: &[u8],
     out: &mut Stream<Vec<u8>>,
 ) -> Outcome
-    ensures { Writes schema.now file.now result (Some (inner_of out.old).items) (Some (inner_of out.new).items) }
+    ensures { Writes false (record { distinct = false }) schema.now file.now result (Some (inner_of out.old).items) (Some (inner_of out.new).items) }
 {
     let mut schema = Stream::new(schema);
     let mut file = Stream::new(file);

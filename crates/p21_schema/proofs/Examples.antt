@@ -35,7 +35,7 @@ abbrev measure : Defined
 measure = record { name = codes "MEASURE"; under = plain integer }
 
 abbrev small : Schema
-small = record { name = codes "SMALL"; entities = base ∷ left ∷ right ∷ both ∷ []; types = length_type ∷ measure ∷ [] }
+small = record { name = codes "SMALL"; entities = base ∷ left ∷ right ∷ both ∷ []; types = length_type ∷ measure ∷ []; distinct = false }
 
 abbrev origin : List ℕ → List ℕ → Origin
 origin e n = record { entity = e; name = n }

@@ -1,5 +1,6 @@
 pub mod Members
 pub mod NameLemmas
+pub mod RuleLemmas
 pub mod GraphLemmas
 pub mod ReachLemmas
 pub mod TransposeLemmas

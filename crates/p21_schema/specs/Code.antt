@@ -14,28 +14,28 @@ bounds_code = code_by (Option ℤ × Option ℤ) (coded× (coded_option coded_�
 
 -- an ARRAY; LIST; SET; BAG
 abbrev AggregateCases : Type 0
-AggregateCases = (Bounds × Bool) ⊎ (Bounds ⊎ (Bounds ⊎ Bounds))
+AggregateCases = (Bounds × Bool) ⊎ ((Bounds × Bool) ⊎ (Bounds ⊎ Bounds))
 
 abbrev aggregate_cases : Aggregate → AggregateCases
 aggregate_cases (array b o) = inl (b, o)
-aggregate_cases (list b) = inr (inl b)
+aggregate_cases (list b u) = inr (inl (b, u))
 aggregate_cases (set b) = inr (inr (inl b))
 aggregate_cases (bag b) = inr (inr (inr b))
 
 abbrev from_aggregate_cases : AggregateCases → Aggregate
 from_aggregate_cases (inl p) = array p.0 p.1
-from_aggregate_cases (inr (inl b)) = list b
+from_aggregate_cases (inr (inl p)) = list p.0 p.1
 from_aggregate_cases (inr (inr (inl b))) = set b
 from_aggregate_cases (inr (inr (inr b))) = bag b
 
 pub aggregate_there : (a : Aggregate) → from_aggregate_cases (aggregate_cases a) ≡ a
 aggregate_there (array b o) = refl
-aggregate_there (list b) = refl
+aggregate_there (list b u) = refl
 aggregate_there (set b) = refl
 aggregate_there (bag b) = refl
 
 abbrev pub aggregate_code : Coded Aggregate
-aggregate_code = code_by AggregateCases (coded⊎ (coded× bounds_code coded_bool) (coded⊎ bounds_code (coded⊎ bounds_code bounds_code))) aggregate_cases from_aggregate_cases aggregate_there
+aggregate_code = code_by AggregateCases (coded⊎ (coded× bounds_code coded_bool) (coded⊎ (coded× bounds_code coded_bool) (coded⊎ bounds_code bounds_code))) aggregate_cases from_aggregate_cases aggregate_there
 
 -- what stands below the aggregates of a type: a number for a word alone, a width, a width, a name
 abbrev Leaf : Type 0
@@ -140,4 +140,4 @@ abbrev type_code : Coded Defined
 type_code = code_by (List ℕ × Underlying) (coded× name_code under_code) (λ t. (t.name, t.under)) (λ p. record { name = p.0; under = p.1 }) (λ _. refl)
 
 abbrev pub schema_code : Coded Schema
-schema_code = code_by (List ℕ × (List Entity × List Defined)) (coded× name_code (coded× (coded_list entity_code) (coded_list type_code))) (λ s. (s.name, (s.entities, s.types))) (λ p. record { name = p.0; entities = p.1.0; types = p.1.1 }) (λ _. refl)
+schema_code = code_by (List ℕ × (List Entity × (List Defined × Bool))) (coded× name_code (coded× (coded_list entity_code) (coded× (coded_list type_code) coded_bool))) (λ s. (s.name, (s.entities, (s.types, s.distinct)))) (λ p. record { name = p.0; entities = p.1.0; types = p.1.1.0; distinct = p.1.1.1 }) (λ _. refl)

@@ -11,6 +11,7 @@ use Rattle.p21_schema.specs.Graph.{rows_of}
 use Rattle.p21_schema.specs.Place.{no_entity}
 use Rattle.p21_schema.specs.Row.{attributes_of, no_attribute}
 use Rattle.p21_schema.specs.RowTable.{IsOwnTable}
+use Rattle.p21_schema.specs.Rules.{with_rules}
 
 -- the declarations of an attribute among those of a list
 pub record AreAmong (s : Schema) (o : Origin) (ws : List Written) (ds : List Coded) : Type 0 where
@@ -43,10 +44,14 @@ pub record IsOriginAt (s : Schema) (of n : List ℕ) (i : ℕ) : Type 0 where
 abbrev pub IsDeclared : Schema → Written → Option ℕ → Type 0
 IsDeclared s w place = MatchOption place ((o : Origin) → IsIn (attributes_of s.entities) o → ¬ (Declares s o w)) (λ i. (i < length (attributes_of s.entities)) × Declares s (get_or (attributes_of s.entities) i no_attribute) w)
 
+-- the schema that is looked up in
+abbrev pub known_schema : Known → Schema
+known_schema k = with_rules (plain_schema k.declarations.now) k.rules
+
 -- what is looked up in is the schema's, which fits together
 pub record IsFitting (k : Known) : Type 0 where
-  pub well_formed : IsWellFormed (plain_schema k.declarations.now)
-  pub entities : k.entities.now ≡ map (λ e. e.name) (plain_schema k.declarations.now).entities
-  pub types : k.types.now ≡ map (λ t. t.name) (plain_schema k.declarations.now).types
-  pub ancestors : IsAncestorTable (plain_schema k.declarations.now) (rows_of k.ancestors.now)
-  pub own : IsOwnTable (plain_schema k.declarations.now) k.own.now
+  pub well_formed : IsWellFormed (known_schema k)
+  pub entities : k.entities.now ≡ map (λ e. e.name) (known_schema k).entities
+  pub types : k.types.now ≡ map (λ t. t.name) (known_schema k).types
+  pub ancestors : IsAncestorTable (known_schema k) (rows_of k.ancestors.now)
+  pub own : IsOwnTable (known_schema k) k.own.now

@@ -1,4 +1,5 @@
 pub mod Code
+pub mod Rules
 pub mod Place
 pub mod Graph
 pub mod Ancestry

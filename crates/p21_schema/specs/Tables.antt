@@ -1,9 +1,11 @@
 -- The tables of a schema belong to its declarations.
 use Rattle.std.specs.Prelude.{◌≡◌, map}
 use Rattle.p21_express.specs.Plain.{plain_schema}
+use Rattle.p21_express.specs.Schema.{Schema}
 use Rattle.p21_express.specs.WellFormed.{IsWellFormed}
 use Rattle.p21_schema.specs.declared.schema.Schema.TheInside.{Inside}
 use Rattle.p21_schema.specs.Graph.{rows_of}
+use Rattle.p21_schema.specs.Rules.{with_rules}
 use Rattle.p21_schema.specs.RowTable.{IsOwnTable, IsRowTable}
 use Rattle.p21_schema.specs.Under.{AreEnds, AreResolved}
 use Rattle.p21_schema.specs.Ancestry.{IsSupertypeTable, IsAncestorTable}
@@ -11,16 +13,20 @@ use Rattle.p21_schema.specs.Declaration.{written}
 use Rattle.p21_schema.specs.DeclarationTable.{IsDeclarationTable}
 use Rattle.p21_schema.specs.SelectTable.{AreSelectTables, IsAdmitTable}
 
+-- the schema that the tables are of
+abbrev pub schema_of : Inside → Schema
+schema_of a = with_rules (plain_schema a.declarations) a.rules
+
 pub record AreTables (a : Inside) : Type 0 where
-  pub well_formed : IsWellFormed (plain_schema a.declarations)
-  pub names : a.entity_names ≡ map (λ e. e.name) (plain_schema a.declarations).entities
-  pub types : a.type_names ≡ map (λ t. t.name) (plain_schema a.declarations).types
-  pub supertypes : IsSupertypeTable (plain_schema a.declarations) (rows_of a.supertypes)
-  pub ancestors : IsAncestorTable (plain_schema a.declarations) (rows_of a.ancestors)
-  pub own : IsOwnTable (plain_schema a.declarations) a.own.items
-  pub rows : IsRowTable (plain_schema a.declarations) (rows_of a.rows)
-  pub attributes : IsDeclarationTable (plain_schema a.declarations) (written (plain_schema a.declarations).entities) (rows_of a.attributes)
-  pub ends : AreEnds (plain_schema a.declarations) a.ends.items
-  pub resolved : AreResolved (map (λ e. e.name) (plain_schema a.declarations).entities) (map (λ t. t.name) (plain_schema a.declarations).types) a.unders.items (plain_schema a.declarations).types
-  pub selects : AreSelectTables (plain_schema a.declarations) a.selects
-  pub admitting : IsAdmitTable (plain_schema a.declarations) (rows_of a.admitting)
+  pub well_formed : IsWellFormed (schema_of a)
+  pub names : a.entity_names ≡ map (λ e. e.name) (schema_of a).entities
+  pub types : a.type_names ≡ map (λ t. t.name) (schema_of a).types
+  pub supertypes : IsSupertypeTable (schema_of a) (rows_of a.supertypes)
+  pub ancestors : IsAncestorTable (schema_of a) (rows_of a.ancestors)
+  pub own : IsOwnTable (schema_of a) a.own.items
+  pub rows : IsRowTable (schema_of a) (rows_of a.rows)
+  pub attributes : IsDeclarationTable (schema_of a) (written (schema_of a).entities) (rows_of a.attributes)
+  pub ends : AreEnds (schema_of a) a.ends.items
+  pub resolved : AreResolved (map (λ e. e.name) (schema_of a).entities) (map (λ t. t.name) (schema_of a).types) a.unders.items (schema_of a).types
+  pub selects : AreSelectTables (schema_of a) a.selects
+  pub admitting : IsAdmitTable (schema_of a) (rows_of a.admitting)

@@ -1,11 +1,11 @@
 //! The declarations of each attribute.
 
 ghost use Rattle.std.specs.Prelude.{◌≡◌, ◌<◌, ◌↔◌, ◌++◌, ◌∷◌, ℕ, List, [], length, get_or, map, set, IfOk, OnOk, IsTrue, MatchOption};
-ghost use Rattle.p21_express.specs.Plain.{plain_schema, plain_entity, plain_attribute, plain_derived};
+ghost use Rattle.p21_express.specs.Plain.{plain_entity, plain_attribute, plain_derived};
+ghost use Rattle.p21_schema.specs.DeclarationTable.{known_schema, IsNotOwn, IsOwnAt, IsOriginAt, IsDeclared, IsDeclarationTable, IsFitting};
 ghost use Rattle.p21_express.specs.WellFormed.{IsIn, IsEntity, IsOrigin, Origin, new_explicit};
 ghost use Rattle.p21_schema.specs.Ancestry.{entity_id, IsA};
 ghost use Rattle.p21_schema.specs.Declaration.{Written, written_explicit, written_derived, explicit_in, derived_in, written};
-ghost use Rattle.p21_schema.specs.DeclarationTable.{IsNotOwn, IsOwnAt, IsOriginAt, IsDeclared, IsDeclarationTable, IsFitting};
 ghost use Rattle.p21_schema.specs.Graph.{rows_of};
 ghost use Rattle.p21_schema.specs.Place.{no_entity};
 ghost use Rattle.p21_schema.specs.Row.{attributes_of};
@@ -14,6 +14,7 @@ use crate::ids::EntityId;
 use crate::names::Names;
 use crate::resolved::{ResolvedExpr, resolve};
 use crate::rows::Own;
+use crate::rules::Rules;
 use p21_express::{AttrDecl, Declarations, DeriveDecl, EntityDecl};
 use std::alloc::{AllocError, Global};
 
@@ -42,6 +43,7 @@ pub struct Declaration {
 #[derive(Clone, Copy)]
 pub(crate) struct Known<'a> {
     pub(crate) declarations: &'a Declarations,
+    pub(crate) rules: Rules,
     pub(crate) entities: &'a Names,
     pub(crate) types: &'a Names,
     pub(crate) ancestors: &'a Vec<Vec<bool>>,
@@ -67,8 +69,8 @@ fn own_position(entity: &EntityDecl, name: &[u8]) -> Option<usize>
 /// The attribute of this name that an entity newly declares as an explicit one.
 fn own_attribute(known: &Known, entity: usize, name: &[u8]) -> Option<usize>
     requires known { IsFitting known.now }
-    requires entity { entity < length (plain_schema known.now.declarations.now).entities }
-    ensures { MatchOption result (IsNotOwn (plain_schema known.now.declarations.now) entity name.now) (λ i. IsOwnAt (plain_schema known.now.declarations.now) entity name.now i) }
+    requires entity { entity < length (known_schema known.now).entities }
+    ensures { MatchOption result (IsNotOwn (known_schema known.now) entity name.now) (λ i. IsOwnAt (known_schema known.now) entity name.now i) }
 {
     let position = own_position(&known.declarations.entities[entity], name)?;
     let own = known.own[entity];
@@ -78,9 +80,9 @@ fn own_attribute(known: &Known, entity: usize, name: &[u8]) -> Option<usize>
 /// Whether the first entity is the second, or has it as an ancestor.
 fn is_over(known: &Known, entity: usize, other: usize) -> bool
     requires known { IsFitting known.now }
-    requires entity { entity < length (plain_schema known.now.declarations.now).entities }
-    requires other { other < length (plain_schema known.now.declarations.now).entities }
-    ensures { IsTrue result ↔ IsA (plain_schema known.now.declarations.now) (entity_id entity) (entity_id other) }
+    requires entity { entity < length (known_schema known.now).entities }
+    requires other { other < length (known_schema known.now).entities }
+    ensures { IsTrue result ↔ IsA (known_schema known.now) (entity_id entity) (entity_id other) }
 {
     entity == other || known.ancestors[entity][other]
 }
@@ -88,8 +90,8 @@ fn is_over(known: &Known, entity: usize, other: usize) -> bool
 /// The attribute of this name that an entity or an ancestor of it newly declares as an explicit one.
 fn attribute_above(known: &Known, entity: usize, name: &[u8]) -> Option<usize>
     requires known { IsFitting known.now }
-    requires entity { entity < length (plain_schema known.now.declarations.now).entities }
-    ensures { MatchOption result ((d : ℕ) → d < length (plain_schema known.now.declarations.now).entities → IsA (plain_schema known.now.declarations.now) (entity_id entity) (entity_id d) → IsNotOwn (plain_schema known.now.declarations.now) d name.now) (λ i. (d : ℕ) × ((d < length (plain_schema known.now.declarations.now).entities) × (IsA (plain_schema known.now.declarations.now) (entity_id entity) (entity_id d) × IsOwnAt (plain_schema known.now.declarations.now) d name.now i))) }
+    requires entity { entity < length (known_schema known.now).entities }
+    ensures { MatchOption result ((d : ℕ) → d < length (known_schema known.now).entities → IsA (known_schema known.now) (entity_id entity) (entity_id d) → IsNotOwn (known_schema known.now) d name.now) (λ i. (d : ℕ) × ((d < length (known_schema known.now).entities) × (IsA (known_schema known.now) (entity_id entity) (entity_id d) × IsOwnAt (known_schema known.now) d name.now i))) }
 {
     for owner in 0..known.declarations.entities.len() {
         if is_over(known, entity, owner) {
@@ -104,8 +106,8 @@ fn attribute_above(known: &Known, entity: usize, name: &[u8]) -> Option<usize>
 /// The attribute that SELF\of.name declares again.
 fn again(known: &Known, of: &[u8], name: &[u8]) -> Option<usize>
     requires known { IsFitting known.now }
-    requires of { IsEntity (plain_schema known.now.declarations.now) of.now }
-    ensures { MatchOption result ((o : Origin) → IsIn (attributes_of (plain_schema known.now.declarations.now).entities) o → o.name ≡ name.now → ¬ (IsOrigin (plain_schema known.now.declarations.now) of.now name.now o.entity)) (λ i. IsOriginAt (plain_schema known.now.declarations.now) of.now name.now i) }
+    requires of { IsEntity (known_schema known.now) of.now }
+    ensures { MatchOption result ((o : Origin) → IsIn (attributes_of (known_schema known.now).entities) o → o.name ≡ name.now → ¬ (IsOrigin (known_schema known.now) of.now name.now o.entity)) (λ i. IsOriginAt (known_schema known.now) of.now name.now i) }
 {
     attribute_above(known, known.entities.known(of), name)
 }
@@ -113,9 +115,9 @@ fn again(known: &Known, of: &[u8], name: &[u8]) -> Option<usize>
 /// The attribute that an explicit declaration declares.
 fn explicit_attribute(known: &Known, entity: usize, attribute: &AttrDecl) -> Option<usize>
     requires known { IsFitting known.now }
-    requires entity { entity < length (plain_schema known.now.declarations.now).entities }
-    requires attribute { IsIn (get_or (plain_schema known.now.declarations.now).entities entity no_entity).attributes (plain_attribute attribute.now) }
-    ensures { IsDeclared (plain_schema known.now.declarations.now) (written_explicit (get_or (plain_schema known.now.declarations.now).entities entity no_entity).name (plain_attribute attribute.now)) result }
+    requires entity { entity < length (known_schema known.now).entities }
+    requires attribute { IsIn (get_or (known_schema known.now).entities entity no_entity).attributes (plain_attribute attribute.now) }
+    ensures { IsDeclared (known_schema known.now) (written_explicit (get_or (known_schema known.now).entities entity no_entity).name (plain_attribute attribute.now)) result }
 {
     match &attribute.of {
         None => own_attribute(known, entity, &attribute.name),
@@ -126,9 +128,9 @@ fn explicit_attribute(known: &Known, entity: usize, attribute: &AttrDecl) -> Opt
 /// The explicit attribute that a declaration in DERIVE declares again.
 fn derived_attribute(known: &Known, entity: usize, derived: &DeriveDecl) -> Option<usize>
     requires known { IsFitting known.now }
-    requires entity { entity < length (plain_schema known.now.declarations.now).entities }
-    requires derived { IsIn (get_or (plain_schema known.now.declarations.now).entities entity no_entity).derived (plain_derived derived.now) }
-    ensures { IsDeclared (plain_schema known.now.declarations.now) (written_derived (get_or (plain_schema known.now.declarations.now).entities entity no_entity).name (plain_derived derived.now)) result }
+    requires entity { entity < length (known_schema known.now).entities }
+    requires derived { IsIn (get_or (known_schema known.now).entities entity no_entity).derived (plain_derived derived.now) }
+    ensures { IsDeclared (known_schema known.now) (written_derived (get_or (known_schema known.now).entities entity no_entity).name (plain_derived derived.now)) result }
 {
     match &derived.of {
         None => None,
@@ -157,9 +159,9 @@ fn add_explicit(
     lists: &mut Vec<Vec<Declaration>>,
 ) -> Result<(), AllocError>
     requires known { IsFitting known.now }
-    requires entity { entity < length (plain_schema known.now.declarations.now).entities }
-    requires count { length (rows_of lists.old) ≡ length (attributes_of (plain_schema known.now.declarations.now).entities) }
-    ensures table { OnOk result ((ws : List Written) → IsDeclarationTable (plain_schema known.now.declarations.now) ws (rows_of lists.old) → IsDeclarationTable (plain_schema known.now.declarations.now) (ws ++ explicit_in (get_or (plain_schema known.now.declarations.now).entities entity no_entity)) (rows_of lists.new)) }
+    requires entity { entity < length (known_schema known.now).entities }
+    requires count { length (rows_of lists.old) ≡ length (attributes_of (known_schema known.now).entities) }
+    ensures table { OnOk result ((ws : List Written) → IsDeclarationTable (known_schema known.now) ws (rows_of lists.old) → IsDeclarationTable (known_schema known.now) (ws ++ explicit_in (get_or (known_schema known.now).entities entity no_entity)) (rows_of lists.new)) }
     ensures count { OnOk result (length (rows_of lists.new) ≡ length (rows_of lists.old)) }
 {
     for attribute in &known.declarations.entities[entity].attributes {
@@ -181,9 +183,9 @@ fn add_derived(
     lists: &mut Vec<Vec<Declaration>>,
 ) -> Result<(), AllocError>
     requires known { IsFitting known.now }
-    requires entity { entity < length (plain_schema known.now.declarations.now).entities }
-    requires count { length (rows_of lists.old) ≡ length (attributes_of (plain_schema known.now.declarations.now).entities) }
-    ensures table { OnOk result ((ws : List Written) → IsDeclarationTable (plain_schema known.now.declarations.now) ws (rows_of lists.old) → IsDeclarationTable (plain_schema known.now.declarations.now) (ws ++ derived_in (get_or (plain_schema known.now.declarations.now).entities entity no_entity)) (rows_of lists.new)) }
+    requires entity { entity < length (known_schema known.now).entities }
+    requires count { length (rows_of lists.old) ≡ length (attributes_of (known_schema known.now).entities) }
+    ensures table { OnOk result ((ws : List Written) → IsDeclarationTable (known_schema known.now) ws (rows_of lists.old) → IsDeclarationTable (known_schema known.now) (ws ++ derived_in (get_or (known_schema known.now).entities entity no_entity)) (rows_of lists.new)) }
     ensures count { OnOk result (length (rows_of lists.new) ≡ length (rows_of lists.old)) }
 {
     for derived in &known.declarations.entities[entity].derived {
@@ -203,9 +205,9 @@ pub(crate) fn all_declarations(
     lists: Vec<Vec<Declaration>>,
 ) -> Result<Vec<Vec<Declaration>>, AllocError>
     requires known { IsFitting known.now }
-    requires count { length (rows_of lists) ≡ length (attributes_of (plain_schema known.now.declarations.now).entities) }
+    requires count { length (rows_of lists) ≡ length (attributes_of (known_schema known.now).entities) }
     requires empty { (i : ℕ) → get_or (rows_of lists) i [] ≡ [] }
-    ensures { IfOk result (λ table. IsDeclarationTable (plain_schema known.now.declarations.now) (written (plain_schema known.now.declarations.now).entities) (rows_of table)) }
+    ensures { IfOk result (λ table. IsDeclarationTable (known_schema known.now) (written (known_schema known.now).entities) (rows_of table)) }
 {
     let mut lists = lists;
     for entity in 0..known.declarations.entities.len() {

@@ -38,6 +38,8 @@ pub enum ResolvedExpr {
     },
     List {
         bounds: Bounds,
+        /// Whether UNIQUE stands behind OF: no two elements may be equal.
+        unique: bool,
         item: Box<ResolvedExpr>,
     },
     Set {
@@ -102,8 +104,13 @@ pub(crate) fn resolve(
             optional: *optional,
             item: Box::new(alloc, resolve(alloc, entities, types, item)?)?,
         },
-        TypeExpr::List { bounds, item } => ResolvedExpr::List {
+        TypeExpr::List {
+            bounds,
+            unique,
+            item,
+        } => ResolvedExpr::List {
             bounds: *bounds,
+            unique: *unique,
             item: Box::new(alloc, resolve(alloc, entities, types, item)?)?,
         },
         TypeExpr::Set { bounds, item } => ResolvedExpr::Set {

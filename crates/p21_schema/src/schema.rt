@@ -9,15 +9,17 @@ use crate::ids::{AttrId, EntityId, TypeId};
 use crate::names::{Names, entity_names, type_names};
 use crate::resolved::Resolved;
 use crate::rows::{Own, own_attributes, rows};
+use crate::rules::Rules;
 use crate::selects::{Selects, admitting, select_tables};
 use crate::under::{resolved, type_ends};
 use p21_express::Declarations;
 use std::alloc::{AllocError, Global};
 use std::marker::Model;
 
-/// A schema whose declarations fit together, as a table.
+/// A schema whose declarations fit together, as a table, and the rules under which it is checked.
 pub struct Schema {
     declarations: Declarations,
+    rules: Rules,
     entity_names: Names,
     type_names: Names,
     supertypes: Vec<Vec<EntityId>>,
@@ -39,13 +41,14 @@ impl Model for Schema {
     ghost use Rattle.p21_express.specs.Schema.{Schema as Declared};
     ghost use Rattle.p21_express.specs.Plain.{plain_schema};
     ghost use Rattle.p21_schema.specs.Code.{schema_code};
+    ghost use Rattle.p21_schema.specs.Rules.{with_rules};
     ghost use Rattle.p21_schema.specs.Tables.{AreTables};
 
     ghost Value = { Declared };
 
     ghost coded = { schema_code };
 
-    ghost view = { λ a. plain_schema a.declarations };
+    ghost view = { λ a. with_rules (plain_schema a.declarations) a.rules };
 
     ghost invariant = { AreTables };
 }
@@ -55,6 +58,7 @@ impl Drop for Schema {
     fn drop(self) {
         let Self {
             declarations: _,
+            rules: _,
             entity_names: _,
             type_names: _,
             supertypes: _,
@@ -82,12 +86,17 @@ impl Schema {
     ghost use Rattle.p21_schema.specs.Ancestry.{NameEntities, IsA};
     ghost use Rattle.p21_schema.specs.Row.{IsRow, IsAttributeOf, attribute_at, own_attributes};
     ghost use Rattle.p21_schema.specs.Declaration.{Declaration as Declared, AreDeclarations, AreResolvedIn};
+    ghost use Rattle.p21_schema.specs.Rules.{with_rules};
     ghost use Rattle.p21_schema.specs.Select.{SelectReaches, ReachesA, ReachesType, ReachesEntity};
 
-    /// The table of declarations that fit together. It is refused for want of memory alone.
-    pub fn build(alloc: Global, declarations: Declarations) -> Result<Schema, AllocError>
+    /// The table of declarations that fit together, under these rules. It is refused for want of memory alone.
+    pub fn build(
+        alloc: Global,
+        declarations: Declarations,
+        rules: Rules,
+    ) -> Result<Schema, AllocError>
         requires { IsWellFormed (plain_schema declarations) }
-        ensures { IfOk result (λ schema. schema ≡ plain_schema declarations) }
+        ensures { IfOk result (λ schema. schema ≡ with_rules (plain_schema declarations) rules) }
     {
         let entity_names = entity_names(alloc, &declarations.entities)?;
         let graph = supertypes(alloc, &entity_names, &declarations.entities)?;
@@ -101,6 +110,7 @@ impl Schema {
         let unders = resolved(alloc, &entity_names, &type_names, &declarations.types)?;
         let known = Known {
             declarations: &declarations,
+            rules,
             entities: &entity_names,
             types: &type_names,
             ancestors: &ancestors,
@@ -111,6 +121,7 @@ impl Schema {
         let admitting = admitting(alloc, &selects.entities, &graph, &order)?;
         Ok(Schema {
             declarations,
+            rules,
             entity_names,
             type_names,
             supertypes,
@@ -146,6 +157,13 @@ impl Schema {
         ensures { result.now ≡ self.now.name }
     {
         &self.declarations.name
+    }
+
+    /// Whether a SET or a LIST OF UNIQUE may name no instance twice, by the rules of `build`.
+    pub fn distinct(&self) -> bool
+        ensures { result ≡ self.now.distinct }
+    {
+        self.rules.distinct
     }
 
     /// The entity of this name, or `None` where there is none.

@@ -3,7 +3,7 @@ ghost use Rattle.p21_schema.specs.Place.{IsEntityOf, IsTypeOf};
 ghost use Rattle.p21_schema.specs.Row.{IsAttributeOf};
 
 use p21_express::{SchemaError, read_declarations};
-use p21_schema::{AttrId, EntityId, Form, Resolved, ResolvedExpr, Schema, Target, TypeId};
+use p21_schema::{AttrId, EntityId, Form, Resolved, ResolvedExpr, Rules, Schema, Target, TypeId};
 use std::alloc::Global;
 use std::process::Abort;
 use std::test::*;
@@ -65,7 +65,7 @@ fn table(alloc: Global, text: &[u8]) -> Result<Schema, Fail> {
     let Ok(declarations) = read_declarations(alloc, text) else {
         return Err("a schema")?;
     };
-    Ok(Schema::build(alloc, declarations)?)
+    Ok(Schema::build(alloc, declarations, Rules::default())?)
 }
 
 /// The entity of this name.
@@ -465,7 +465,7 @@ fn memory_or_the_answer(rt: HostRuntime) -> Result<(), Fail> {
             return Ok(());
         }
     };
-    if let Ok(schema) = Schema::build(rt.alloc(), declarations) {
+    if let Ok(schema) = Schema::build(rt.alloc(), declarations, Rules { distinct: true }) {
         assert_eq!(rt; reach(&schema, b"A", b"E")?, (true, false, true));
         assert!(rt; admits(&schema, b"A", b"B")?);
         assert!(rt; has_row(&schema, b"B", &[(b"A", 0), (b"B", 0)])?);

@@ -43,6 +43,8 @@ pub enum FaultKind {
     MissingReference { rec: u64, attr: u64, name: u64 },
     /// The named instance is of none of the entities that are wanted there.
     WrongReference { rec: u64, attr: u64, name: u64 },
+    /// A list in a parameter that stands for a SET or a LIST OF UNIQUE has one instance name twice.
+    RepeatedReference { rec: u64, attr: u64 },
 }
 
 /// Why a text gave no tree.

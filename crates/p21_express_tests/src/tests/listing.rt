@@ -82,8 +82,15 @@ impl Page {
                 self.optional(*optional)?;
                 self.texpr(item)
             }
-            TypeExpr::List { bounds, item } => {
+            TypeExpr::List {
+                bounds,
+                unique,
+                item,
+            } => {
                 self.aggregate(b"LIST", *bounds)?;
+                if *unique {
+                    self.put(b"UNIQUE ")?;
+                }
                 self.texpr(item)
             }
             TypeExpr::Set { bounds, item } => {

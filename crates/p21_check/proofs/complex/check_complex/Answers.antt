@@ -2,7 +2,7 @@ use Rattle.std.proofs.Common.{sym, ◌∙◌}
 use Rattle.std.proofs.lemmas.Bool.{false≢true}
 use Rattle.p21_check.specs.LocalFault.{IsBadComplex}
 use Rattle.p21_check.specs.Instances.{complex_instance}
-use Rattle.p21_check.proofs.LocalLemmas.{unknown_entity, bad_complex, wrong_count, bad_attribute, no_fault}
+use Rattle.p21_check.proofs.LocalLemmas.{unknown_entity, bad_complex, wrong_count, bad_attribute, distinct_answer}
 use Rattle.p21_check.proofs.ComplexLemmas.{complex_unknown, complex_known, complex_concrete}
 use Rattle.p21_check.proofs.complex.check_complex.Goals as goal
 
@@ -51,4 +51,4 @@ returns-in-None c = λ name at.
     let known = complex_known s name at rs (c.has_unknown.ensures.none c.if-has_unknown.false) in
     let concrete = complex_concrete s name at rs in
     let whole : ¬ (IsBadComplex s i) = λ h. false≢true (sym c.if-is_bad_complex.false ∙ (c.is_bad_complex.ensures name at).1 h) in
-    no_fault s i known concrete whole (c.in_default.ensures.wrong name at) (c.in-None.ensures name at)
+    distinct_answer s i known concrete whole (c.in_default.ensures.wrong name at) (c.in-None.ensures name at) c.check_complex_distinct.result (c.check_complex_distinct.ensures name at)

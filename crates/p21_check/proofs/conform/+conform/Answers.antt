@@ -51,7 +51,7 @@ conforms-is_array-requires t c =
 pub conforms-is_collection-requires : goal.conforms-is_collection-requires
 conforms-is_collection-requires t c =
     let some = rank_least c.args.schema.now c.args.texpr.now in
-    (omega arith, (subst (IsKnownExpr c.args.schema.now) (sym c.deref-in-List.ensures) (known_list c.args.schema.now c.args.texpr.now _ _ c.requires.known c.in-List.is), c.requires.bodies))
+    (omega arith, (subst (IsKnownExpr c.args.schema.now) (sym c.deref-in-List.ensures) (known_list c.args.schema.now c.args.texpr.now _ _ _ c.requires.known c.in-List.is), c.requires.bodies))
 
 pub conforms-is_collection-requires-in-Set : goal.conforms-is_collection-requires-in-Set
 conforms-is_collection-requires-in-Set t c =

@@ -12,7 +12,7 @@ use Rattle.p21_check.specs.Sets.{HasEntity}
 use Rattle.p21_check.specs.Instances.{simple_instance, IsFirstUnfit}
 use Rattle.p21_check.proofs.SetLemmas.{is_entity}
 use Rattle.p21_check.proofs.ElementLemmas.{count_all}
-use Rattle.p21_check.proofs.LocalLemmas.{abstract_entity, wrong_count, bad_attribute, no_fault}
+use Rattle.p21_check.proofs.LocalLemmas.{abstract_entity, wrong_count, bad_attribute, distinct_answer}
 use Rattle.p21_check.proofs.InstanceLemmas.{abstract_by, wrong_at, not_wrong_at, bad_at, unfit_at, unfit_along, simple_known, simple_abstract, simple_concrete, simple_whole, simple_counted, simple_fit, simple_set}
 use Rattle.p21_check.proofs.local.check_simple.Goals as goal
 
@@ -84,4 +84,11 @@ returns-in-None c = λ name at.
     let S = HasEntity s (set.Simple id) in
     let there = simple_set s name at e id c.requires.entity c.requires.named in
     let fit = subst (λ (l : List Param). IsFirstUnfit s S count.0 (plain_all l) None) c.as_slice.ensures (c.in-None.ensures count.0 count.1.0) in
-    no_fault s i known concrete whole counted (simple_fit s name at e (λ b bad. fit b (unfit_along s (IsInSet s i) S count.0 e.params b (λ n. ((there n).1, (there n).0)) (unfit_at s c.fits.ensures i 0 e refl count.0 are b bad))))
+    let fits = simple_fit s name at e (λ b bad. fit b (unfit_along s (IsInSet s i) S count.0 e.params b (λ n. ((there n).1, (there n).0)) (unfit_at s c.fits.ensures i 0 e refl count.0 are b bad))) in
+    distinct_answer s i known concrete whole counted fits c.check_simple_distinct.result (c.check_simple_distinct.ensures name at)
+
+pub check_simple_distinct-requires-clause-count : goal.check_simple_distinct-requires-clause-count
+check_simple_distinct-requires-clause-count c =
+    let count = c.attribute_count.ensures in
+    let long : c.len.result ≡ length c.args.entry.now.params = c.len.ensures in
+    (count.0, (count.1.0, sym long ∙ sym c.if-attribute_count-len.false ∙ count.1.1))

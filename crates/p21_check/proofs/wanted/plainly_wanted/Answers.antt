@@ -11,7 +11,7 @@ returns-in-Array c s x e no_name =
     elim c.in-Array.is [
       | inl h ↦ asked_elements s x (array h.0 h.1) c.deref.result v c.deref.ensures (sym (array_names s h.0 h.1 c.in-Array.item) ∙ ap (by_names s) (sym h.2) ∙ e)
       | inr k ↦ elim k [
-        | inl h ↦ asked_elements s x (list h.0) c.deref.result v c.deref.ensures (sym (list_names s h.0 c.in-Array.item) ∙ ap (by_names s) (sym h.1) ∙ e)
+        | inl h ↦ asked_elements s x (list h.0 h.1) c.deref.result v c.deref.ensures (sym (list_names s h.0 h.1 c.in-Array.item) ∙ ap (by_names s) (sym h.2) ∙ e)
         | inr m ↦ elim m [
           | inl h ↦ asked_elements s x (set h.0) c.deref.result v c.deref.ensures (sym (set_names s h.0 c.in-Array.item) ∙ ap (by_names s) (sym h.1) ∙ e)
           | inr h ↦ asked_elements s x (bag h.0) c.deref.result v c.deref.ensures (sym (bag_names s h.0 c.in-Array.item) ∙ ap (by_names s) (sym h.1) ∙ e)

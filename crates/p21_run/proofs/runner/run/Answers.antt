@@ -4,11 +4,11 @@ use Rattle.p21_run.proofs.DueLemmas.{written, never_due}
 use Rattle.p21_run.proofs.runner.run.Goals as goal
 
 pub returns-in-Ok-write_bounded-clause-written : goal.returns-in-Ok-write_bounded-clause-written
-returns-in-Ok-write_bounded-clause-written g c schema_text file s f = written c.args.all schema_text file c.in-Ok.report.text.items c.in-Ok.report.outcome (g.K.Sink.taken c.args.out.now) (g.K.Sink.taken c.write_bounded.new.sink) (c.in-Ok.ensures.due schema_text file s f)
+returns-in-Ok-write_bounded-clause-written g c schema_text file s f = written c.args.all c.args.rules schema_text file c.in-Ok.report.text.items c.in-Ok.report.outcome (g.K.Sink.taken c.args.out.now) (g.K.Sink.taken c.write_bounded.new.sink) (c.in-Ok.ensures.due schema_text file s f)
     (subst (Appends (g.K.Sink.taken c.args.out.now) (g.K.Sink.taken c.write_bounded.new.sink)) c.as_slice.ensures.value c.in-Ok-write_bounded.ensures.whole)
 
 pub returns-in-Ok-write_bounded-clause-cause : goal.returns-in-Ok-write_bounded-clause-cause
-returns-in-Ok-write_bounded-clause-cause g c is m n k schema_text file s f = absurd (never_due c.args.all schema_text file c.in-Ok.report.text.items c.in-Ok.report.outcome (c.in-Ok.ensures.due schema_text file s f) is)
+returns-in-Ok-write_bounded-clause-cause g c is m n k schema_text file s f = absurd (never_due c.args.all c.args.rules schema_text file c.in-Ok.report.text.items c.in-Ok.report.outcome (c.in-Ok.ensures.due schema_text file s f) is)
 
 pub returns-in-Ok-clause-written : goal.returns-in-Ok-clause-written
 returns-in-Ok-clause-written g c schema_text file s f =
@@ -20,7 +20,7 @@ returns-in-Ok-clause-cause g c is m n k schema_text file s f = inr (inr (c.in-Ok
 
 pub returns-in-Ok-write_bounded-clause-unwritten :
     goal.returns-in-Ok-write_bounded-clause-unwritten
-returns-in-Ok-write_bounded-clause-unwritten g c is k schema_text file s f = absurd (never_due c.args.all schema_text file c.in-Ok.report.text.items c.in-Ok.report.outcome (c.in-Ok.ensures.due schema_text file s f) is)
+returns-in-Ok-write_bounded-clause-unwritten g c is k schema_text file s f = absurd (never_due c.args.all c.args.rules schema_text file c.in-Ok.report.text.items c.in-Ok.report.outcome (c.in-Ok.ensures.due schema_text file s f) is)
 
 pub returns-in-Ok-clause-unwritten : goal.returns-in-Ok-clause-unwritten
 returns-in-Ok-clause-unwritten g c is k schema_text file s f = inr (c.in-Ok.report.outcome, c.in-Ok.report.text.items, c.in-Ok.ensures.due schema_text file s f, omega (arith, c.in-Err.ensures.cause k, ap length c.as_slice.ensures.value))

@@ -1,11 +1,11 @@
 use Rattle.std.proofs.Common.{◌≡◌, ◌<◌, ◌≤◌, ◌++◌, ◌∷◌, [], List, length, get_or, map, set, refl, sym, ap, subst, ◌∙◌}
 use Rattle.std.proofs.lemmas.List.{length-map, length-set, take_all}
 use Rattle.p21_express.specs.Schema.{Entity, Derived}
-use Rattle.p21_express.specs.Plain.{plain_schema, plain_entity, plain_derived}
+use Rattle.p21_express.specs.Plain.{plain_entity, plain_derived}
+use Rattle.p21_schema.specs.DeclarationTable.{known_schema, IsDeclarationTable}
 use Rattle.p21_express.specs.WellFormed.{IsIn}
 use Rattle.p21_schema.specs.declared.declarations.Form.TheVariants as form
 use Rattle.p21_schema.specs.Declaration.{Written, written_derived}
-use Rattle.p21_schema.specs.DeclarationTable.{IsDeclarationTable}
 use Rattle.p21_schema.specs.Graph.{rows_of}
 use Rattle.p21_schema.specs.Place.{no_entity}
 use Rattle.p21_schema.proofs.DeclarationLemmas.{item_at, item_in, step_same, step_more}
@@ -27,7 +27,7 @@ derived_attribute-requires-clause-derived c =
 
 pub loop-derived-preserved : goal.loop-derived-preserved
 loop-derived-preserved c =
-    let s = plain_schema c.args.known.now.declarations.now in
+    let s = known_schema c.args.known.now in
     let formed = c.requires.known.well_formed in
     let es = c.args.known.now.declarations.now.entities.items in
     let e = c.args.entity in
@@ -62,7 +62,7 @@ loop-derived-preserved c =
 
 pub returns-clause-table : goal.returns-clause-table
 returns-clause-table c = λ ws h.
-    let s = plain_schema c.args.known.now.declarations.now in
+    let s = known_schema c.args.known.now in
     let es = c.args.known.now.declarations.now.entities.items in
     let e = c.args.entity in
     let xs = c.index.result.now.derived.items in

@@ -1,11 +1,11 @@
 use Rattle.std.proofs.Common.{◌≡◌, ◌<◌, ◌≤◌, ◌++◌, ◌∷◌, [], List, length, get_or, map, set, refl, sym, ap, subst, ◌∙◌}
 use Rattle.std.proofs.lemmas.List.{length-map, length-set, take_all}
 use Rattle.p21_express.specs.Schema.{Entity, Attribute}
-use Rattle.p21_express.specs.Plain.{plain_schema, plain_entity, plain_attribute}
+use Rattle.p21_express.specs.Plain.{plain_entity, plain_attribute}
+use Rattle.p21_schema.specs.DeclarationTable.{known_schema, IsDeclarationTable}
 use Rattle.p21_express.specs.WellFormed.{IsIn}
 use Rattle.p21_schema.specs.declared.declarations.Form.TheVariants as form
 use Rattle.p21_schema.specs.Declaration.{Written, written_explicit}
-use Rattle.p21_schema.specs.DeclarationTable.{IsDeclarationTable}
 use Rattle.p21_schema.specs.Graph.{rows_of}
 use Rattle.p21_schema.specs.Place.{no_entity}
 use Rattle.p21_schema.proofs.DeclarationLemmas.{item_at, item_in, step_same, step_more, texpr_known}
@@ -27,7 +27,7 @@ explicit_attribute-requires-clause-attribute c =
 
 pub resolve-requires : goal.resolve-requires
 resolve-requires c =
-    let s = plain_schema c.args.known.now.declarations.now in
+    let s = known_schema c.args.known.now in
     let es = c.args.known.now.declarations.now.entities.items in
     let e = c.args.entity in
     let xs = c.index.result.now.attributes.items in
@@ -42,7 +42,7 @@ resolve-requires c =
 
 pub loop-attribute-preserved : goal.loop-attribute-preserved
 loop-attribute-preserved c =
-    let s = plain_schema c.args.known.now.declarations.now in
+    let s = known_schema c.args.known.now in
     let formed = c.requires.known.well_formed in
     let es = c.args.known.now.declarations.now.entities.items in
     let e = c.args.entity in
@@ -77,7 +77,7 @@ loop-attribute-preserved c =
 
 pub returns-clause-table : goal.returns-clause-table
 returns-clause-table c = λ ws h.
-    let s = plain_schema c.args.known.now.declarations.now in
+    let s = known_schema c.args.known.now in
     let es = c.args.known.now.declarations.now.entities.items in
     let e = c.args.entity in
     let xs = c.index.result.now.attributes.items in

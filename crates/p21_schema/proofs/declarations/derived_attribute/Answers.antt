@@ -1,6 +1,7 @@
 use Rattle.std.proofs.Common.{◌≡◌, Some, option_map, get_or, ap, ℕ}
 use Rattle.std.specs.Prelude.{Vec}
-use Rattle.p21_express.specs.Plain.{plain_schema, plain_derived}
+use Rattle.p21_express.specs.Plain.{plain_derived}
+use Rattle.p21_schema.specs.DeclarationTable.{known_schema}
 use Rattle.p21_schema.specs.Declaration.{written_derived}
 use Rattle.p21_schema.specs.Place.{no_entity}
 use Rattle.p21_schema.proofs.DeclarationLemmas.{derived_redeclares, ancestor_known, declared_again}
@@ -8,14 +9,14 @@ use Rattle.p21_schema.proofs.declarations.derived_attribute.Goals as goal
 
 pub again-requires-clause-of : goal.again-requires-clause-of
 again-requires-clause-of c =
-    let s = plain_schema c.args.known.now.declarations.now in
+    let s = known_schema c.args.known.now in
     let of : (plain_derived c.args.derived.now).of ≡ Some c.in-Some.of.items = ap (option_map (λ (n : Vec ℕ _). n.items)) c.in-Some.is in
     let r = derived_redeclares s c.requires.known.well_formed c.args.entity c.requires.entity (plain_derived c.args.derived.now) c.in-Some.of.items c.requires.derived of in
     rw c.deref.ensures.value (ancestor_known s c.requires.known.well_formed r.1.ancestor)
 
 pub returns-in-Some : goal.returns-in-Some
 returns-in-Some c =
-    let s = plain_schema c.args.known.now.declarations.now in
+    let s = known_schema c.args.known.now in
     let a = plain_derived c.args.derived.now in
     let of : a.of ≡ Some c.in-Some.of.items = ap (option_map (λ (n : Vec ℕ _). n.items)) c.in-Some.is in
     let r = derived_redeclares s c.requires.known.well_formed c.args.entity c.requires.entity a c.in-Some.of.items c.requires.derived of in

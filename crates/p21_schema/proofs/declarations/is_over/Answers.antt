@@ -1,7 +1,7 @@
 use Rattle.std.proofs.Common.{◌≡◌, ◌<◌, [], length, get_or, false, sym, subst, ◌∙◌}
 use Rattle.std.proofs.lemmas.List.{get_or_default}
 use Rattle.std.proofs.lemmas.Bool.{ne_eqb}
-use Rattle.p21_express.specs.Plain.{plain_schema}
+use Rattle.p21_schema.specs.DeclarationTable.{known_schema}
 use Rattle.p21_schema.specs.Graph.{rows_of}
 use Rattle.p21_schema.specs.Ancestry.{entity_id}
 use Rattle.p21_schema.proofs.GraphLemmas.{row_is, row_count}
@@ -10,7 +10,7 @@ use Rattle.p21_schema.proofs.declarations.is_over.Goals as goal
 
 pub index-requires-else-entity-other : goal.index-requires-else-entity-other
 index-requires-else-entity-other c =
-    let s = plain_schema c.args.known.now.declarations.now in
+    let s = known_schema c.args.known.now in
     let t = c.args.known.now.ancestors.now in
     let table = c.requires.known.ancestors in
     let less : c.args.entity < length t.items = subst (λ u. c.args.entity < u) (sym table.count ∙ row_count t ∙ t.ok.0) c.requires.entity in
@@ -19,7 +19,7 @@ index-requires-else-entity-other c =
 
 pub returns-else-entity-other : goal.returns-else-entity-other
 returns-else-entity-other c =
-    let s = plain_schema c.args.known.now.declarations.now in
+    let s = known_schema c.args.known.now in
     let t = c.args.known.now.ancestors.now in
     let table = c.requires.known.ancestors in
     let a = entity_id c.args.entity in

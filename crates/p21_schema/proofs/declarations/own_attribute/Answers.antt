@@ -1,7 +1,8 @@
 use Rattle.std.proofs.Common.{◌≡◌, ◌<◌, ◌+◌, [], length, get_or, refl, sym, ap, subst, ◌∙◌}
 use Rattle.std.proofs.lemmas.List.{length-map, get_or-map}
 use Rattle.p21_express.specs.Schema.{Entity}
-use Rattle.p21_express.specs.Plain.{plain_schema, plain_entity}
+use Rattle.p21_express.specs.Plain.{plain_entity}
+use Rattle.p21_schema.specs.DeclarationTable.{known_schema}
 use Rattle.p21_express.specs.WellFormed.{new_explicit}
 use Rattle.p21_schema.specs.Place.{no_entity}
 use Rattle.p21_schema.specs.RowTable.{no_own}
@@ -10,7 +11,7 @@ use Rattle.p21_schema.proofs.declarations.own_attribute.Goals as goal
 
 pub returns : goal.returns
 returns c =
-    let s = plain_schema c.args.known.now.declarations.now in
+    let s = known_schema c.args.known.now in
     let items = c.args.known.now.declarations.now.entities.items in
     let e = c.args.entity in
     let table = c.args.known.now.own.now in

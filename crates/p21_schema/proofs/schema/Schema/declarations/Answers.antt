@@ -1,6 +1,6 @@
 use Rattle.std.proofs.Common.{◌≡◌, ◌<◌, [], length, get_or, sym, subst, ◌∙◌}
 use Rattle.p21_express.specs.Schema.{Schema}
-use Rattle.p21_express.specs.Plain.{plain_schema}
+use Rattle.p21_schema.specs.Tables.{schema_of}
 use Rattle.p21_schema.specs.Graph.{rows_of}
 use Rattle.p21_schema.specs.Row.{IsAttributeOf}
 use Rattle.p21_schema.proofs.GraphLemmas.{row_is, row_count}
@@ -9,7 +9,7 @@ use Rattle.p21_schema.proofs.schema.Schema.declarations.Goals as goal
 
 pub returns : goal.returns
 returns c =
-    let s = plain_schema c.self.inside.declarations in
+    let s = schema_of c.self.inside in
     let a = c.args.attribute in
     let la : IsAttributeOf s a = subst (λ (u : Schema). IsAttributeOf u a) (sym c.self.view_is) c.requires in
     let t = c.self.inside.attributes in

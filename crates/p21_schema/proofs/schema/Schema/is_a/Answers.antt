@@ -1,7 +1,7 @@
 use Rattle.std.proofs.Common.{◌≡◌, ◌<◌, length, get_or, false, sym, subst, ◌∙◌}
 use Rattle.std.proofs.lemmas.List.{get_or_default}
 use Rattle.p21_express.specs.Schema.{Schema}
-use Rattle.p21_express.specs.Plain.{plain_schema}
+use Rattle.p21_schema.specs.Tables.{schema_of}
 use Rattle.p21_schema.specs.Graph.{rows_of}
 use Rattle.p21_schema.specs.Place.{IsEntityOf}
 use Rattle.p21_schema.proofs.GraphLemmas.{row_is, row_count}
@@ -10,7 +10,7 @@ use Rattle.p21_schema.proofs.schema.Schema.is_a.Goals as goal
 
 pub index-requires-else-eq : goal.index-requires-else-eq
 index-requires-else-eq c =
-    let s = plain_schema c.self.inside.declarations in
+    let s = schema_of c.self.inside in
     let a = c.args.entity in
     let t = c.self.inside.ancestors in
     let la : IsEntityOf s a = subst (λ (u : Schema). IsEntityOf u a) (sym c.self.view_is) c.requires.entity in
@@ -21,7 +21,7 @@ index-requires-else-eq c =
 
 pub returns-else-eq : goal.returns-else-eq
 returns-else-eq c =
-    let s = plain_schema c.self.inside.declarations in
+    let s = schema_of c.self.inside in
     let a = c.args.entity in
     let t = c.self.inside.ancestors in
     let la : IsEntityOf s a = subst (λ (u : Schema). IsEntityOf u a) (sym c.self.view_is) c.requires.entity in

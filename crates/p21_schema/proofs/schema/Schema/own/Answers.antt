@@ -1,7 +1,7 @@
 use Rattle.std.proofs.Common.{◌≡◌, ◌<◌, ◌+◌, length, get_or, refl, sym, subst, ◌∙◌}
 use Rattle.std.proofs.lemmas.List.{get_or_default}
 use Rattle.p21_express.specs.Schema.{Schema}
-use Rattle.p21_express.specs.Plain.{plain_schema}
+use Rattle.p21_schema.specs.Tables.{schema_of}
 use Rattle.p21_schema.specs.Place.{IsEntityOf, entity_at}
 use Rattle.p21_schema.specs.Row.{own_attributes}
 use Rattle.p21_schema.specs.RowTable.{no_own}
@@ -10,7 +10,7 @@ use Rattle.p21_schema.proofs.schema.Schema.own.Goals as goal
 
 pub returns-clause-known : goal.returns-clause-known
 returns-clause-known c =
-    let s = plain_schema c.self.inside.declarations in
+    let s = schema_of c.self.inside in
     let e = c.args.entity in
     let le : IsEntityOf s e = subst (λ (u : Schema). IsEntityOf u e) (sym c.self.view_is) c.requires.entity in
     let t = c.self.inside.own in
@@ -22,7 +22,7 @@ returns-clause-known c =
 
 pub returns-clause-own : goal.returns-clause-own
 returns-clause-own c =
-    let s = plain_schema c.self.inside.declarations in
+    let s = schema_of c.self.inside in
     let e = c.args.entity in
     let le : IsEntityOf s e = subst (λ (u : Schema). IsEntityOf u e) (sym c.self.view_is) c.requires.entity in
     let t = c.self.inside.own in

@@ -1,6 +1,6 @@
 use Rattle.std.proofs.Common.{◌≡◌, ◌<◌, List, [], length, get_or, sym, subst, ◌∙◌}
 use Rattle.p21_express.specs.Schema.{Schema}
-use Rattle.p21_express.specs.Plain.{plain_schema}
+use Rattle.p21_schema.specs.Tables.{schema_of}
 use Rattle.p21_express.specs.WellFormed.{Origin}
 use Rattle.p21_schema.specs.Graph.{rows_of}
 use Rattle.p21_schema.specs.Place.{IsEntityOf, entity_name}
@@ -12,7 +12,7 @@ use Rattle.p21_schema.proofs.schema.Schema.row.Goals as goal
 
 pub index-requires-2 : goal.index-requires-2
 index-requires-2 c =
-    let s = plain_schema c.self.inside.declarations in
+    let s = schema_of c.self.inside in
     let e = c.args.entity in
     let le : IsEntityOf s e = subst (λ (u : Schema). IsEntityOf u e) (sym c.self.view_is) c.requires.entity in
     let t = c.self.inside.rows in
@@ -26,7 +26,7 @@ index-requires-2 c =
 
 pub returns-clause-known : goal.returns-clause-known
 returns-clause-known c =
-    let s = plain_schema c.self.inside.declarations in
+    let s = schema_of c.self.inside in
     let e = c.args.entity in
     let le : IsEntityOf s e = subst (λ (u : Schema). IsEntityOf u e) (sym c.self.view_is) c.requires.entity in
     let t = c.self.inside.rows in
@@ -40,7 +40,7 @@ returns-clause-known c =
 
 pub returns-clause-row : goal.returns-clause-row
 returns-clause-row c =
-    let s = plain_schema c.self.inside.declarations in
+    let s = schema_of c.self.inside in
     let e = c.args.entity in
     let le : IsEntityOf s e = subst (λ (u : Schema). IsEntityOf u e) (sym c.self.view_is) c.requires.entity in
     let t = c.self.inside.rows in

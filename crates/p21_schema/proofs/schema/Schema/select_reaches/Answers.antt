@@ -1,7 +1,7 @@
 use Rattle.std.proofs.Common.{◌≡◌, ◌<◌, [], false, length, get_or, sym, ap, subst, ◌∙◌}
 use Rattle.std.proofs.lemmas.List.{get_or_default}
 use Rattle.p21_express.specs.Schema.{Schema}
-use Rattle.p21_express.specs.Plain.{plain_schema}
+use Rattle.p21_schema.specs.Tables.{schema_of}
 use Rattle.p21_schema.specs.Graph.{rows_of}
 use Rattle.p21_schema.specs.Place.{IsEntityOf, IsTypeOf}
 use Rattle.p21_schema.proofs.GraphLemmas.{row_is, row_count}
@@ -10,7 +10,7 @@ use Rattle.p21_schema.proofs.schema.Schema.select_reaches.Goals as goal
 
 pub index-requires-2 : goal.index-requires-2
 index-requires-2 c =
-    let s = plain_schema c.self.inside.declarations in
+    let s = schema_of c.self.inside in
     let i = c.args.select.index in
     let li : IsTypeOf s c.args.select = subst (λ (u : Schema). IsTypeOf u c.args.select) (sym c.self.view_is) c.requires.select in
     let le : IsEntityOf s c.args.entity = subst (λ (u : Schema). IsEntityOf u c.args.entity) (sym c.self.view_is) c.requires.entity in
@@ -22,7 +22,7 @@ index-requires-2 c =
 
 pub returns : goal.returns
 returns c =
-    let s = plain_schema c.self.inside.declarations in
+    let s = schema_of c.self.inside in
     let i = c.args.select.index in
     let k = c.args.entity.index in
     let li : IsTypeOf s c.args.select = subst (λ (u : Schema). IsTypeOf u c.args.select) (sym c.self.view_is) c.requires.select in

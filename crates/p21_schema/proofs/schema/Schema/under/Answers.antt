@@ -1,14 +1,14 @@
 use Rattle.std.proofs.Common.{◌≡◌, ◌<◌, length, get_or, sym, subst, ◌∙◌}
 use Rattle.std.proofs.lemmas.List.{get_or_default}
 use Rattle.p21_express.specs.Schema.{Schema}
-use Rattle.p21_express.specs.Plain.{plain_schema}
+use Rattle.p21_schema.specs.Tables.{schema_of}
 use Rattle.p21_schema.specs.Place.{IsTypeOf}
 use Rattle.p21_schema.proofs.UnderLemmas.{stands_at, end_below}
 use Rattle.p21_schema.proofs.schema.Schema.under.Goals as goal
 
 pub index-requires-2 : goal.index-requires-2
 index-requires-2 c =
-    let s = plain_schema c.self.inside.declarations in
+    let s = schema_of c.self.inside in
     let t = c.args.id in
     let lt : IsTypeOf s t = subst (λ (u : Schema). IsTypeOf u t) (sym c.self.view_is) c.requires in
     let ends = c.self.inside.ends.items in
@@ -18,7 +18,7 @@ index-requires-2 c =
 
 pub returns : goal.returns
 returns c =
-    let s = plain_schema c.self.inside.declarations in
+    let s = schema_of c.self.inside in
     let t = c.args.id in
     let lt : IsTypeOf s t = subst (λ (u : Schema). IsTypeOf u t) (sym c.self.view_is) c.requires in
     let ends = c.self.inside.ends.items in

@@ -1,0 +1,75 @@
+use Rattle.std.proofs.Common.{◌≡◌, ◌<◌, ℕ, List, Some, None, true, length, refl, sym, ap, subst, ◌∙◌, arith}
+use Rattle.p21_express.specs.WellFormed.{IsIn}
+use Rattle.p21_tree.specs.Plain.{plain_all}
+use Rattle.p21_tree.specs.declared.params.Param.{Param}
+use Rattle.p21_schema.specs.Place.{entity_name}
+use Rattle.p21_check.specs.LocalFault.{HasRepeatedReference}
+use Rattle.p21_check.specs.declared.entity_set.EntitySet.TheVariants as set
+use Rattle.p21_check.specs.Attributes.{AreAttributes}
+use Rattle.p21_check.specs.Sets.{HasEntity}
+use Rattle.p21_check.specs.Instances.{complex_instance, IsFirstRepeating}
+use Rattle.p21_check.proofs.AttributeLemmas.{none_more, none_all}
+use Rattle.p21_check.proofs.DistinctLemmas.{unruled}
+use Rattle.p21_check.proofs.ComplexLemmas.{at_index, repeated_here, repeating_there, no_repeated_behind}
+use Rattle.p21_check.proofs.distinct.check_complex_distinct.Goals as goal
+
+pub known-entity-requires : goal.known-entity-requires
+known-entity-requires c =
+    let rs = c.args.records.now in
+    let k = c.loop-rec.rec in
+    let x = c.index-records-rec.result in
+    let less : k < length rs = omega arith in
+    let among : IsIn rs x = subst (IsIn rs) (sym c.index-records-rec.is) (at_index rs k x less) in
+    c.requires.known x among
+
+pub first_repeating-requires-clause-count : goal.first_repeating-requires-clause-count
+first_repeating-requires-clause-count c =
+    let rs = c.args.records.now in
+    let k = c.loop-rec.rec in
+    let x = c.index-records-rec.result in
+    let less : k < length rs = omega arith in
+    let among : IsIn rs x = subst (IsIn rs) (sym c.index-records-rec.is) (at_index rs k x less) in
+    let right = c.requires.right x among in
+    let are : AreAttributes c.args.schema.now true (entity_name c.args.schema.now c.known-entity.result) right.0 = subst (λ n. AreAttributes c.args.schema.now true n right.0) (sym c.known-entity.ensures.1) right.1.0 in
+    (right.0, (are, ap length c.as_slice.ensures ∙ right.1.1))
+
+pub returns-then-not-distinct : goal.returns-then-not-distinct
+returns-then-not-distinct c = λ name at q b. unruled c.args.schema.now (complex_instance name at c.args.records.now) q b (sym c.distinct.ensures ∙ c.if-not-distinct.true)
+
+pub returns-in-Some : goal.returns-in-Some
+returns-in-Some c = λ name at.
+    let rs = c.args.records.now in
+    let k = c.loop-rec.rec in
+    let x = c.index-records-rec.result in
+    let less : k < length rs = omega arith in
+    let among : IsIn rs x = subst (IsIn rs) (sym c.index-records-rec.is) (at_index rs k x less) in
+    let right = c.requires.right x among in
+    let are : AreAttributes c.args.schema.now true (entity_name c.args.schema.now c.known-entity.result) right.0 = subst (λ n. AreAttributes c.args.schema.now true n right.0) (sym c.known-entity.ensures.1) right.1.0 in
+    let found = subst (λ (l : List Param). IsFirstRepeating c.args.schema.now (HasEntity c.args.schema.now (set.Complex c.args.records)) right.0 (plain_all l) (Some c.in-Some.attr)) c.as_slice.ensures (c.in-Some.ensures right.0 are) in
+    let ruled : c.args.schema.now.distinct ≡ true = sym c.distinct.ensures ∙ c.if-not-distinct.false in
+    record {
+      rec_ = k;
+      attr = c.in-Some.attr;
+      is = refl;
+      repeated = repeated_here c.args.schema.now c.fits.ensures name at rs k x less c.index-records-rec.is right.0 right.1.0 ruled c.in-Some.attr c.args.records refl found.0;
+      records = c.loop-rec.invariant name at;
+      attributes = λ b h bad. found.1 b h (repeating_there c.args.schema.now c.fits.ensures name at rs k x less c.index-records-rec.is right.0 right.1.0 b c.args.records refl bad);
+    }
+
+pub loop-rec-preserved : goal.loop-rec-preserved
+loop-rec-preserved c = λ name at q b h bad.
+    let rs = c.args.records.now in
+    let k = c.loop-rec.rec in
+    let x = c.index-records-rec.result in
+    let less : k < length rs = omega arith in
+    let among : IsIn rs x = subst (IsIn rs) (sym c.index-records-rec.is) (at_index rs k x less) in
+    let right = c.requires.right x among in
+    let are : AreAttributes c.args.schema.now true (entity_name c.args.schema.now c.known-entity.result) right.0 = subst (λ n. AreAttributes c.args.schema.now true n right.0) (sym c.known-entity.ensures.1) right.1.0 in
+    let none = subst (λ (l : List Param). IsFirstRepeating c.args.schema.now (HasEntity c.args.schema.now (set.Complex c.args.records)) right.0 (plain_all l) None) c.as_slice.ensures (c.in_default.ensures right.0 are) in
+    none_more (λ (q : ℕ). (b : ℕ) × HasRepeatedReference c.args.schema.now (complex_instance name at rs) q b) k (λ q l u. c.loop-rec.invariant name at q u.0 l u.1)
+    (λ u. none u.0 (repeating_there c.args.schema.now c.fits.ensures name at rs k x less c.index-records-rec.is right.0 right.1.0 u.0 c.args.records refl u.1)) q h (b, bad)
+
+pub returns : goal.returns
+returns c = λ name at q b bad.
+    let rs = c.args.records.now in
+    none_all (λ (q : ℕ). (b : ℕ) × HasRepeatedReference c.args.schema.now (complex_instance name at rs) q b) c.loop-rec.rec (λ q l u. c.loop-rec.invariant name at q u.0 l u.1) (λ q l u. no_repeated_behind c.args.schema.now name at rs q u.0 (omega arith) u.1) q (b, bad)

@@ -1,0 +1,177 @@
+//! Whether a list names an instance twice, without memory and with few passes over the list.
+
+ghost use Rattle.std.specs.Prelude.{◌≡◌, ◌⊎◌, ◌↔◌, ◌<◌, ◌≤◌, true, take, length, IsTrue};
+ghost use Rattle.std.specs.List.Sorted.{IsNonDecreasing};
+ghost use Rattle.p21_express.specs.WellFormed.{IsIn};
+ghost use Rattle.p21_tree.specs.Plain.{plain};
+ghost use Rattle.p21_check.specs.Repeats.{name_in, HasTwice};
+ghost use Rattle.p21_check.specs.RepeatedNames.{names_of, HasCommon, IsAbove};
+
+use p21_tree::Param;
+
+/// How many elements a short list has at most.
+const FEW: usize = 32;
+
+/// How many elements a list of middle length has at most.
+const SOME: usize = 1024;
+
+/// How many names of a long list are compared in one pass.
+const MANY: usize = 16384;
+
+/// Whether two elements are one instance name. Other elements are not compared.
+///
+/// The names of a list that do not rise go part by part into a table on the stack, are sorted there, and each name behind the
+/// part is looked up in it. So n names take n * n / 16384 look-ups at most, in whatever order they stand and whatever they are.
+pub(crate) fn repeats_name(elements: &[Param<'_>]) -> bool
+    ensures { IsTrue result ↔ HasTwice (names_of elements.now) }
+{
+    // Most lists name instances in the order of their names.
+    if rises(elements) {
+        return false;
+    }
+    if elements.len() <= FEW {
+        return repeats_among_few(elements);
+    }
+    if elements.len() <= SOME {
+        return repeats_among_some(elements);
+    }
+    repeats_among_many(elements)
+}
+
+// A function pays at its beginning for all its tables, so each table stands in one of its own.
+
+fn repeats_among_few(elements: &[Param<'_>]) -> bool
+    ensures { IsTrue result ↔ HasTwice (names_of elements.now) }
+{
+    let mut table = [0; FEW];
+    repeats_by(&mut table, elements)
+}
+
+fn repeats_among_some(elements: &[Param<'_>]) -> bool
+    ensures { IsTrue result ↔ HasTwice (names_of elements.now) }
+{
+    let mut table = [0; SOME];
+    repeats_by(&mut table, elements)
+}
+
+fn repeats_among_many(elements: &[Param<'_>]) -> bool
+    ensures { IsTrue result ↔ HasTwice (names_of elements.now) }
+{
+    let mut table = [0; MANY];
+    repeats_by(&mut table, elements)
+}
+
+/// The instance name that an element is.
+fn name_of(element: &Param<'_>) -> Option<u64>
+    ensures { result ≡ name_in (plain element.now) }
+{
+    match element {
+        Param::Ref(name) => Some(*name),
+        _ => None,
+    }
+}
+
+/// Whether each name is greater than the one before it.
+fn rises(elements: &[Param<'_>]) -> bool
+    ensures { result ≡ true → ¬ (HasTwice (names_of elements.now)) }
+{
+    let mut last = None;
+    for element in elements {
+        if let Some(name) = name_of(element) {
+            if !is_above(last, name) {
+                return false;
+            }
+            last = Some(name);
+        }
+    }
+    true
+}
+
+fn is_above(last: Option<u64>, name: u64) -> bool
+    ensures { IsTrue result ↔ IsAbove last name }
+{
+    match last {
+        Some(last) => last < name,
+        None => true,
+    }
+}
+
+/// Whether two elements are one instance name, by parts whose names fit into the table.
+fn repeats_by(table: &mut [u64], elements: &[Param<'_>]) -> bool
+    requires { 0 < length table.old }
+    ensures { IsTrue result ↔ HasTwice (names_of elements.now) }
+{
+    let mut from = 0;
+    while from < elements.len() {
+        let to = from + table.len().min(elements.len() - from);
+        let count = put_names(table, &elements[from..to]);
+        if repeats_in_part(&mut table[..count], &elements[to..]) {
+            return true;
+        }
+        from = to;
+    }
+    false
+}
+
+/// Puts the instance names among some elements into the front of the table, and tells how many they are.
+fn put_names(table: &mut [u64], elements: &[Param<'_>]) -> usize
+    requires { length elements.now ≤ length table.old }
+    ensures count { result ≤ length table.new }
+    ensures names { take result table.new ≡ names_of elements.now }
+{
+    let mut count = 0;
+    for element in elements {
+        if let Some(name) = name_of(element) {
+            table[count] = name;
+            count += 1;
+        }
+    }
+    count
+}
+
+/// Whether one of these names stands twice among them, or also among the elements behind them.
+fn repeats_in_part(names: &mut [u64], behind: &[Param<'_>]) -> bool
+    ensures { IsTrue result ↔ (HasTwice names.old ⊎ HasCommon names.old (names_of behind.now)) }
+{
+    names.sort_unstable();
+    has_twice(names) || has_common(names, behind)
+}
+
+/// Whether a name stands twice among names that do not fall.
+fn has_twice(names: &[u64]) -> bool
+    requires { IsNonDecreasing names.now }
+    ensures { IsTrue result ↔ HasTwice names.now }
+{
+    for next in 1..names.len() {
+        if names[next - 1] == names[next] {
+            return true;
+        }
+    }
+    false
+}
+
+/// Whether one of the names, which do not fall, also stands among the elements.
+fn has_common(names: &[u64], elements: &[Param<'_>]) -> bool
+    requires { IsNonDecreasing names.now }
+    ensures { IsTrue result ↔ HasCommon names.now (names_of elements.now) }
+{
+    for element in elements {
+        if let Some(name) = name_of(element) {
+            if has(names, name) {
+                return true;
+            }
+        }
+    }
+    false
+}
+
+/// Whether the name is one of these, which do not fall.
+fn has(names: &[u64], name: u64) -> bool
+    requires { IsNonDecreasing names.now }
+    ensures { IsTrue result ↔ IsIn names.now name }
+{
+    match names.binary_search(&name) {
+        Ok(_) => true,
+        Err(_) => false,
+    }
+}
