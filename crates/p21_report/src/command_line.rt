@@ -15,8 +15,8 @@ use std::io::{self, Read, Write};
 use std::sync::Wait;
 use std::thread::Threads;
 
-/// The program `p21check SCHEMA FILE [--lanes N] [--capacity N]`: reads the schema, checks the file against it by so many lanes (4,
-/// if not said) of this capacity (256), and writes the report to `output`.
+/// The program `p21check SCHEMA FILE [--lanes N] [--capacity N] [--all]`: reads the schema, checks the file against it by so many
+/// lanes (4, if not said) of this capacity (256), and writes the report to `output`, by `--all` with all faults of the file.
 /// `words` are the words of the command line, the program's own name first; FILE `-` is `input`, and `rt` opens the others,
 /// FILE only where the schema was read. The answer is the status to end with: 0 where the file was read, 1 where it has a
 /// fault, 2 where the words were refused (clap's text goes to `errors`), 3 where the schema was refused, 4 where a path cannot
@@ -76,6 +76,7 @@ fn report<R: Files + Threads + Wait + Sync, I: Read, O: Write>(
             &mut out,
             lanes,
             capacity,
+            wanted.all,
         )
     } else {
         let mut file = Opened::new(rt, wanted.file);
@@ -88,6 +89,7 @@ fn report<R: Files + Threads + Wait + Sync, I: Read, O: Write>(
             &mut out,
             lanes,
             capacity,
+            wanted.all,
         )
     };
     status_of(outcome)

@@ -2,7 +2,7 @@
 
 use crate::program_error::ProgramError;
 use clap::error::ErrorKind;
-use clap::{Arg, Command, value_parser};
+use clap::{Arg, ArgAction, Command, value_parser};
 use p21_desk::LaneCount;
 use p21_lanes::Capacity;
 use std::alloc::Global;
@@ -16,6 +16,8 @@ pub(crate) struct Wanted<'a> {
     pub(crate) file: &'a str,
     pub(crate) lanes: LaneCount,
     pub(crate) capacity: Capacity,
+    /// Whether all faults are told, or the first alone.
+    pub(crate) all: bool,
 }
 
 /// What the words ask for; the first word is the program's own name.
@@ -27,12 +29,14 @@ pub(crate) fn what_is_wanted<'a>(
     let paths = (matches.get_str("SCHEMA"), matches.get_str("FILE"));
     let lanes = matches.get_one("lanes").and_then(LaneCount::new);
     let capacity = matches.get_one("capacity").and_then(Capacity::new);
+    let all = matches.get_flag("all");
     match (paths, lanes, capacity) {
         ((Some(schema), Some(file)), Some(lanes), Some(capacity)) => Ok(Wanted {
             schema,
             file,
             lanes,
             capacity,
+            all,
         }),
         _ => Err(refused(
             alloc,
@@ -80,11 +84,16 @@ fn command<'a>(alloc: Global) -> Result<Command<'a>, ProgramError> {
         .default_value("256")
         .value_parser(value_parser!(u32).range(1..=4096))
         .help("how many instances may be out with one of them, 1 to 4096");
+    let all = Arg::new(alloc, "all")
+        .long("all")
+        .action(ArgAction::SetTrue)
+        .help("tells all faults of the file, a line each, and not the first alone");
     let command = Command::new(alloc, "p21check")
         .about("Reads a STEP file (ISO 10303-21) and checks it against an EXPRESS schema")
         .arg(schema)?
         .arg(file)?
         .arg(lanes)?
-        .arg(capacity)?;
+        .arg(capacity)?
+        .arg(all)?;
     Ok(command)
 }
