@@ -15,9 +15,9 @@ use std::io::{self, Read, Write};
 use std::sync::Wait;
 use std::thread::Threads;
 
-/// The program `p21check SCHEMA FILE [--lanes N] [--capacity N] [--distinct]`: reads the schema, checks the file against it by so
-/// many lanes (4, if not said) of this capacity (256), and writes the report to `output`. With `--distinct` a SET or a LIST OF
-/// UNIQUE that names one instance twice is a fault.
+/// The program `p21check SCHEMA FILE [--lanes N] [--capacity N] [--all] [--distinct]`: reads the schema, checks the file against it by
+/// so many lanes (4, if not said) of this capacity (256), and writes the report to `output`, by `--all` with all faults of the
+/// file. With `--distinct` a SET or a LIST OF UNIQUE that names one instance twice is a fault.
 /// `words` are the words of the command line, the program's own name first; FILE `-` is `input`, and `rt` opens the others,
 /// FILE only where the schema was read. The answer is the status to end with: 0 where the file was read, 1 where it has a
 /// fault, 2 where the words were refused (clap's text goes to `errors`), 3 where the schema was refused, 4 where a path cannot
@@ -65,7 +65,7 @@ fn report<R: Files + Threads + Wait + Sync, I: Read, O: Write>(
     let wanted = what_is_wanted(alloc, words)?;
     let mut schema = Opened::new(rt, wanted.schema);
     let mut out = Stream::new(output);
-    let (lanes, capacity, rules) = (wanted.lanes, wanted.capacity, wanted.rules);
+    let (lanes, capacity) = (wanted.lanes, wanted.capacity);
     let outcome = if wanted.file == "-" {
         let mut file = Stream::new(input);
         run(
@@ -77,7 +77,8 @@ fn report<R: Files + Threads + Wait + Sync, I: Read, O: Write>(
             &mut out,
             lanes,
             capacity,
-            rules,
+            wanted.all,
+            wanted.rules,
         )
     } else {
         let mut file = Opened::new(rt, wanted.file);
@@ -90,7 +91,8 @@ fn report<R: Files + Threads + Wait + Sync, I: Read, O: Write>(
             &mut out,
             lanes,
             capacity,
-            rules,
+            wanted.all,
+            wanted.rules,
         )
     };
     status_of(outcome)

@@ -17,6 +17,8 @@ pub(crate) struct Wanted<'a> {
     pub(crate) file: &'a str,
     pub(crate) lanes: LaneCount,
     pub(crate) capacity: Capacity,
+    /// Whether all faults are told, or the first alone.
+    pub(crate) all: bool,
     pub(crate) rules: Rules,
 }
 
@@ -29,6 +31,7 @@ pub(crate) fn what_is_wanted<'a>(
     let paths = (matches.get_str("SCHEMA"), matches.get_str("FILE"));
     let lanes = matches.get_one("lanes").and_then(LaneCount::new);
     let capacity = matches.get_one("capacity").and_then(Capacity::new);
+    let all = matches.get_flag("all");
     let rules = Rules {
         distinct: matches.get_flag("distinct"),
     };
@@ -38,6 +41,7 @@ pub(crate) fn what_is_wanted<'a>(
             file,
             lanes,
             capacity,
+            all,
             rules,
         }),
         _ => Err(refused(
@@ -86,6 +90,10 @@ fn command<'a>(alloc: Global) -> Result<Command<'a>, ProgramError> {
         .default_value("256")
         .value_parser(value_parser!(u32).range(1..=4096))
         .help("how many instances may be out with one of them, 1 to 4096");
+    let all = Arg::new(alloc, "all")
+        .long("all")
+        .action(ArgAction::SetTrue)
+        .help("tells all faults of the file, a line each, and not the first alone");
     let distinct = Arg::new(alloc, "distinct")
         .long("distinct")
         .action(ArgAction::SetTrue)
@@ -96,6 +104,7 @@ fn command<'a>(alloc: Global) -> Result<Command<'a>, ProgramError> {
         .arg(file)?
         .arg(lanes)?
         .arg(capacity)?
+        .arg(all)?
         .arg(distinct)?;
     Ok(command)
 }
