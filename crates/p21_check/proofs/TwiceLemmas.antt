@@ -1,5 +1,5 @@
 -- Numbers that stand twice in a list.
-use Rattle.std.proofs.Common.{◌≡◌, ◌↔◌, ◌⊎◌, ⊎_elim, inl, inr, ℕ, zero, suc, ◌+◌, ◌<◌, ◌≤◌, cond, eqb, List, [], ◌∷◌, ◌++◌, length, get_or, take, Option, Some, None, refl, sym, ap, subst, ◌∙◌, arith}
+use Rattle.std.proofs.Common.{◌≡◌, ◌↔◌, ◌⊎◌, ⊎_elim, inl, inr, ℕ, zero, suc, ◌+◌, ◌%◌, ◌<◌, ◌≤◌, Bool, true, false, cond, eqb, List, [], ◌∷◌, ◌++◌, length, get_or, set, take, Option, Some, None, refl, sym, ap, subst, ◌∙◌, arith}
 use Rattle.std.specs.List.{sum_by}
 use Rattle.std.specs.List.Sorted.{IsPermutation, IsNonDecreasing}
 use Rattle.std.proofs.lemmas.Bool.{cases_eq, cases_lt, eq-eqb, ne_eqb}
@@ -7,7 +7,8 @@ use Rattle.std.proofs.lemmas.List.Sorted.{sum_by-IsPermutation}
 use Rattle.std.proofs.lemmas.List.Recursion.{is_sum_by}
 use Rattle.p21_express.specs.WellFormed.{IsIn}
 use Rattle.p21_check.specs.Repeats.{HasTwice}
-use Rattle.p21_check.specs.RepeatedNames.{HasCommon, IsAbove, AreUpTo}
+use Rattle.std.proofs.lemmas.List.{get_or-set_other, get_or-set_same, length-set, take_more}
+use Rattle.p21_check.specs.RepeatedNames.{HasCommon, IsAbove, AreMarked, AreUpTo}
 
 -- ---- in two lists, one behind the other
 
@@ -196,3 +197,21 @@ not_in xs n i below above h =
     let e = f.2 in
     let l = f.1 in
     ⊎_elim (λ (k : f.0 < i). let x = below f.0 k in omega arith) (λ (k : i ≤ f.0). let x = above f.0 k l in omega arith) (cases_lt f.0 i)
+
+-- ---- names that are marked
+
+pub marked_more : (marks : List Bool) (ns : List ℕ) (i : ℕ) → i < length ns → get_or ns i 0 % length marks < length marks → AreMarked marks (take i ns) → AreMarked (set marks (get_or ns i 0 % length marks) true) (take (i + 1) ns)
+marked_more marks ns i h less kept n k =
+    let place = get_or ns i 0 % length marks in
+    let long : length (set marks place true) ≡ length marks = length-set marks place true in
+    let among = subst (λ xs. IsIn xs n) (take_more ns i 0 h) k in
+    subst (λ l. get_or (set marks place true) (n % l) false ≡ true) (sym long)
+    (⊎_elim
+    (λ (x : IsIn (take i ns) n). still (n % length marks) (kept n x))
+    (λ (x : IsIn (get_or ns i 0 ∷ []) n). subst (λ m. get_or (set marks place true) (m % length marks) false ≡ true) (in_lone (get_or ns i 0) n x) (get_or-set_same marks place true false less))
+    (in_split (take i ns) (get_or ns i 0 ∷ []) n among)) where
+      still : (p : ℕ) → get_or marks p false ≡ true → get_or (set marks (get_or ns i 0 % length marks) true) p false ≡ true
+      still p e = ⊎_elim
+          (λ (x : get_or ns i 0 % length marks ≡ p). subst (λ q. get_or (set marks (get_or ns i 0 % length marks) true) q false ≡ true) x (get_or-set_same marks (get_or ns i 0 % length marks) true false less))
+          (λ (x : ¬ (get_or ns i 0 % length marks ≡ p)). get_or-set_other marks (get_or ns i 0 % length marks) p true false (λ f. x (sym f)) ∙ e)
+          (cases_eq (get_or ns i 0 % length marks) p)

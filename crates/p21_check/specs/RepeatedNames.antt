@@ -1,5 +1,5 @@
 -- The instance names of elements of the code, in lists of numbers.
-use Rattle.std.specs.Prelude.{◌<◌, ◌≤◌, ℕ, List, Option, Some, None}
+use Rattle.std.specs.Prelude.{◌≡◌, ◌<◌, ◌≤◌, ◌%◌, ℕ, Bool, true, false, List, length, get_or, Option, Some, None}
 use Rattle.p21_express.specs.WellFormed.{IsIn}
 use Rattle.p21_tree.specs.Plain.{plain_all}
 use Rattle.p21_tree.specs.declared.params.Param.{Param}
@@ -22,3 +22,7 @@ IsAbove (Some m) n = m < n
 abbrev pub AreUpTo : Option ℕ → List ℕ → Type 0
 AreUpTo None ns = (n : ℕ) → ¬ (IsIn ns n)
 AreUpTo (Some m) ns = (n : ℕ) → IsIn ns n → n ≤ m
+
+-- the place of each of the names is marked
+abbrev pub AreMarked : List Bool → List ℕ → Type 0
+AreMarked marks ns = (n : ℕ) → IsIn ns n → get_or marks (n % length marks) false ≡ true

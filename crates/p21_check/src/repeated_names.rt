@@ -1,11 +1,11 @@
 //! Whether a list names an instance twice, without memory and with few passes over the list.
 
-ghost use Rattle.std.specs.Prelude.{◌≡◌, ◌⊎◌, ◌↔◌, ◌<◌, ◌≤◌, true, take, length, IsTrue};
+ghost use Rattle.std.specs.Prelude.{◌≡◌, ◌⊎◌, ◌↔◌, ◌<◌, ◌≤◌, ◌%◌, true, take, length, IsTrue};
 ghost use Rattle.std.specs.List.Sorted.{IsNonDecreasing};
 ghost use Rattle.p21_express.specs.WellFormed.{IsIn};
 ghost use Rattle.p21_tree.specs.Plain.{plain};
 ghost use Rattle.p21_check.specs.Repeats.{name_in, HasTwice};
-ghost use Rattle.p21_check.specs.RepeatedNames.{names_of, HasCommon, IsAbove};
+ghost use Rattle.p21_check.specs.RepeatedNames.{names_of, HasCommon, IsAbove, AreMarked};
 
 use p21_tree::Param;
 
@@ -20,8 +20,8 @@ const MANY: usize = 16384;
 
 /// Whether two elements are one instance name. Other elements are not compared.
 ///
-/// The names of a list that do not rise go part by part into a table on the stack, are sorted there, and each name behind the
-/// part is looked up in it. So n names take n * n / 16384 look-ups at most, in whatever order they stand and whatever they are.
+/// Names that do not rise go part by part into a table on the stack, are sorted there and marked, and each name behind the part is
+/// looked up in it. So n names take n * n / 32768 look-ups at most, in whatever order they stand and whatever they are.
 pub(crate) fn repeats_name(elements: &[Param<'_>]) -> bool
     ensures { IsTrue result ↔ HasTwice (names_of elements.now) }
 {
@@ -44,21 +44,24 @@ fn repeats_among_few(elements: &[Param<'_>]) -> bool
     ensures { IsTrue result ↔ HasTwice (names_of elements.now) }
 {
     let mut table = [0; FEW];
-    repeats_by(&mut table, elements)
+    let mut marks = [false; 8 * FEW];
+    repeats_by(&mut table, &mut marks, elements)
 }
 
 fn repeats_among_some(elements: &[Param<'_>]) -> bool
     ensures { IsTrue result ↔ HasTwice (names_of elements.now) }
 {
     let mut table = [0; SOME];
-    repeats_by(&mut table, elements)
+    let mut marks = [false; 8 * SOME];
+    repeats_by(&mut table, &mut marks, elements)
 }
 
 fn repeats_among_many(elements: &[Param<'_>]) -> bool
     ensures { IsTrue result ↔ HasTwice (names_of elements.now) }
 {
     let mut table = [0; MANY];
-    repeats_by(&mut table, elements)
+    let mut marks = [false; 8 * MANY];
+    repeats_by(&mut table, &mut marks, elements)
 }
 
 /// The instance name that an element is.
@@ -97,15 +100,16 @@ fn is_above(last: Option<u64>, name: u64) -> bool
 }
 
 /// Whether two elements are one instance name, by parts whose names fit into the table.
-fn repeats_by(table: &mut [u64], elements: &[Param<'_>]) -> bool
-    requires { 0 < length table.old }
+fn repeats_by(table: &mut [u64], marks: &mut [bool], elements: &[Param<'_>]) -> bool
+    requires table { 0 < length table.old }
+    requires marks { 0 < length marks.old }
     ensures { IsTrue result ↔ HasTwice (names_of elements.now) }
 {
     let mut from = 0;
     while from < elements.len() {
         let to = from + table.len().min(elements.len() - from);
         let count = put_names(table, &elements[from..to]);
-        if repeats_in_part(&mut table[..count], &elements[to..]) {
+        if repeats_in_part(&mut table[..count], marks, &elements[to..]) {
             return true;
         }
         from = to;
@@ -130,11 +134,12 @@ fn put_names(table: &mut [u64], elements: &[Param<'_>]) -> usize
 }
 
 /// Whether one of these names stands twice among them, or also among the elements behind them.
-fn repeats_in_part(names: &mut [u64], behind: &[Param<'_>]) -> bool
+fn repeats_in_part(names: &mut [u64], marks: &mut [bool], behind: &[Param<'_>]) -> bool
+    requires { 0 < length marks.old }
     ensures { IsTrue result ↔ (HasTwice names.old ⊎ HasCommon names.old (names_of behind.now)) }
 {
     names.sort_unstable();
-    has_twice(names) || has_common(names, behind)
+    has_twice(names) || has_marked(names, marks, behind)
 }
 
 /// Whether a name stands twice among names that do not fall.
@@ -150,14 +155,49 @@ fn has_twice(names: &[u64]) -> bool
     false
 }
 
-/// Whether one of the names, which do not fall, also stands among the elements.
-fn has_common(names: &[u64], elements: &[Param<'_>]) -> bool
-    requires { IsNonDecreasing names.now }
+/// Whether one of the names, which do not fall, also stands among the elements. Each is marked first, so that most others are told
+/// apart by a look.
+fn has_marked(names: &[u64], marks: &mut [bool], elements: &[Param<'_>]) -> bool
+    requires names { IsNonDecreasing names.now }
+    requires marks { 0 < length marks.old }
+    ensures { IsTrue result ↔ HasCommon names.now (names_of elements.now) }
+{
+    mark(names, marks);
+    has_common(names, marks, elements)
+}
+
+/// Marks the place of each name, and no other.
+fn mark(names: &[u64], marks: &mut [bool])
+    requires { 0 < length marks.old }
+    ensures length { length marks.new ≡ length marks.old }
+    ensures marked { AreMarked marks.new names.now }
+{
+    marks.fill(false);
+    for name in names {
+        let place = place_of(*name, marks.len());
+        marks[place] = true;
+    }
+}
+
+/// The place of a name among so many.
+fn place_of(name: u64, count: usize) -> usize
+    requires { 0 < count }
+    ensures below { result < count }
+    ensures is { result ≡ name % count }
+{
+    (name % count as u64) as usize
+}
+
+/// Whether one of the names, which do not fall and are marked, also stands among the elements.
+fn has_common(names: &[u64], marks: &[bool], elements: &[Param<'_>]) -> bool
+    requires names { IsNonDecreasing names.now }
+    requires marks { 0 < length marks.now }
+    requires marked { AreMarked marks.now names.now }
     ensures { IsTrue result ↔ HasCommon names.now (names_of elements.now) }
 {
     for element in elements {
         if let Some(name) = name_of(element) {
-            if has(names, name) {
+            if has(names, marks, name) {
                 return true;
             }
         }
@@ -165,8 +205,18 @@ fn has_common(names: &[u64], elements: &[Param<'_>]) -> bool
     false
 }
 
+/// Whether the name is one of these, which do not fall and are marked.
+fn has(names: &[u64], marks: &[bool], name: u64) -> bool
+    requires names { IsNonDecreasing names.now }
+    requires marks { 0 < length marks.now }
+    requires marked { AreMarked marks.now names.now }
+    ensures { IsTrue result ↔ IsIn names.now name }
+{
+    marks[place_of(name, marks.len())] && is_among(names, name)
+}
+
 /// Whether the name is one of these, which do not fall.
-fn has(names: &[u64], name: u64) -> bool
+fn is_among(names: &[u64], name: u64) -> bool
     requires { IsNonDecreasing names.now }
     ensures { IsTrue result ↔ IsIn names.now name }
 {

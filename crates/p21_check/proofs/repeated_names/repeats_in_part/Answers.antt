@@ -11,8 +11,8 @@ turned f = (f.1, f.0)
 pub has_twice-requires : goal.has_twice-requires
 has_twice-requires c = IsNonDecreasingBy-from_sort (λ x. x) c.sort_unstable.new.self c.sort_unstable.ensures.sorted
 
-pub has_common-requires : goal.has_common-requires
-has_common-requires c = IsNonDecreasingBy-from_sort (λ x. x) c.sort_unstable.new.self c.sort_unstable.ensures.sorted
+pub has_marked-requires-clause-names : goal.has_marked-requires-clause-names
+has_marked-requires-clause-names c = IsNonDecreasingBy-from_sort (λ x. x) c.sort_unstable.new.self c.sort_unstable.ensures.sorted
 
 pub returns-then-has_twice : goal.returns-then-has_twice
 returns-then-has_twice c =
@@ -21,4 +21,4 @@ returns-then-has_twice c =
 pub returns-else-has_twice : goal.returns-else-has_twice
 returns-else-has_twice c =
     either_false c.if-has_twice.false (both c.has_twice.ensures (turned (twice_permuted c.args.names.now c.sort_unstable.new.self c.sort_unstable.ensures.permutation)))
-    (both c.has_common.ensures (turned (common_permuted c.args.names.now c.sort_unstable.new.self (names_of c.args.behind.now) c.sort_unstable.ensures.permutation)))
+    (both c.has_marked.ensures (turned (common_permuted c.args.names.now c.sort_unstable.new.self (names_of c.args.behind.now) c.sort_unstable.ensures.permutation)))

@@ -3,7 +3,7 @@ use Rattle.std.proofs.lemmas.Bool.{false≢true}
 use Rattle.std.proofs.lemmas.List.Sorted.{searched}
 use Rattle.p21_express.specs.WellFormed.{IsIn}
 use Rattle.p21_check.proofs.TwiceLemmas.{in_at, not_in}
-use Rattle.p21_check.proofs.repeated_names.has.Goals as goal
+use Rattle.p21_check.proofs.repeated_names.is_among.Goals as goal
 
 pub returns-in-Ok : goal.returns-in-Ok
 returns-in-Ok c =
