@@ -27,7 +27,7 @@ fn run_by_two<R: Threads + Wait + Sync, S: Source, F: Source, K: Sink>(
 ) -> Outcome {
     match (LaneCount::new(2), Capacity::new(1)) {
         (Some(lanes), Some(capacity)) => run(
-            rt, alloc, &OpenGate, schema_in, file_in, out, lanes, capacity,
+            rt, alloc, &OpenGate, schema_in, file_in, out, lanes, capacity, false,
         ),
         _ => Outcome::Memory,
     }
