@@ -2,6 +2,8 @@
 #![tactic(auto)]
 
 #[cfg(test)]
+mod all_tests;
+#[cfg(test)]
 mod files;
 #[cfg(test)]
 mod gathering_tests;

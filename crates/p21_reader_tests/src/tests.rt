@@ -1,5 +1,6 @@
 //! Reading where a request for memory is refused.
 
+use crate::all_tests::{Answer as All, fault, read_in};
 use crate::files::Answer::{Instances, Memory};
 use crate::files::answered;
 use p21_crew::OpenGate;
@@ -8,7 +9,9 @@ use p21_express::read_declarations;
 use p21_lanes::Capacity;
 use p21_reader::{ReadError, read_lanes, read_serial};
 use p21_schema::{Rules, Schema};
+use p21_tree::FaultKind;
 use std::alloc::Global;
+use std::test::Fail;
 
 /// A small schema of two dozen declarations.
 const TOY: &[u8] = b"SCHEMA TOY;\n\
@@ -100,4 +103,29 @@ fn memory_or_the_answer_by_lanes(rt: HostRuntime) {
         let reading = read_lanes(&rt, alloc, &schema, &OpenGate, FILE, lanes, capacity);
         assert!(rt; matches!(answered(&reading), Instances(5) | Memory));
     }
+}
+
+/// Two instances of one name, the first of which has a fault by itself.
+const FAULTY: &[u8] =
+    b"ISO-10303-21;HEADER;FILE_DESCRIPTION((''),'2;1');FILE_NAME('','',(''),(''),'','','');FILE_SCHEMA(('TOY'));ENDSEC;DATA;#1=MARK($);#1=MARK('a');ENDSEC;END-ISO-10303-21;";
+
+/// With all faults too it is right, and comes, where a request for memory is refused.
+#[test]
+fn memory_or_the_answer_with_all(rt: HostRuntime) -> Result<(), Fail> {
+    let alloc = rt.alloc();
+    let Some(schema) = toy(alloc) else {
+        return Ok(());
+    };
+    let faults = All::Faults([
+        fault(FaultKind::BadAttribute { rec: 0, attr: 0 }, 118),
+        fault(FaultKind::DuplicateName, 129),
+        None,
+    ]);
+    for (file, want) in [(FILE, All::Instances(5)), (FAULTY, faults)] {
+        for lanes in [1, 2] {
+            let answer = read_in(&rt, alloc, &schema, &OpenGate, file, lanes)?;
+            assert!(rt; answer == want || answer == All::Memory);
+        }
+    }
+    Ok(())
 }

@@ -5,7 +5,7 @@ use p21_desk::LaneCount;
 use p21_express::read_declarations;
 use p21_lanes::Capacity;
 use p21_reader::{ReadError, Reading, read_lanes, read_serial};
-use p21_schema::Schema;
+use p21_schema::{Rules, Schema};
 use std::alloc::Global;
 use std::io::{self, ErrorKind};
 use std::sync::Wait;
@@ -40,7 +40,7 @@ pub fn schema_of(alloc: Global, text: &[u8]) -> io::Result<Schema> {
     let Ok(declarations) = read_declarations(alloc, text) else {
         return Err(io::Error::from(ErrorKind::InvalidData));
     };
-    Ok(Schema::build(alloc, declarations)?)
+    Ok(Schema::build(alloc, declarations, Rules::default())?)
 }
 
 /// How long the answer to a file took, and how many instances it has: none where the file has a fault.
