@@ -3,7 +3,7 @@
 ghost use Rattle.std.specs.Prelude.{◌≤◌, length};
 ghost use Rattle.p21_schema.specs.Place.{IsEntityOf};
 
-use crate::attributes::{attribute_of, count};
+use crate::attributes::{Attribute, attribute_of, count};
 use crate::complex::{is_subtype, say_broken_rule};
 use crate::instances::{find, name_of};
 use crate::names::say_nearest;
@@ -13,9 +13,10 @@ use crate::references::{say_instance, say_kind, say_named};
 use crate::said::{Part, article, say, say_front};
 use crate::spots::{Spot, parameter_count, reference_at, token_at};
 use crate::subject::Subject;
-use crate::types::type_named;
+use crate::types::{is_select, type_named};
 use crate::values::say_value;
 use p21_schema::EntityId;
+use p21_text::Token;
 use p21_tree::{FaultKind, Piece};
 use std::alloc::{AllocError, Global};
 
@@ -43,6 +44,7 @@ pub(crate) fn say_instance_fault(
             say(said, &[Part::Words(". In its place stands ")])?;
             say_value(said, bytes, at)?;
             say(said, &[Part::Words(".")])?;
+            say_advice(said, subject, bytes, rec, attr)?;
             Ok(at)
         }
         FaultKind::MissingReference { rec, attr, name } => {
@@ -56,7 +58,7 @@ pub(crate) fn say_instance_fault(
             say_name(said, ". It names #", name)?;
             say(said, &[Part::Words(", which is ")])?;
             say_named(alloc, said, subject.file, name)?;
-            say(said, &[Part::Words(" and no such instance.")])?;
+            say(said, &[Part::Words(", and not of such an entity.")])?;
             Ok(place_of_reference(bytes, rec, attr, name))
         }
         _ => {
@@ -69,6 +71,57 @@ pub(crate) fn say_instance_fault(
 /// Adds an instance name between words.
 fn say_name(said: &mut Vec<u8>, before: &str, name: u64) -> Result<(), AllocError> {
     say(said, &[Part::Words(before), Part::Number(name)])
+}
+
+/// Adds how an attribute's place is filled, where the parameter in it shows what was overlooked.
+fn say_advice(
+    said: &mut Vec<u8>,
+    subject: Subject<'_>,
+    bytes: &[u8],
+    rec: u64,
+    attr: u64,
+) -> Result<(), AllocError> {
+    let Some(lexed) = token_at(bytes, Spot::Parameter { rec, attr }) else {
+        return Ok(());
+    };
+    match lexed.token {
+        Token::Dollar => say(
+            said,
+            &[Part::Words(" `$` may stand where the attribute is OPTIONAL.")],
+        ),
+        Token::Star => say(
+            said,
+            &[Part::Words(" `*` may stand where the attribute is derived.")],
+        ),
+        Token::LParen | Token::Name(_) | Token::Keyword(_) | Token::UserKeyword(_) => Ok(()),
+        _ if is_of_select(subject, bytes, rec, attr) => say(
+            said,
+            &[Part::Words(
+                " In a SELECT a value stands in the parentheses of its type, as LABEL('x').",
+            )],
+        ),
+        _ => Ok(()),
+    }
+}
+
+/// Whether the attribute of a place is a SELECT.
+fn is_of_select(subject: Subject<'_>, bytes: &[u8], rec: u64, attr: u64) -> bool {
+    match attribute_in(subject, bytes, rec, attr) {
+        Some(found) => is_select(subject.schema.declared(), &found.declared.texpr),
+        None => false,
+    }
+}
+
+/// The attribute for which a parameter of an instance stands.
+fn attribute_in<'a>(
+    subject: Subject<'a>,
+    bytes: &[u8],
+    rec: u64,
+    attr: u64,
+) -> Option<Attribute<'a>> {
+    let entity = subject.schema.entity(keyword(bytes, rec)?)?;
+    let position = usize::try_from(attr).ok()?;
+    attribute_of(subject.schema, is_complex(bytes), entity, position)
 }
 
 /// Adds the name of an instance.
@@ -234,30 +287,29 @@ fn say_count(
     if let Some(keyword) = keyword(bytes, rec) {
         if let Some(entity) = subject.schema.entity(keyword) {
             wanted = count(subject.schema, complex, entity) as u64;
-            say(
-                said,
-                &[
-                    Part::Words(", with "),
-                    Part::Number(wanted),
-                    Part::Words(" attributes"),
-                ],
-            )?;
+            say_number(said, ", with ", wanted, " attribute")?;
             say_attributes(said, subject, complex, entity)?;
         }
     }
-    say(
-        said,
-        &[
-            Part::Words("; it is given "),
-            Part::Number(found),
-            Part::Words(" values."),
-        ],
-    )?;
+    say_number(said, "; it is given ", found, " value")?;
+    say(said, &[Part::Words(".")])?;
     if found < wanted {
         Ok(place_in(bytes, Spot::Close { rec }))
     } else {
         Ok(place_in(bytes, Spot::Parameter { rec, attr: wanted }))
     }
+}
+
+/// Adds how many things there are.
+fn say_number(
+    said: &mut Vec<u8>,
+    before: &'static str,
+    number: u64,
+    thing: &'static str,
+) -> Result<(), AllocError> {
+    let plural = if number == 1 { "" } else { "s" };
+    say(said, &[Part::Words(before), Part::Number(number)])?;
+    say(said, &[Part::Words(thing), Part::Words(plural)])
 }
 
 /// Adds the names of the attributes of a record of an entity, in order.
@@ -287,12 +339,12 @@ fn say_record(said: &mut Vec<u8>, piece: &Piece<'_>, rec: u64) -> Result<(), All
     let Some(keyword) = keyword(piece.bytes, rec) else {
         return Ok(());
     };
-    let is = if is_complex(piece.bytes) {
-        " is a complex instance with the record "
+    let (is, article) = if is_complex(piece.bytes) {
+        (" is a complex instance with the record ", "")
     } else {
-        " is "
+        (" is ", article(keyword))
     };
-    say(said, &[Part::Words(is), Part::Words(article(keyword))])?;
+    say(said, &[Part::Words(is), Part::Words(article)])?;
     say_front(said, keyword)
 }
 
@@ -306,17 +358,8 @@ fn say_attribute(
 ) -> Result<(), AllocError> {
     say_record(said, piece, rec)?;
     say(said, &[Part::Words("; its attribute ")])?;
-    let complex = is_complex(piece.bytes);
-    let Some(keyword) = keyword(piece.bytes, rec) else {
-        return Ok(());
-    };
-    let Some(entity) = subject.schema.entity(keyword) else {
-        return Ok(());
-    };
-    let Ok(position) = usize::try_from(attr) else {
-        return Ok(());
-    };
-    let Some(found) = attribute_of(subject.schema, complex, entity, position) else {
+    let found = attribute_in(subject, piece.bytes, rec, attr);
+    let (Some(keyword), Some(found)) = (keyword(piece.bytes, rec), found) else {
         return say(said, &[Part::Number(attr)]);
     };
     say(
@@ -332,7 +375,7 @@ fn say_attribute(
     )?;
     let kinds = Kinds {
         bytes: piece.bytes,
-        complex,
+        complex: is_complex(piece.bytes),
         keyword,
     };
     say_declared(said, subject.schema, found, kinds)

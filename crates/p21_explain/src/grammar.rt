@@ -37,27 +37,22 @@ pub(crate) fn say_bad_token(said: &mut Vec<u8>, file: &[u8], at: usize) -> Resul
     )?;
     say(
         said,
-        &[
-            Part::Words(hint(file, at, byte)),
-            Part::Words("; wanted is "),
-        ],
+        &[Part::Words(hint(byte)), Part::Words("; wanted is ")],
     )?;
     say(said, &[Part::Words(wanted(file, at)), Part::Words(".")])
 }
 
 /// What the byte may have been meant to begin.
-fn hint(file: &[u8], at: usize, byte: u8) -> &'static str
-    requires { at ≤ length file.now }
-{
+fn hint(byte: u8) -> &'static str {
     match byte {
         b'\'' =>
-            ", whose string is not closed, or holds a byte or a `\\` that a string may not hold",
-        b'/' => ", whose comment is not closed",
-        b'"' => ", whose binary is not closed, or is none",
-        b'.' => ", whose enumeration is not closed, or is in lower case",
-        b'#' => ", whose instance name has no digits, or is above 18446744073709551615",
-        b'a'..=b'z' => ", since a keyword is in upper case",
-        0xEF => ", as of a byte order mark",
+            ": a string that is not closed, or that holds a byte or a `\\` that it may not hold",
+        b'/' => ": a comment that is not closed",
+        b'"' => ": a binary that is not closed, or that holds what it may not hold",
+        b'.' => ": an enumeration that is not closed, or that holds what it may not hold",
+        b'#' => ": an instance name without digits, or above 18446744073709551615",
+        b'a'..=b'z' => ": words are in upper case",
+        0xEF => ": the byte order mark begins with it, which may not stand here",
         _ => "",
     }
 }
@@ -176,7 +171,7 @@ fn behind_opening(walk: &Walk<'_>, is_complex: bool) -> &'static str {
     if is_complex && walk.before() == Token::Equals {
         "the keyword of a record"
     } else {
-        "a parameter or `)`"
+        "a parameter, or `)`"
     }
 }
 

@@ -57,6 +57,10 @@ fn say_rule(said: &mut Vec<u8>, word: &[u8], rule: Rule) -> Result<(), AllocErro
         );
     }
     let (before, behind) = match rule {
+        Rule::Syntax if matches!(word, b"(" | b"'" | b"\"") => (
+            "Here stands `",
+            "`, with which no declaration goes on, or which begins a remark or a string that is not closed.",
+        ),
         Rule::Syntax => ("Here stands `", "`, with which no declaration goes on."),
         Rule::NotSupported => ("`", "` stands here for a form that is not supported."),
         Rule::Repeated => ("`", "` stands here a second time, where names must differ."),

@@ -148,6 +148,25 @@ fn name_in(texpr: &TypeExpr) -> Option<&[u8]> {
     }
 }
 
+/// Whether a type is a SELECT by its name.
+pub(crate) fn is_select(declared: &Declarations, texpr: &TypeExpr) -> bool {
+    let mut texpr = texpr;
+    for _ in 0..declared.types.len() {
+        let TypeExpr::Named(name) = texpr else {
+            return false;
+        };
+        match type_named(declared, name) {
+            Some(defined) => match &defined.under {
+                Under::Select(_) => return true,
+                Under::Items(_) => return false,
+                Under::Plain(under) => texpr = under,
+            },
+            None => return false,
+        }
+    }
+    false
+}
+
 /// The declaration of a type.
 pub(crate) fn type_named<'a>(declared: &'a Declarations, name: &[u8]) -> Option<&'a TypeDecl> {
     for defined in &declared.types {

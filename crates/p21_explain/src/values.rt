@@ -20,11 +20,8 @@ pub(crate) fn say_value(said: &mut Vec<u8>, text: &[u8], at: usize) -> Result<()
             said,
             &[Part::Words("the instance name #"), Part::Number(name)],
         ),
-        Token::Dollar => say(said, &[Part::Words("`$`, which is no value,")]),
-        Token::Star => say(
-            said,
-            &[Part::Words("`*`, which is for derived attributes alone,")],
-        ),
+        Token::Dollar => say(said, &[Part::Words("`$`, which is no value")]),
+        Token::Star => say(said, &[Part::Words("`*`")]),
         Token::Str(body) => {
             let characters = string_len(body);
             say_scalar(said, "the string '", body, "'")?;
