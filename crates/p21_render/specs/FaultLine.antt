@@ -52,11 +52,20 @@ reference_text rec attr name = attribute_text rec attr ++ (codes " name #" ++ de
 
 -- where in the instance the fault is
 abbrev pub detail_of : FaultKind → List ℕ
+detail_of kind.BadToken = []
+detail_of kind.Unexpected = []
+detail_of kind.Truncated = []
+detail_of kind.TooDeep = []
+detail_of kind.HeaderEntities = []
+detail_of kind.WrongSchema = []
+detail_of kind.DuplicateName = []
+detail_of kind.UnknownEntity = []
+detail_of kind.AbstractEntity = []
+detail_of kind.BadComplex = []
 detail_of (kind.WrongCount rec) = record_text rec
 detail_of (kind.BadAttribute rec attr) = attribute_text rec attr
 detail_of (kind.MissingReference rec attr name) = reference_text rec attr name
 detail_of (kind.WrongReference rec attr name) = reference_text rec attr name
-detail_of k = []
 
 -- `fault NUMBER KIND at PLACE`, where in the instance it is, and a line end
 abbrev pub fault_text : Fault → List ℕ

@@ -73,11 +73,20 @@ fn push_detail(line: &mut Vec<u8>, kind: FaultKind) -> Result<(), AllocError>
     ensures { OnOk result (line.new.items ≡ line.old.items ++ detail_of kind) }
 {
     match kind {
+        FaultKind::BadToken
+        | FaultKind::Unexpected
+        | FaultKind::Truncated
+        | FaultKind::TooDeep
+        | FaultKind::HeaderEntities
+        | FaultKind::WrongSchema
+        | FaultKind::DuplicateName
+        | FaultKind::UnknownEntity
+        | FaultKind::AbstractEntity
+        | FaultKind::BadComplex => Ok(()),
         FaultKind::WrongCount { rec } => push_record(line, rec),
         FaultKind::BadAttribute { rec, attr } => push_attribute(line, rec, attr),
         FaultKind::MissingReference { rec, attr, name } => push_reference(line, rec, attr, name),
         FaultKind::WrongReference { rec, attr, name } => push_reference(line, rec, attr, name),
-        _ => Ok(()),
     }
 }
 

@@ -13,26 +13,30 @@ pub(crate) struct Opened<'a, R: Files> {
     path: &'a str,
     file: Option<Stream<R::File>>,
     marked: bool,
+    failed: bool,
 }
 
 impl<'a, R: Files> Opened<'a, R> {
-    ghost use Rattle.p21_report.specs.Opened.{mark_of_opened};
+    ghost use Rattle.p21_report.specs.Opened.{failure_of_opened, mark_of_opened};
 
     /// The file of a path, which is not opened yet.
     pub(crate) fn new(rt: &'a R, path: &'a str) -> Opened<'a, R>
-        ensures { mark_of_opened result ≡ false }
+        ensures unmarked { mark_of_opened result ≡ false }
+        ensures unfailed { failure_of_opened result ≡ false }
     {
         Opened {
             rt,
             path,
             file: None,
             marked: false,
+            failed: false,
         }
     }
 
     fn read_file(&mut self, into: &mut [u8]) -> Result<usize, IoFault>
         ensures bound { ReadsAtMost result into.new }
         ensures mark { mark_of_opened self.new ≡ mark_of_opened self.old }
+        ensures failure { failure_of_opened self.new ≡ failure_of_opened self.old }
     {
         if self.file.is_none() {
             let file = File::open(self.rt, self.path).map_err(|_| IoFault::Failed)?;
@@ -46,13 +50,16 @@ impl<'a, R: Files> Opened<'a, R> {
 }
 
 impl<R: Files> Source for Opened<'_, R> {
-    ghost use Rattle.p21_report.specs.Opened.{mark_of_opened};
+    ghost use Rattle.p21_report.specs.Opened.{failure_of_opened, mark_of_opened};
 
     ghost marked = { mark_of_opened };
+
+    ghost failed = { failure_of_opened };
 
     fn read(&mut self, into: &mut [u8]) -> Result<usize, IoFault> {
         let result = self.read_file(into);
         self.marked |= result.is_err();
+        self.failed |= matches!(result, Err(IoFault::Failed));
         result
     }
 }

@@ -23,6 +23,15 @@ pub unmarked : (old new fault : Bool) → new ≡ (old || fault) → new ≡ fal
 unmarked false new fault is unset = (refl, sym is ∙ unset)
 unmarked true new fault is unset = absurd (false≢true (sym unset ∙ is))
 
+-- a call that did not fail leaves the mark of failure as it was
+pub unfailed : (first old new failure : Bool) → old ≡ first → new ≡ (old || failure) → failure ≡ false → new ≡ first
+unfailed first false new failure same is none = is ∙ none ∙ same
+unfailed first true new failure same is none = is ∙ same
+
+-- a mark of failure that stayed was not set
+pub never_failed : {P : Type 0} (old new : Bool) → new ≡ old → old ≡ false → new ≡ true → P
+never_failed old new same was is = absurd (false≢true (sym was ∙ sym same ∙ is))
+
 module _ {E : Type 0} where
   pub read_end : (a b c : Option (List ℕ)) (r : Result ℕ E) (n : ℕ) (buf bytes : List ℕ) → Consumes a b bytes → ReadConsumes b c r buf → r ≡ Ok n → n ≡ 0 → 0 < length buf → IfSome a (λ all. bytes ≡ all)
   read_end a b c r n buf bytes before read e zero some =

@@ -1,5 +1,5 @@
 -- What a run over a schema and a file writes.
-use Rattle.std.specs.Prelude.{◌≡◌, ◌≤◌, ◌⊎◌, ℕ, List, Option, Ok, Err, Some, length, take}
+use Rattle.std.specs.Prelude.{◌≡◌, ◌≤◌, ◌⊎◌, ℕ, List, Option, Result, Ok, Err, Some, length, take}
 use Rattle.std.specs.Io.KnownBytes.{Keeps, Appends}
 use Rattle.p21_express.specs.Schema.{Schema}
 use Rattle.p21_express.specs.Reading as express
@@ -13,11 +13,17 @@ use Rattle.p21_render.specs.SchemaFaultLine.{schema_fault_text}
 use Rattle.p21_run.specs.declared.outcome.Outcome.{Outcome}
 use Rattle.p21_run.specs.declared.outcome.Outcome.TheVariants as outcome
 
--- The text is the report of the file's reading against the schema, and the outcome is that of a model or of a fault.
-abbrev pub IsReportOf : Schema → List ℕ → Outcome → List ℕ → Type 0
-IsReportOf s file outcome.Complete text = (is : List Instance) × IsReading s file (Ok is) × IsReadingText s (Ok is) text
-IsReportOf s file outcome.Faulty text = (fault : Fault) × IsReading s file (Err fault) × IsReadingText s (Err fault) text
-IsReportOf s file _ text = ⊥
+-- A run over a file ends as its reading: with a model, or with a fault.
+abbrev pub outcome_of : Result (List Instance) Fault → Outcome
+outcome_of (Ok is) = outcome.Complete
+outcome_of (Err fault) = outcome.Faulty
+
+-- The text is the report of the file's reading against the schema, and the outcome is that of this reading.
+pub record IsReportOf (s : Schema) (file : List ℕ) (o : Outcome) (text : List ℕ) : Type 0 where
+  pub answer : Result (List Instance) Fault
+  pub read : IsReading s file answer
+  pub told : IsReadingText s answer text
+  pub ends : o ≡ outcome_of answer
 
 -- The text is the line of a fault of a schema's text that declares no schema.
 pub record IsRefusal (schema_text text : List ℕ) : Type 0 where

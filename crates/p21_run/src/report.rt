@@ -1,7 +1,9 @@
 //! What is to be written of a file, or of a schema that is refused.
 
 ghost use Rattle.std.specs.Prelude.{◌≡◌, Some, IfOk};
-ghost use Rattle.p21_run.specs.Due.{IsReportOf};
+ghost use Rattle.p21_run.specs.Due.{IsReportOf, outcome_of};
+ghost use Rattle.p21_reader.specs.Answer.{plain_answer};
+ghost use Rattle.p21_render.specs.ReadingText.{IsReadingText};
 ghost use Rattle.p21_render.specs.SchemaFaultLine.{schema_fault_text};
 ghost use Rattle.p21_run.specs.declared.outcome.Outcome.TheVariants.{SchemaRefused};
 
@@ -10,7 +12,7 @@ use p21_crew::Gate;
 use p21_desk::LaneCount;
 use p21_express::SchemaError;
 use p21_lanes::Capacity;
-use p21_reader::{ReadError, read_lanes};
+use p21_reader::{ReadError, Reading, read_lanes};
 use p21_render::{render, schema_fault_line};
 use p21_schema::Schema;
 use std::alloc::{AllocError, Global};
@@ -42,15 +44,26 @@ pub(crate) fn report_of_file<R: Threads + Wait + Sync, G: Gate + Sync>(
 ) -> Result<Report, AllocError>
     ensures { IfOk result (λ report. IsReportOf schema.now file.now report.outcome report.text.items) }
 {
-    let reading = match read_lanes(rt, alloc, schema, by.gate, file, by.lanes, by.capacity) {
-        Ok(reading) => reading,
-        Err(ReadError::Memory) => return Err(AllocError),
-    };
+    match read_lanes(rt, alloc, schema, by.gate, file, by.lanes, by.capacity) {
+        Ok(reading) => report_of_reading(alloc, schema, &reading),
+        Err(ReadError::Memory) => Err(AllocError),
+    }
+}
+
+/// The report of a reading. Memory alone can fail.
+fn report_of_reading(
+    alloc: Global,
+    schema: &Schema,
+    reading: &Reading<'_>,
+) -> Result<Report, AllocError>
+    ensures outcome { IfOk result (λ report. report.outcome ≡ outcome_of (plain_answer reading.now.answer)) }
+    ensures text { IfOk result (λ report. IsReadingText schema.now (plain_answer reading.now.answer) report.text.items) }
+{
     let outcome = match &reading.answer {
         Ok(_) => Outcome::Complete,
         Err(_) => Outcome::Faulty,
     };
-    let text = render(alloc, schema, &reading)?;
+    let text = render(alloc, schema, reading)?;
     Ok(Report { outcome, text })
 }
 

@@ -1,6 +1,6 @@
 //! A run over a schema and a file.
 
-ghost use Rattle.std.specs.Prelude.{◌≡◌, ◌≤◌, ◌⊎◌, ℕ, List, Some, Err, false, length, IfOk};
+ghost use Rattle.std.specs.Prelude.{◌≡◌, ◌<◌, ◌≤◌, ◌⊎◌, ℕ, List, Some, Err, false, true, length, IfOk};
 ghost use Rattle.p21_express.specs.Plain.{plain_schema};
 ghost use Rattle.p21_express.specs.WellFormed.{IsWellFormed};
 ghost use Rattle.p21_run.specs.Due.{IsDue, IsReportOf, Writes, IsLong, IsLongText, most_calls, most_file_bytes, most_schema_bytes};
@@ -45,7 +45,9 @@ pub fn run<R: Threads + Wait + Sync, G: Gate + Sync, S: Source, F: Source, K: Si
     ensures written { (schema_text file : List ℕ) → S.remaining schema_in.old ≡ Some schema_text → F.remaining file_in.old ≡ Some file → Writes schema_text file result (K.taken out.old) (K.taken out.new) }
     ensures schema_bounded { result ≡ Complete ⊎ (result ≡ Faulty ⊎ result ≡ SchemaRefused) → (schema_text : List ℕ) → S.remaining schema_in.old ≡ Some schema_text → length schema_text ≤ most_schema_bytes }
     ensures file_bounded { result ≡ Complete ⊎ result ≡ Faulty → (file : List ℕ) → F.remaining file_in.old ≡ Some file → length file ≤ most_file_bytes }
-    ensures unread { (schema_text : List ℕ) → S.remaining schema_in.old ≡ Some schema_text → HasNoReading schema_text → file_in.new ≡ file_in.old }
+    ensures unread { (schema_text : List ℕ) → S.remaining schema_in.old ≡ Some schema_text → HasNoReading schema_text ⊎ (most_schema_bytes < length schema_text) → file_in.new ≡ file_in.old }
+    ensures schema_failed { S.failed schema_in.old ≡ false → S.failed schema_in.new ≡ true → (result ≡ Device) × (file_in.new ≡ file_in.old) × (out.new ≡ out.old) }
+    ensures file_failed { F.failed file_in.old ≡ false → F.failed file_in.new ≡ true → (result ≡ Device) × (out.new ≡ out.old) }
     ensures unwritten { result ≡ Device → K.marked out.new ≡ false → (schema_text file : List ℕ) → S.remaining schema_in.old ≡ Some schema_text → F.remaining file_in.old ≡ Some file → Keeps (K.taken out.old) (K.taken out.new) ⊎ IsLongText schema_text file }
     ensures cause { result ≡ Device → S.marked schema_in.new ≡ false → F.marked file_in.new ≡ false → K.marked out.new ≡ false → (schema_text file : List ℕ) → S.remaining schema_in.old ≡ Some schema_text → F.remaining file_in.old ≡ Some file → IsLong schema_text file }
 {
@@ -75,7 +77,9 @@ fn report<R: Threads + Wait + Sync, G: Gate + Sync, S: Source, F: Source>(
     ensures due { (schema_text file : List ℕ) → S.remaining schema_in.old ≡ Some schema_text → F.remaining file_in.old ≡ Some file → IfOk result (λ report. IsDue schema_text file report.outcome report.text.items) }
     ensures schema_bounded { IfOk result (λ _. (schema_text : List ℕ) → S.remaining schema_in.old ≡ Some schema_text → length schema_text ≤ most_schema_bytes) }
     ensures file_bounded { IfOk result (λ report. report.outcome ≡ Complete ⊎ report.outcome ≡ Faulty → (file : List ℕ) → F.remaining file_in.old ≡ Some file → length file ≤ most_file_bytes) }
-    ensures unread { (schema_text : List ℕ) → S.remaining schema_in.old ≡ Some schema_text → HasNoReading schema_text → file_in.new ≡ file_in.old }
+    ensures unread { (schema_text : List ℕ) → S.remaining schema_in.old ≡ Some schema_text → HasNoReading schema_text ⊎ (most_schema_bytes < length schema_text) → file_in.new ≡ file_in.old }
+    ensures schema_failed { S.failed schema_in.old ≡ false → S.failed schema_in.new ≡ true → (result ≡ Err Failed) × (file_in.new ≡ file_in.old) }
+    ensures file_failed { F.failed file_in.old ≡ false → F.failed file_in.new ≡ true → result ≡ Err Failed }
     ensures cause { result ≡ Err Failed → S.marked schema_in.new ≡ false → F.marked file_in.new ≡ false → (schema_text file : List ℕ) → S.remaining schema_in.old ≡ Some schema_text → F.remaining file_in.old ≡ Some file → (most_calls ≤ length schema_text) ⊎ (most_calls ≤ length file) }
 {
     let schema_text = read_bounded(alloc, schema_in, SCHEMA_BOUNDS)?;
@@ -96,9 +100,26 @@ fn report_against<R: Threads + Wait + Sync, G: Gate + Sync, F: Source>(
     requires { IsWellFormed (plain_schema declarations) }
     ensures due { (file : List ℕ) → F.remaining file_in.old ≡ Some file → IfOk result (λ report. IsReportOf (plain_schema declarations) file report.outcome report.text.items) }
     ensures bounded { IfOk result (λ _. (file : List ℕ) → F.remaining file_in.old ≡ Some file → length file ≤ most_file_bytes) }
+    ensures failed { F.failed file_in.old ≡ false → F.failed file_in.new ≡ true → result ≡ Err Failed }
     ensures cause { result ≡ Err Failed → F.marked file_in.new ≡ false → (file : List ℕ) → F.remaining file_in.old ≡ Some file → most_calls ≤ length file }
 {
     let schema = Schema::build(alloc, declarations)?;
+    report_of_source(rt, alloc, &schema, file_in, by)
+}
+
+/// What is to be written of a file against the table of a schema.
+fn report_of_source<R: Threads + Wait + Sync, G: Gate + Sync, F: Source>(
+    rt: &R,
+    alloc: Global,
+    schema: &Schema,
+    file_in: &mut F,
+    by: &Lanes<'_, G>,
+) -> Result<Report, InputError>
+    ensures due { (file : List ℕ) → F.remaining file_in.old ≡ Some file → IfOk result (λ report. IsReportOf schema.now file report.outcome report.text.items) }
+    ensures bounded { IfOk result (λ _. (file : List ℕ) → F.remaining file_in.old ≡ Some file → length file ≤ most_file_bytes) }
+    ensures failed { F.failed file_in.old ≡ false → F.failed file_in.new ≡ true → result ≡ Err Failed }
+    ensures cause { result ≡ Err Failed → F.marked file_in.new ≡ false → (file : List ℕ) → F.remaining file_in.old ≡ Some file → most_calls ≤ length file }
+{
     let file = read_bounded(alloc, file_in, FILE_BOUNDS)?;
-    Ok(report_of_file(rt, alloc, &schema, file.as_slice(), by)?)
+    Ok(report_of_file(rt, alloc, schema, file.as_slice(), by)?)
 }

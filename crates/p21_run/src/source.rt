@@ -3,7 +3,7 @@
 ghost use Rattle.std.specs.Prelude.{◌≡◌, ◌||◌, Bool, false, ℕ, List, Option, None};
 ghost use Rattle.std.specs.Io.{ReadsAtMost, WritesAtMost};
 ghost use Rattle.std.specs.Io.KnownBytes.{ReadConsumes, WriteAppends};
-ghost use Rattle.p21_run.specs.Marks.{is_fault, is_fault_or_nothing};
+ghost use Rattle.p21_run.specs.Marks.{is_failure, is_fault, is_fault_or_nothing};
 
 use std::io::{self, ErrorKind, Read, Write};
 
@@ -21,6 +21,9 @@ pub trait Source {
     // Whether it ever answered a fault.
     ghost marked: { Self → Bool };
 
+    // Whether it ever failed: whether one of those faults was more than an interruption.
+    ghost failed: { Self → Bool };
+
     // The bytes that are left, where it tells them.
     ghost remaining: { Self → Option (List ℕ) } = { λ _. None };
 
@@ -29,7 +32,8 @@ pub trait Source {
     fn read(&mut self, into: &mut [u8]) -> Result<usize, IoFault>
         ensures bound { ReadsAtMost result into.new }
         ensures bytes { ReadConsumes (remaining self.old) (remaining self.new) result into.new }
-        ensures mark { marked self.new ≡ (marked self.old || is_fault result) };
+        ensures mark { marked self.new ≡ (marked self.old || is_fault result) }
+        ensures failure { failed self.new ≡ (failed self.old || is_failure result) };
 }
 
 /// What takes bytes.
@@ -47,43 +51,55 @@ pub trait Sink {
         ensures mark { marked self.new ≡ (marked self.old || is_fault_or_nothing result from.now) };
 }
 
-/// A reader or a writer of the standard library as a `Source` or a `Sink`. It tells no bytes.
+/// A reader or a writer of the standard library as a `Source` or a `Sink`. It tells the bytes that the reader or the writer
+/// tells.
 #[derive(Debug, Drop)]
 pub struct Stream<T> {
     inner: T,
     marked: bool,
+    failed: bool,
 }
 
 impl<T> Stream<T> {
-    ghost use Rattle.p21_run.specs.Stream.{mark_of};
+    ghost use Rattle.p21_run.specs.Stream.{failure_of, inner_of, mark_of};
 
     /// Neither a fault nor a write of no byte has happened yet.
     pub fn new(inner: T) -> Stream<T>
-        ensures { mark_of result ≡ false }
+        ensures inner { inner_of result ≡ inner }
+        ensures unmarked { mark_of result ≡ false }
+        ensures unfailed { failure_of result ≡ false }
     {
         Stream {
             inner,
             marked: false,
+            failed: false,
         }
     }
 }
 
 impl<R: Read> Source for Stream<R> {
-    ghost use Rattle.p21_run.specs.Stream.{mark_of};
+    ghost use Rattle.p21_run.specs.Stream.{failure_of, inner_of, mark_of};
 
     ghost marked = { mark_of };
+
+    ghost failed = { failure_of };
+
+    ghost remaining = { λ s. R.remaining (inner_of s) };
 
     fn read(&mut self, into: &mut [u8]) -> Result<usize, IoFault> {
         let result = self.inner.read(into).map_err(|error| fault_of(&error));
         self.marked |= result.is_err();
+        self.failed |= matches!(result, Err(IoFault::Failed));
         result
     }
 }
 
 impl<W: Write> Sink for Stream<W> {
-    ghost use Rattle.p21_run.specs.Stream.{mark_of};
+    ghost use Rattle.p21_run.specs.Stream.{inner_of, mark_of};
 
     ghost marked = { mark_of };
+
+    ghost taken = { λ s. W.contents (inner_of s) };
 
     fn write(&mut self, from: &[u8]) -> Result<usize, IoFault> {
         let result = self.inner.write(from).map_err(|error| fault_of(&error));
