@@ -24,15 +24,15 @@ pub(crate) fn say_type(said: &mut Vec<u8>, texpr: &TypeExpr) -> Result<(), Alloc
             say_aggregate(said, "ARRAY", *bounds, of)?;
             say_type(said, item)
         }
-        TypeExpr::List { bounds, item } => {
+        TypeExpr::List { bounds, item, .. } => {
             say_aggregate(said, "LIST", *bounds, " OF ")?;
             say_type(said, item)
         }
-        TypeExpr::Set { bounds, item } => {
+        TypeExpr::Set { bounds, item, .. } => {
             say_aggregate(said, "SET", *bounds, " OF ")?;
             say_type(said, item)
         }
-        TypeExpr::Bag { bounds, item } => {
+        TypeExpr::Bag { bounds, item, .. } => {
             say_aggregate(said, "BAG", *bounds, " OF ")?;
             say_type(said, item)
         }

@@ -16,7 +16,22 @@ pub(crate) struct Wanted<'a> {
     pub(crate) file: &'a str,
     pub(crate) lanes: LaneCount,
     pub(crate) capacity: Capacity,
+    /// How many faults are to be explained at most.
+    pub(crate) explained: usize,
 }
+
+/// The version of the program.
+const VERSION: &str = "0.1.0";
+
+/// What the help says of statuses.
+const STATUSES: &str = "\
+Status:
+  0  the file was read
+  1  the file has a fault
+  2  the words were refused
+  3  the schema was refused
+  4  a path could not be opened, a reader or a writer failed, or a bound was passed
+  5  there was no memory left, or a thread was refused";
 
 /// What the words ask for; the first word is the program's own name.
 pub(crate) fn what_is_wanted<'a>(
@@ -27,12 +42,14 @@ pub(crate) fn what_is_wanted<'a>(
     let paths = (matches.get_str("SCHEMA"), matches.get_str("FILE"));
     let lanes = matches.get_one("lanes").and_then(LaneCount::new);
     let capacity = matches.get_one("capacity").and_then(Capacity::new);
+    let explained = matches.get_one::<u32>("explain").unwrap_or(0) as usize;
     match (paths, lanes, capacity) {
         ((Some(schema), Some(file)), Some(lanes), Some(capacity)) => Ok(Wanted {
             schema,
             file,
             lanes,
             capacity,
+            explained,
         }),
         _ => Err(refused(
             alloc,
@@ -80,11 +97,24 @@ fn command<'a>(alloc: Global) -> Result<Command<'a>, ProgramError> {
         .default_value("256")
         .value_parser(value_parser!(u32).range(1..=4096))
         .help("how many instances may be out with one of them, 1 to 4096");
+    let explain = Arg::new(alloc, "explain")
+        .long("explain")
+        .value_name("N")
+        .num_args(0..=1)
+        .require_equals(true)
+        .default_missing_value("20")
+        .value_parser(value_parser!(u32).range(1..=4294967295))
+        .help(
+            "tell at most N faults, or 20, in the words of the file and of the schema, on standard error",
+        );
     let command = Command::new(alloc, "p21check")
+        .version(VERSION)
         .about("Reads a STEP file (ISO 10303-21) and checks it against an EXPRESS schema")
         .arg(schema)?
         .arg(file)?
         .arg(lanes)?
-        .arg(capacity)?;
+        .arg(capacity)?
+        .arg(explain)?
+        .after_help(STATUSES);
     Ok(command)
 }

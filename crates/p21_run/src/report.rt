@@ -7,6 +7,7 @@ ghost use Rattle.p21_render.specs.ReadingText.{IsReadingText};
 ghost use Rattle.p21_render.specs.SchemaFaultLine.{schema_fault_text};
 ghost use Rattle.p21_run.specs.declared.outcome.Outcome.TheVariants.{SchemaRefused};
 
+use crate::listener::Listener;
 use crate::outcome::Outcome;
 use p21_crew::Gate;
 use p21_desk::LaneCount;
@@ -35,18 +36,34 @@ pub(crate) struct Lanes<'g, G> {
 }
 
 /// The report of a file. Memory alone, or a thread, can be refused.
-pub(crate) fn report_of_file<R: Threads + Wait + Sync, G: Gate + Sync>(
+pub(crate) fn report_of_file<R: Threads + Wait + Sync, G: Gate + Sync, L: Listener>(
     rt: &R,
     alloc: Global,
     schema: &Schema,
     file: &[u8],
     by: &Lanes<'_, G>,
+    listener: &mut L,
 ) -> Result<Report, AllocError>
     ensures { IfOk result (λ report. IsReportOf schema.now file.now report.outcome report.text.items) }
 {
     match read_lanes(rt, alloc, schema, by.gate, file, by.lanes, by.capacity) {
-        Ok(reading) => report_of_reading(alloc, schema, &reading),
+        Ok(reading) => {
+            hear_reading(listener, schema, file, &reading);
+            report_of_reading(alloc, schema, &reading)
+        }
         Err(ReadError::Memory) => Err(AllocError),
+    }
+}
+
+/// Has the fault of a reading heard, where it has one.
+fn hear_reading<L: Listener>(
+    listener: &mut L,
+    schema: &Schema,
+    file: &[u8],
+    reading: &Reading<'_>,
+) {
+    if let Err(fault) = &reading.answer {
+        listener.hear(schema, file, &[*fault]);
     }
 }
 
