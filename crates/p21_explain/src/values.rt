@@ -15,7 +15,7 @@ pub(crate) fn say_value(said: &mut Vec<u8>, text: &[u8], at: usize) -> Result<()
     match token {
         Token::Int(digits) => say_scalar(said, "the integer ", digits, ""),
         Token::Real(digits) => say_scalar(said, "the real ", digits, ""),
-        Token::Enumeration(name) => say_scalar(said, "the enumeration .", name, "."),
+        Token::Enumeration(name) => say_scalar(said, "the enumeration `.", name, ".`"),
         Token::Name(name) => say(
             said,
             &[Part::Words("the instance name #"), Part::Number(name)],
