@@ -4,7 +4,7 @@ ghost use Rattle.std.specs.Prelude.{◌≤◌, length, OnOk, IfOk};
 ghost use Rattle.std.specs.String.{string_bytes};
 ghost use Rattle.p21_explain.specs.Printed.{IsPrinted};
 
-use crate::place::place_of;
+use crate::place::{Place, place_of};
 use crate::said::{Part, say};
 use crate::shown::{front_len, new_text, push_blanks, push_line_end, push_shown};
 use memchr::memchr;
@@ -17,23 +17,45 @@ const FEWEST: usize = 24;
 /// What stands for what is left out of a line.
 const LEFT_OUT: &[u8] = b"...";
 
-/// A paragraph: its head, the line of a place with a caret under it, and what is said of it. The place is at most the text's length.
+/// A paragraph on a place in a text, which is at most its length: its head, the line of the place with a caret under it, and what is
+/// said of it. The head tells the path, the line and the column, and the place that the report tells.
 pub(crate) fn paragraph(
     alloc: Global,
-    head: &[u8],
-    file: &[u8],
+    path: &str,
+    text: &[u8],
     at: usize,
+    told: u64,
     said: &[u8],
     width: usize,
 ) -> Result<String, AllocError>
-    requires { at ≤ length file.now }
-    ensures { IfOk result (λ text. IsPrinted (string_bytes text)) }
+    requires { at ≤ length text.now }
+    ensures { IfOk result (λ printed. IsPrinted (string_bytes printed)) }
 {
-    let mut text = new_text(alloc);
-    push_line(&mut text, head)?;
-    push_excerpt(alloc, &mut text, file, at, width)?;
-    push_line(&mut text, said)?;
-    Ok(text)
+    let place = place_of(text, at);
+    let head = head(alloc, path, &place, told)?;
+    let mut printed = new_text(alloc);
+    push_line(&mut printed, &head)?;
+    push_excerpt(alloc, &mut printed, text, at, &place, width)?;
+    push_line(&mut printed, said)?;
+    Ok(printed)
+}
+
+/// The first line of a paragraph: `PATH:LINE:COLUMN: fault at PLACE`.
+fn head(alloc: Global, path: &str, place: &Place, told: u64) -> Result<Vec<u8>, AllocError> {
+    let mut head = Vec::new(alloc);
+    say(
+        &mut head,
+        &[
+            Part::Words(path),
+            Part::Words(":"),
+            Part::Number(place.line as u64),
+            Part::Words(":"),
+            Part::Number(place.column as u64),
+            Part::Words(": fault at "),
+            Part::Number(told),
+        ],
+    )?;
+    Ok(head)
 }
 
 /// Adds a line.
@@ -51,13 +73,14 @@ fn push_excerpt(
     text: &mut String,
     file: &[u8],
     at: usize,
+    place: &Place,
     width: usize,
 ) -> Result<(), AllocError>
     requires within { at ≤ length file.now }
+    requires start { place.now.start ≤ at }
     requires printed { IsPrinted (string_bytes text.old) }
     ensures { OnOk result (IsPrinted (string_bytes text.new)) }
 {
-    let place = place_of(file, at);
     let line = line_from(file, place.start);
     let offset = (at - place.start).min(line.len());
     let mut margin = Vec::new(alloc);

@@ -9,7 +9,6 @@ use crate::faults::say_instance_fault;
 use crate::grammar::{say_bad_token, say_too_deep, say_truncated, say_unexpected};
 use crate::header::{say_header_entities, say_wrong_schema};
 use crate::instances::piece_at;
-use crate::place::place_of;
 use crate::said::{Part, say};
 use crate::subject::Subject;
 use p21_schema::Schema;
@@ -36,8 +35,7 @@ pub fn explain_fault(
     let at = in_text(file, fault.at);
     let subject = Subject { schema, file };
     let looked_at = say_fault(alloc, &mut said, subject, fault.kind, at)?.min(file.len());
-    let head = head(alloc, path, file, looked_at, fault.at)?;
-    paragraph(alloc, &head, file, looked_at, &said, width)
+    paragraph(alloc, path, file, looked_at, fault.at, &said, width)
 }
 
 /// A place in a text; its end where it is not so long.
@@ -48,33 +46,6 @@ pub(crate) fn in_text(text: &[u8], at: u64) -> usize
         Ok(at) => at.min(text.len()),
         Err(_) => text.len(),
     }
-}
-
-/// The first line of a paragraph: `PATH:LINE:COLUMN: fault at PLACE`.
-pub(crate) fn head(
-    alloc: Global,
-    path: &str,
-    text: &[u8],
-    looked_at: usize,
-    at: u64,
-) -> Result<Vec<u8>, AllocError>
-    requires { looked_at ≤ length text.now }
-{
-    let place = place_of(text, looked_at);
-    let mut head = Vec::new(alloc);
-    say(
-        &mut head,
-        &[
-            Part::Words(path),
-            Part::Words(":"),
-            Part::Number(place.line as u64),
-            Part::Words(":"),
-            Part::Number(place.column as u64),
-            Part::Words(": fault at "),
-            Part::Number(at),
-        ],
-    )?;
-    Ok(head)
 }
 
 /// Adds what is wrong; answers the place to look at.

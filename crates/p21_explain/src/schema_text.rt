@@ -5,7 +5,7 @@ ghost use Rattle.std.specs.String.{string_bytes};
 ghost use Rattle.p21_explain.specs.Printed.{IsPrinted};
 
 use crate::excerpt::paragraph;
-use crate::explained::{head, in_text};
+use crate::explained::in_text;
 use crate::said::{Part, say, say_front};
 use p21_express::SchemaError;
 use std::alloc::{AllocError, Global};
@@ -33,8 +33,7 @@ pub fn explain_schema_fault(
     let at = in_text(text, place);
     let mut said = Vec::new(alloc);
     say_rule(&mut said, word_at(text, at), rule)?;
-    let head = head(alloc, path, text, at, place)?;
-    paragraph(alloc, &head, text, at, &said, width)
+    paragraph(alloc, path, text, at, place, &said, width)
 }
 
 /// The rule that a schema breaks.

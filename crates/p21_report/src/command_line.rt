@@ -96,9 +96,10 @@ fn report<R: Files + Threads + Wait + Sync, I: Read, O: Write, E: Write>(
             &mut explainer,
         )
     };
+    let status = status_of(outcome)?;
     // As of any other word on `errors`, whether it could be written changes no status.
     let _ = errors.write_all(explainer.said().as_bytes());
-    status_of(outcome)
+    Ok(status)
 }
 
 /// The status of a run that wrote its report.
