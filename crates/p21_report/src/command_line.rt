@@ -4,25 +4,27 @@ ghost use Rattle.std.specs.Prelude.{◌≡◌, Ok, Err};
 ghost use Rattle.p21_run.specs.declared.outcome.Outcome.TheVariants.{Complete, Faulty, SchemaRefused, Device as Failed, Memory as NoMemory};
 ghost use Rattle.p21_report.specs.declared.program_error.ProgramError.TheVariants.{Device, Memory};
 
+use crate::explainer::Explainer;
 use crate::opened::Opened;
 use crate::program_error::ProgramError;
 use crate::words::{not_text, what_is_wanted};
 use p21_crew::OpenGate;
-use p21_run::{Outcome, Stream, run};
+use p21_run::{Outcome, Stream, run_heard};
 use std::alloc::{AllocError, Global};
 use std::fs::Files;
 use std::io::{self, Read, Write};
 use std::sync::Wait;
 use std::thread::Threads;
 
-/// The program `p21check SCHEMA FILE [--lanes N] [--capacity N] [--all] [--distinct]`: reads the schema, checks the file against it by
-/// so many lanes (4, if not said) of this capacity (256), and writes the report to `output`, by `--all` with all faults of the
-/// file. With `--distinct` a SET or a LIST OF UNIQUE that names one instance twice is a fault.
+/// The program `p21check SCHEMA FILE [--lanes N] [--capacity N] [--all] [--distinct] [--explain[=N]]`: reads the schema, checks the file
+/// against it by so many lanes (4, if not said) of this capacity (256), and writes the report to `output`, by `--all` with all
+/// faults of the file. With `--distinct` a SET or a LIST OF UNIQUE that names one instance twice is a fault. Where it is asked for, at
+/// most N faults (20) are then explained on `errors`.
 /// `words` are the words of the command line, the program's own name first; FILE `-` is `input`, and `rt` opens the others,
 /// FILE only where the schema was read. The answer is the status to end with: 0 where the file was read, 1 where it has a
 /// fault, 2 where the words were refused (clap's text goes to `errors`), 3 where the schema was refused, 4 where a path cannot
 /// be opened, a reader or the writer failed, or a bound on bytes or calls was passed, 5 where memory was refused, or a thread for
-/// a lane. The help goes to `output`, with status 0. A failed write to `errors` changes no status.
+/// a lane. The help and the version go to `output`, with status 0. A failed write to `errors` changes no status.
 pub fn program<R, I, O, E>(
     rt: &R,
     alloc: Global,
@@ -37,7 +39,7 @@ where
     O: Write,
     E: Write,
 {
-    match report(rt, alloc, words, input, output) {
+    match report(rt, alloc, words, input, output, errors) {
         Ok(status) => status,
         Err(error) => tell(&error, output, errors),
     }
@@ -54,21 +56,23 @@ pub fn unreadable_words<E: Write>(alloc: Global, error: &io::Error, errors: &mut
     tell_on(&error, errors)
 }
 
-/// Runs over the schema and the file that the words name.
-fn report<R: Files + Threads + Wait + Sync, I: Read, O: Write>(
+/// Runs over the schema and the file that the words name, and tells on `errors` what is to be said of faults.
+fn report<R: Files + Threads + Wait + Sync, I: Read, O: Write, E: Write>(
     rt: &R,
     alloc: Global,
     words: &[String],
     input: &mut I,
     output: &mut O,
+    errors: &mut E,
 ) -> Result<u8, ProgramError> {
     let wanted = what_is_wanted(alloc, words)?;
     let mut schema = Opened::new(rt, wanted.schema);
     let mut out = Stream::new(output);
     let (lanes, capacity) = (wanted.lanes, wanted.capacity);
+    let mut explainer = Explainer::new(alloc, wanted.schema, wanted.file, wanted.explained);
     let outcome = if wanted.file == "-" {
         let mut file = Stream::new(input);
-        run(
+        run_heard(
             rt,
             alloc,
             &OpenGate,
@@ -79,10 +83,11 @@ fn report<R: Files + Threads + Wait + Sync, I: Read, O: Write>(
             capacity,
             wanted.all,
             wanted.rules,
+            &mut explainer,
         )
     } else {
         let mut file = Opened::new(rt, wanted.file);
-        run(
+        run_heard(
             rt,
             alloc,
             &OpenGate,
@@ -93,9 +98,13 @@ fn report<R: Files + Threads + Wait + Sync, I: Read, O: Write>(
             capacity,
             wanted.all,
             wanted.rules,
+            &mut explainer,
         )
     };
-    status_of(outcome)
+    let status = status_of(outcome)?;
+    // As of any other word on `errors`, whether it could be written changes no status.
+    let _ = errors.write_all(explainer.said().as_bytes());
+    Ok(status)
 }
 
 /// The status of a run that wrote its report.

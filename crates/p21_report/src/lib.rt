@@ -2,6 +2,7 @@
 #![tactic(auto)]
 
 mod command_line;
+mod explainer;
 mod opened;
 mod program_error;
 mod words;

@@ -20,7 +20,22 @@ pub(crate) struct Wanted<'a> {
     /// Whether all faults are told, or the first alone.
     pub(crate) all: bool,
     pub(crate) rules: Rules,
+    /// How many faults are to be explained at most.
+    pub(crate) explained: usize,
 }
+
+/// The version of the program.
+const VERSION: &str = "0.1.0";
+
+/// What the help says of statuses.
+const STATUSES: &str = "\
+Status:
+  0  the file was read
+  1  the file has a fault
+  2  the words were refused
+  3  the schema was refused
+  4  a path could not be opened, a reader or a writer failed, or a bound was passed
+  5  there was no memory left, or a thread was refused";
 
 /// What the words ask for; the first word is the program's own name.
 pub(crate) fn what_is_wanted<'a>(
@@ -35,6 +50,7 @@ pub(crate) fn what_is_wanted<'a>(
     let rules = Rules {
         distinct: matches.get_flag("distinct"),
     };
+    let explained = matches.get_one::<u32>("explain").unwrap_or(0) as usize;
     match (paths, lanes, capacity) {
         ((Some(schema), Some(file)), Some(lanes), Some(capacity)) => Ok(Wanted {
             schema,
@@ -43,6 +59,7 @@ pub(crate) fn what_is_wanted<'a>(
             capacity,
             all,
             rules,
+            explained,
         }),
         _ => Err(refused(
             alloc,
@@ -98,13 +115,26 @@ fn command<'a>(alloc: Global) -> Result<Command<'a>, ProgramError> {
         .long("distinct")
         .action(ArgAction::SetTrue)
         .help("tell where a SET or a LIST OF UNIQUE names one instance twice");
+    let explain = Arg::new(alloc, "explain")
+        .long("explain")
+        .value_name("N")
+        .num_args(0..=1)
+        .require_equals(true)
+        .default_missing_value("20")
+        .value_parser(value_parser!(u32).range(1..=4294967295))
+        .help(
+            "tell at most N faults, or 20, in the words of the file and of the schema, on standard error",
+        );
     let command = Command::new(alloc, "p21check")
+        .version(VERSION)
         .about("Reads a STEP file (ISO 10303-21) and checks it against an EXPRESS schema")
         .arg(schema)?
         .arg(file)?
         .arg(lanes)?
         .arg(capacity)?
         .arg(all)?
-        .arg(distinct)?;
+        .arg(distinct)?
+        .arg(explain)?
+        .after_help(STATUSES);
     Ok(command)
 }

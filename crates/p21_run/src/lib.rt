@@ -2,12 +2,14 @@
 #![tactic(auto)]
 
 mod input;
+mod listener;
 mod outcome;
 mod output;
 mod report;
 mod runner;
 mod source;
 
+pub use listener::{Listener, Silent};
 pub use outcome::Outcome;
-pub use runner::run;
+pub use runner::{run, run_heard};
 pub use source::{IoFault, Sink, Source, Stream};

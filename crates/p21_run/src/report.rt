@@ -8,6 +8,7 @@ ghost use Rattle.p21_render.specs.ReadingText.{IsAllText, IsReadingText};
 ghost use Rattle.p21_render.specs.SchemaFaultLine.{schema_fault_text};
 ghost use Rattle.p21_run.specs.declared.outcome.Outcome.TheVariants.{SchemaRefused};
 
+use crate::listener::Listener;
 use crate::outcome::Outcome;
 use p21_crew::Gate;
 use p21_desk::LaneCount;
@@ -38,50 +39,59 @@ pub(crate) struct Lanes<'g, G> {
 }
 
 /// The report of a file. Memory alone, or a thread, can be refused.
-pub(crate) fn report_of_file<R: Threads + Wait + Sync, G: Gate + Sync>(
+pub(crate) fn report_of_file<R: Threads + Wait + Sync, G: Gate + Sync, L: Listener>(
     rt: &R,
     alloc: Global,
     schema: &Schema,
     file: &[u8],
     by: &Lanes<'_, G>,
+    listener: &mut L,
 ) -> Result<Report, AllocError>
     ensures { IfOk result (λ report. IsReport by.now.all schema.now file.now report.outcome report.text.items) }
 {
     if by.all {
-        full_report_of_file(rt, alloc, schema, file, by)
+        full_report_of_file(rt, alloc, schema, file, by, listener)
     } else {
-        first_report_of_file(rt, alloc, schema, file, by)
+        first_report_of_file(rt, alloc, schema, file, by, listener)
     }
 }
 
 /// The report of a file with all its faults.
-fn full_report_of_file<R: Threads + Wait + Sync, G: Gate + Sync>(
+fn full_report_of_file<R: Threads + Wait + Sync, G: Gate + Sync, L: Listener>(
     rt: &R,
     alloc: Global,
     schema: &Schema,
     file: &[u8],
     by: &Lanes<'_, G>,
+    listener: &mut L,
 ) -> Result<Report, AllocError>
     ensures { IfOk result (λ report. IsFullReportOf schema.now file.now report.outcome report.text.items) }
 {
     match read_all_faults(rt, alloc, schema, by.gate, file, by.lanes, by.capacity) {
-        Ok(all) => report_of_all(alloc, schema, &all),
+        Ok(all) => {
+            hear_all(listener, schema, file, &all);
+            report_of_all(alloc, schema, &all)
+        }
         Err(ReadError::Memory) => Err(AllocError),
     }
 }
 
 /// The report of a file with its first fault alone.
-fn first_report_of_file<R: Threads + Wait + Sync, G: Gate + Sync>(
+fn first_report_of_file<R: Threads + Wait + Sync, G: Gate + Sync, L: Listener>(
     rt: &R,
     alloc: Global,
     schema: &Schema,
     file: &[u8],
     by: &Lanes<'_, G>,
+    listener: &mut L,
 ) -> Result<Report, AllocError>
     ensures { IfOk result (λ report. IsReportOf schema.now file.now report.outcome report.text.items) }
 {
     match read_lanes(rt, alloc, schema, by.gate, file, by.lanes, by.capacity) {
-        Ok(reading) => report_of_reading(alloc, schema, &reading),
+        Ok(reading) => {
+            hear_reading(listener, schema, file, &reading);
+            report_of_reading(alloc, schema, &reading)
+        }
         Err(ReadError::Memory) => Err(AllocError),
     }
 }
@@ -97,6 +107,25 @@ fn report_of_all(alloc: Global, schema: &Schema, all: &AllFaults<'_>) -> Result<
     };
     let text = render_all(alloc, schema, all)?;
     Ok(Report { outcome, text })
+}
+
+/// Has the faults of a reading heard, where it has some.
+fn hear_all<L: Listener>(listener: &mut L, schema: &Schema, file: &[u8], all: &AllFaults<'_>) {
+    if let Err(faults) = &all.answer {
+        listener.hear(schema, file, faults.as_slice());
+    }
+}
+
+/// Has the fault of a reading heard, where it has one.
+fn hear_reading<L: Listener>(
+    listener: &mut L,
+    schema: &Schema,
+    file: &[u8],
+    reading: &Reading<'_>,
+) {
+    if let Err(fault) = &reading.answer {
+        listener.hear(schema, file, &[*fault]);
+    }
 }
 
 /// The report of a reading. Memory alone can fail.

@@ -11,6 +11,7 @@ ghost use Rattle.p21_run.specs.declared.outcome.Outcome.TheVariants.{Complete, D
 ghost use Rattle.p21_run.specs.declared.input.InputError.TheVariants.{Device as Failed};
 
 use crate::input::{FILE_BOUNDS, InputError, SCHEMA_BOUNDS, read_bounded};
+use crate::listener::{Listener, Silent};
 use crate::outcome::Outcome;
 use crate::output::{OutputError, WRITE_CALLS, write_bounded};
 use crate::report::{Lanes, Report, report_of_file, report_of_refusal};
@@ -56,13 +57,58 @@ pub fn run<R: Threads + Wait + Sync, G: Gate + Sync, S: Source, F: Source, K: Si
     ensures unwritten { result ≡ Device → K.marked out.new ≡ false → (schema_text file : List ℕ) → S.remaining schema_in.old ≡ Some schema_text → F.remaining file_in.old ≡ Some file → Keeps (K.taken out.old) (K.taken out.new) ⊎ IsLongText all rules schema_text file }
     ensures cause { result ≡ Device → S.marked schema_in.new ≡ false → F.marked file_in.new ≡ false → K.marked out.new ≡ false → (schema_text file : List ℕ) → S.remaining schema_in.old ≡ Some schema_text → F.remaining file_in.old ≡ Some file → IsLong all rules schema_text file }
 {
+    run_heard(
+        rt,
+        alloc,
+        gate,
+        schema_in,
+        file_in,
+        out,
+        lanes,
+        capacity,
+        all,
+        rules,
+        &mut Silent,
+    )
+}
+
+/// The same as `run`, where a listener hears the faults that are found, before the report is written.
+pub fn run_heard<
+    R: Threads + Wait + Sync,
+    G: Gate + Sync,
+    S: Source,
+    F: Source,
+    K: Sink,
+    L: Listener,
+>(
+    rt: &R,
+    alloc: Global,
+    gate: &G,
+    schema_in: &mut S,
+    file_in: &mut F,
+    out: &mut K,
+    lanes: LaneCount,
+    capacity: Capacity,
+    all: bool,
+    rules: Rules,
+    listener: &mut L,
+) -> Outcome
+    ensures written { (schema_text file : List ℕ) → S.remaining schema_in.old ≡ Some schema_text → F.remaining file_in.old ≡ Some file → Writes all rules schema_text file result (K.taken out.old) (K.taken out.new) }
+    ensures schema_bounded { result ≡ Complete ⊎ (result ≡ Faulty ⊎ result ≡ SchemaRefused) → (schema_text : List ℕ) → S.remaining schema_in.old ≡ Some schema_text → length schema_text ≤ most_schema_bytes }
+    ensures file_bounded { result ≡ Complete ⊎ result ≡ Faulty → (file : List ℕ) → F.remaining file_in.old ≡ Some file → length file ≤ most_file_bytes }
+    ensures unread { (schema_text : List ℕ) → S.remaining schema_in.old ≡ Some schema_text → HasNoReading schema_text ⊎ (most_schema_bytes < length schema_text) → file_in.new ≡ file_in.old }
+    ensures schema_failed { S.failed schema_in.old ≡ false → S.failed schema_in.new ≡ true → (result ≡ Device) × (file_in.new ≡ file_in.old) × (out.new ≡ out.old) }
+    ensures file_failed { F.failed file_in.old ≡ false → F.failed file_in.new ≡ true → (result ≡ Device) × (out.new ≡ out.old) }
+    ensures unwritten { result ≡ Device → K.marked out.new ≡ false → (schema_text file : List ℕ) → S.remaining schema_in.old ≡ Some schema_text → F.remaining file_in.old ≡ Some file → Keeps (K.taken out.old) (K.taken out.new) ⊎ IsLongText all rules schema_text file }
+    ensures cause { result ≡ Device → S.marked schema_in.new ≡ false → F.marked file_in.new ≡ false → K.marked out.new ≡ false → (schema_text file : List ℕ) → S.remaining schema_in.old ≡ Some schema_text → F.remaining file_in.old ≡ Some file → IsLong all rules schema_text file }
+{
     let by = Lanes {
         gate,
         lanes,
         capacity,
         all,
     };
-    match report(rt, alloc, schema_in, file_in, &by, rules) {
+    match report(rt, alloc, schema_in, file_in, &by, rules, listener) {
         Ok(report) => match write_bounded(out, report.text.as_slice(), WRITE_CALLS) {
             Ok(()) => report.outcome,
             Err(OutputError) => Outcome::Device,
@@ -73,13 +119,14 @@ pub fn run<R: Threads + Wait + Sync, G: Gate + Sync, S: Source, F: Source, K: Si
 }
 
 /// What is to be written of a schema and a file.
-fn report<R: Threads + Wait + Sync, G: Gate + Sync, S: Source, F: Source>(
+fn report<R: Threads + Wait + Sync, G: Gate + Sync, S: Source, F: Source, L: Listener>(
     rt: &R,
     alloc: Global,
     schema_in: &mut S,
     file_in: &mut F,
     by: &Lanes<'_, G>,
     rules: Rules,
+    listener: &mut L,
 ) -> Result<Report, InputError>
     ensures due { (schema_text file : List ℕ) → S.remaining schema_in.old ≡ Some schema_text → F.remaining file_in.old ≡ Some file → IfOk result (λ report. IsDue by.now.all rules schema_text file report.outcome report.text.items) }
     ensures schema_bounded { IfOk result (λ _. (schema_text : List ℕ) → S.remaining schema_in.old ≡ Some schema_text → length schema_text ≤ most_schema_bytes) }
@@ -91,19 +138,23 @@ fn report<R: Threads + Wait + Sync, G: Gate + Sync, S: Source, F: Source>(
 {
     let schema_text = read_bounded(alloc, schema_in, SCHEMA_BOUNDS)?;
     match read_declarations(alloc, schema_text.as_slice()) {
-        Ok(declarations) => report_against(rt, alloc, declarations, file_in, by, rules),
-        Err(error) => Ok(report_of_refusal(alloc, error)?),
+        Ok(declarations) => report_against(rt, alloc, declarations, file_in, by, rules, listener),
+        Err(error) => {
+            listener.hear_refused(schema_text.as_slice(), &error);
+            Ok(report_of_refusal(alloc, error)?)
+        }
     }
 }
 
 /// What is to be written of a file against a schema.
-fn report_against<R: Threads + Wait + Sync, G: Gate + Sync, F: Source>(
+fn report_against<R: Threads + Wait + Sync, G: Gate + Sync, F: Source, L: Listener>(
     rt: &R,
     alloc: Global,
     declarations: Declarations,
     file_in: &mut F,
     by: &Lanes<'_, G>,
     rules: Rules,
+    listener: &mut L,
 ) -> Result<Report, InputError>
     requires { IsWellFormed (plain_schema declarations) }
     ensures due { (file : List ℕ) → F.remaining file_in.old ≡ Some file → IfOk result (λ report. IsReport by.now.all (with_rules (plain_schema declarations) rules) file report.outcome report.text.items) }
@@ -112,16 +163,17 @@ fn report_against<R: Threads + Wait + Sync, G: Gate + Sync, F: Source>(
     ensures cause { result ≡ Err Failed → F.marked file_in.new ≡ false → (file : List ℕ) → F.remaining file_in.old ≡ Some file → most_calls ≤ length file }
 {
     let schema = Schema::build(alloc, declarations, rules)?;
-    report_of_source(rt, alloc, &schema, file_in, by)
+    report_of_source(rt, alloc, &schema, file_in, by, listener)
 }
 
 /// What is to be written of a file against the table of a schema.
-fn report_of_source<R: Threads + Wait + Sync, G: Gate + Sync, F: Source>(
+fn report_of_source<R: Threads + Wait + Sync, G: Gate + Sync, F: Source, L: Listener>(
     rt: &R,
     alloc: Global,
     schema: &Schema,
     file_in: &mut F,
     by: &Lanes<'_, G>,
+    listener: &mut L,
 ) -> Result<Report, InputError>
     ensures due { (file : List ℕ) → F.remaining file_in.old ≡ Some file → IfOk result (λ report. IsReport by.now.all schema.now file report.outcome report.text.items) }
     ensures bounded { IfOk result (λ _. (file : List ℕ) → F.remaining file_in.old ≡ Some file → length file ≤ most_file_bytes) }
@@ -129,5 +181,5 @@ fn report_of_source<R: Threads + Wait + Sync, G: Gate + Sync, F: Source>(
     ensures cause { result ≡ Err Failed → F.marked file_in.new ≡ false → (file : List ℕ) → F.remaining file_in.old ≡ Some file → most_calls ≤ length file }
 {
     let file = read_bounded(alloc, file_in, FILE_BOUNDS)?;
-    Ok(report_of_file(rt, alloc, schema, file.as_slice(), by)?)
+    Ok(report_of_file(rt, alloc, schema, file.as_slice(), by, listener)?)
 }

@@ -152,6 +152,13 @@ impl Schema {
         let _ = &self.declarations;
     }
 
+    /// The declarations that this is the table of.
+    pub fn declared(&self) -> &Declarations
+        ensures { plain_schema result.now ≡ self.now }
+    {
+        &self.declarations
+    }
+
     /// The name behind SCHEMA.
     pub fn name(&self) -> &[u8]
         ensures { result.now ≡ self.now.name }

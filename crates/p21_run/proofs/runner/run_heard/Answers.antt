@@ -1,7 +1,7 @@
 use Rattle.std.proofs.Common.{length, take, subst, ap, inr, arith}
 use Rattle.std.specs.Io.KnownBytes.{Appends}
 use Rattle.p21_run.proofs.DueLemmas.{written, never_due}
-use Rattle.p21_run.proofs.runner.run.Goals as goal
+use Rattle.p21_run.proofs.runner.run_heard.Goals as goal
 
 pub returns-in-Ok-write_bounded-clause-written : goal.returns-in-Ok-write_bounded-clause-written
 returns-in-Ok-write_bounded-clause-written g c schema_text file s f = written c.args.all c.args.rules schema_text file c.in-Ok.report.text.items c.in-Ok.report.outcome (g.K.Sink.taken c.args.out.now) (g.K.Sink.taken c.write_bounded.new.sink) (c.in-Ok.ensures.due schema_text file s f)

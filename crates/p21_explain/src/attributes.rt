@@ -1,0 +1,82 @@
+//! The attributes of a record, by the schema.
+
+ghost use Rattle.p21_schema.specs.Place.{IsEntityOf};
+
+use p21_express::{AttrDecl, EntityDecl};
+use p21_schema::{AttrId, EntityId, Schema};
+
+/// An attribute, and the entity that newly declares it.
+#[derive(Clone, Copy)]
+pub(crate) struct Attribute<'a> {
+    pub(crate) owner: &'a EntityDecl,
+    pub(crate) declared: &'a AttrDecl,
+}
+
+/// How many attributes a record of the entity has: its row, or in a complex instance its own ones.
+pub(crate) fn count(schema: &Schema, complex: bool, entity: EntityId) -> usize
+    requires { IsEntityOf schema.now entity }
+{
+    if complex {
+        schema.own_count(entity)
+    } else {
+        schema.row_count(entity)
+    }
+}
+
+/// An attribute of a record of the entity; none where it has no more.
+pub(crate) fn attribute_of(
+    schema: &Schema,
+    complex: bool,
+    entity: EntityId,
+    position: usize,
+) -> Option<Attribute<'_>>
+    requires { IsEntityOf schema.now entity }
+{
+    if complex {
+        if position < schema.own_count(entity) {
+            return newly_declared(schema, schema.own(entity, position));
+        }
+    } else if position < schema.row_count(entity) {
+        return newly_declared(schema, schema.row(entity, position));
+    }
+    None
+}
+
+/// The declaration that newly declares an attribute.
+fn newly_declared(schema: &Schema, attribute: AttrId) -> Option<Attribute<'_>> {
+    for owner in &schema.declared().entities {
+        if let Some(declared) = own_declaration(schema, owner, attribute) {
+            return Some(Attribute { owner, declared });
+        }
+    }
+    None
+}
+
+/// The same, where it stands in this entity.
+fn own_declaration<'a>(
+    schema: &Schema,
+    owner: &'a EntityDecl,
+    attribute: AttrId,
+) -> Option<&'a AttrDecl> {
+    let entity = schema.entity(&owner.name)?;
+    for position in 0..schema.own_count(entity) {
+        if schema.own(entity, position) == attribute {
+            return explicit_at(owner, position);
+        }
+    }
+    None
+}
+
+/// The explicit attribute that an entity newly declares with so many before it.
+fn explicit_at(owner: &EntityDecl, position: usize) -> Option<&AttrDecl> {
+    let mut before = position;
+    for declared in &owner.attributes {
+        if declared.of.is_none() {
+            if before == 0 {
+                return Some(declared);
+            }
+            before -= 1;
+        }
+    }
+    None
+}

@@ -1,0 +1,132 @@
+//! A line of a text, with a caret under a place in it.
+
+ghost use Rattle.std.specs.Prelude.{◌≤◌, length, OnOk, IfOk};
+ghost use Rattle.std.specs.String.{string_bytes};
+ghost use Rattle.p21_explain.specs.Printed.{IsPrinted};
+
+use crate::place::{Place, place_of};
+use crate::said::{Part, say};
+use crate::shown::{front_len, new_text, push_blanks, push_line_end, push_shown};
+use memchr::memchr;
+use std::alloc::{AllocError, Global};
+use unicode_width::UnicodeWidthStr;
+
+/// The fewest columns that a line is shown in.
+const FEWEST: usize = 24;
+
+/// What stands for what is left out of a line.
+const LEFT_OUT: &[u8] = b"...";
+
+/// A paragraph on a place in a text, which is at most its length: its head, the line of the place with a caret under it, and what is
+/// said of it. The head tells the path, the line and the column, and the place that the report tells.
+pub(crate) fn paragraph(
+    alloc: Global,
+    path: &str,
+    text: &[u8],
+    at: usize,
+    told: u64,
+    said: &[u8],
+    width: usize,
+) -> Result<String, AllocError>
+    requires { at ≤ length text.now }
+    ensures { IfOk result (λ printed. IsPrinted (string_bytes printed)) }
+{
+    let place = place_of(text, at);
+    let head = head(alloc, path, &place, told)?;
+    let mut printed = new_text(alloc);
+    push_line(&mut printed, &head)?;
+    push_excerpt(alloc, &mut printed, text, at, &place, width)?;
+    push_line(&mut printed, said)?;
+    Ok(printed)
+}
+
+/// The first line of a paragraph: `PATH:LINE:COLUMN: fault at PLACE`.
+fn head(alloc: Global, path: &str, place: &Place, told: u64) -> Result<Vec<u8>, AllocError> {
+    let mut head = Vec::new(alloc);
+    say(
+        &mut head,
+        &[
+            Part::Words(path),
+            Part::Words(":"),
+            Part::Number(place.line as u64),
+            Part::Words(":"),
+            Part::Number(place.column as u64),
+            Part::Words(": fault at "),
+            Part::Number(told),
+        ],
+    )?;
+    Ok(head)
+}
+
+/// Adds a line.
+pub(crate) fn push_line(text: &mut String, line: &[u8]) -> Result<(), AllocError>
+    requires { IsPrinted (string_bytes text.old) }
+    ensures { OnOk result (IsPrinted (string_bytes text.new)) }
+{
+    push_shown(text, line, usize::MAX)?;
+    push_line_end(text)
+}
+
+/// Adds the line of a place, in so many columns, and a line with a caret under the place.
+fn push_excerpt(
+    alloc: Global,
+    text: &mut String,
+    file: &[u8],
+    at: usize,
+    place: &Place,
+    width: usize,
+) -> Result<(), AllocError>
+    requires within { at ≤ length file.now }
+    requires start { place.now.start ≤ at }
+    requires printed { IsPrinted (string_bytes text.old) }
+    ensures { OnOk result (IsPrinted (string_bytes text.new)) }
+{
+    let line = line_from(file, place.start);
+    let offset = (at - place.start).min(line.len());
+    let mut margin = Vec::new(alloc);
+    say(&mut margin, &[Part::Number(place.line as u64)])?;
+    let room = width.saturating_sub(margin.len()).max(FEWEST);
+    let before = end_shown(alloc, &line[..offset], room / 3 * 2)?;
+    let columns = before.as_str().width();
+
+    push_shown(text, &margin, usize::MAX)?;
+    push_shown(text, b" | ", usize::MAX)?;
+    push_shown(text, before.as_bytes(), usize::MAX)?;
+    let is_whole = push_shown(text, &line[offset..], room.saturating_sub(columns))?;
+    let left_out: &[u8] = if is_whole { b"" } else { LEFT_OUT };
+    push_shown(text, left_out, usize::MAX)?;
+    push_line_end(text)?;
+
+    push_blanks(text, margin.len())?;
+    push_shown(text, b" | ", usize::MAX)?;
+    push_blanks(text, columns)?;
+    push_line(text, b"^")
+}
+
+/// The line that begins at a place, without its end.
+fn line_from(file: &[u8], start: usize) -> &[u8]
+    requires { start ≤ length file.now }
+{
+    let rest = &file[start..];
+    let len = match memchr(b'\n', rest) {
+        Some(len) => len,
+        None => rest.len(),
+    };
+    if len > 0 && rest[len - 1] == b'\r' {
+        &rest[..len - 1]
+    } else {
+        &rest[..len]
+    }
+}
+
+/// The end of some bytes as it is shown in so many columns, with three points before it where that is not all of them.
+fn end_shown(alloc: Global, bytes: &[u8], room: usize) -> Result<String, AllocError>
+    ensures { IfOk result (λ text. IsPrinted (string_bytes text)) }
+{
+    let mut text = new_text(alloc);
+    let from = front_len(bytes, room);
+    let left_out: &[u8] = if from > 0 { LEFT_OUT } else { b"" };
+    push_shown(&mut text, left_out, usize::MAX)?;
+    push_shown(&mut text, &bytes[from..], usize::MAX)?;
+    Ok(text)
+}

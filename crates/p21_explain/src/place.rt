@@ -1,0 +1,53 @@
+//! Lines and columns.
+
+ghost use Rattle.std.specs.Prelude.{◌≡◌, ◌+◌, ◌≤◌, length, take};
+ghost use Rattle.bstr.specs.Utf8.{lossy_chars};
+ghost use Rattle.p21_explain.specs.Places.{line_ends, IsLineStart, column_of};
+
+use bstr::ByteSlice;
+use memchr::{memchr_iter, memrchr};
+
+/// Where a byte stands among the lines of a text.
+#[derive(Clone, Copy, Debug, PartialEq, Eq)]
+pub struct Place {
+    /// Its line, from 1 on: a line ends behind a byte 10.
+    pub line: usize,
+    /// Its column, from 1 on, in characters of UTF-8. A tab is one, and so is a longest piece that is no character.
+    pub column: usize,
+    /// Where its line begins, in bytes from the text's first byte.
+    pub start: usize,
+}
+
+/// Where the byte at a place of a text stands. The place is at most the text's length.
+pub fn place_of(text: &[u8], at: usize) -> Place
+    requires { at ≤ length text.now }
+    ensures line { result.line ≡ line_ends (take at text.now) + 1 }
+    ensures start { IsLineStart (take at text.now) result.start }
+    ensures column { result.column ≡ column_of (take at text.now) result.start }
+{
+    let before = &text[..at];
+    let start = line_start(before);
+    Place {
+        line: memchr_iter(b'\n', before).count() + 1,
+        column: char_count(&before[start..]) + 1,
+        start,
+    }
+}
+
+/// How many characters some bytes are; a longest piece that is none counts as one.
+fn char_count(bytes: &[u8]) -> usize
+    ensures count { result ≡ length (lossy_chars bytes.now) }
+    ensures bound { result ≤ length bytes.now }
+{
+    bytes.chars().count()
+}
+
+/// Where the line begins in which a text ends.
+fn line_start(text: &[u8]) -> usize
+    ensures { IsLineStart text.now result }
+{
+    match memrchr(b'\n', text) {
+        Some(end) => end + 1,
+        None => 0,
+    }
+}

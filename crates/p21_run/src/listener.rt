@@ -1,0 +1,26 @@
+//! Who hears what a run finds.
+
+use p21_express::SchemaError;
+use p21_schema::Schema;
+use p21_tree::Fault;
+
+/// Who hears the faults that a run finds, before it writes the report. What it does with them is its own affair: no contract of a run
+/// hangs on it.
+pub trait Listener {
+    /// Hears the faults of a file that was checked against a schema: those that the report tells, in its order. It is not called for a
+    /// file without a fault.
+    fn hear(&mut self, schema: &Schema, file: &[u8], faults: &[Fault]);
+
+    /// Hears why the text of a schema is refused: what the report tells.
+    fn hear_refused(&mut self, text: &[u8], error: &SchemaError);
+}
+
+/// Hears and forgets.
+#[derive(Clone, Copy, Debug)]
+pub struct Silent;
+
+impl Listener for Silent {
+    fn hear(&mut self, _schema: &Schema, _file: &[u8], _faults: &[Fault]) {}
+
+    fn hear_refused(&mut self, _text: &[u8], _error: &SchemaError) {}
+}
