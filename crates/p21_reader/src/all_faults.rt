@@ -19,12 +19,12 @@ ghost use Rattle.p21_reader.specs.declared.judged.Judgement.{Judgement};
 use crate::all_laws::values_give_all_faults;
 use crate::fault_gathering::FaultGathering;
 use crate::judged::LocalReader;
-use crate::judging::Judging;
+use crate::judging::{Judging, judge_pieces};
 use crate::local::checked_preface;
 use crate::pieces::Pieces;
 use crate::reading::ReadError;
 use crate::stop::Stop;
-use p21_crew::{Gate, run_crew};
+use p21_crew::Gate;
 use p21_cut::Cutter;
 use p21_desk::LaneCount;
 use p21_join::{Model, ModelEntities};
@@ -82,7 +82,7 @@ pub fn read_all_faults<'a, G: Gate + Sync, R: Threads + Wait + Sync>(
         schema,
     };
     let gathering = FaultGathering::new(alloc);
-    let Ok(run) = run_crew(rt, alloc, &work, gate, pieces, gathering, lanes, capacity) else {
+    let Ok(run) = judge_pieces(rt, alloc, &work, gate, pieces, gathering, lanes, capacity) else {
         return Err(ReadError::Memory);
     };
     let Ok(answer) = conclude(rt, alloc, schema, file, run.tail as usize, run.gatherer) else {

@@ -1,10 +1,22 @@
 //! Judging pieces as the work of a crew.
 
+ghost use Rattle.std.specs.Prelude.{◌≤◌, List, [], length, map, IfOk};
+ghost use Rattle.p21_tree.specs.declared.pieces.Piece.{Piece};
+ghost use Rattle.p21_cut.specs.Cutter.{Gives, file_of, plain_piece};
+ghost use Rattle.p21_crew.specs.Run.{IsRun};
+ghost use Rattle.p21_reader.specs.Lanes.{IsStated};
+ghost use Rattle.p21_reader.specs.declared.judged.Judgement.{Judgement};
+
 use crate::judged::{Judge, Judged, Judgement, judge_by};
-use p21_crew::Work;
+use crate::pieces::Pieces;
+use p21_crew::{Gate, Gathers, Run, Work, run_crew};
+use p21_desk::LaneCount;
+use p21_lanes::Capacity;
 use p21_schema::Schema;
 use p21_tree::{InstanceReader, Piece};
 use std::alloc::{AllocError, Global};
+use std::sync::Wait;
+use std::thread::Threads;
 
 /// The work of judging pieces, by any judge, and of looking up the entity of each instance.
 #[derive(Clone, Copy)]
@@ -38,6 +50,32 @@ impl<'a, J: Judge> Work<Piece<'a>> for Judging<'_, J> {
     ) -> Result<Judgement<'a>, AllocError> {
         judge_by(self.judge, self.schema, kept, piece)
     }
+}
+
+/// The run of a crew that judges pieces, by any judge. An error is want of memory, or of a thread.
+pub(crate) fn judge_pieces<
+    'a,
+    J: Judge + Sync,
+    G: Gate + Sync,
+    A: Gathers<Judgement<'a>> + Drop,
+    R: Threads + Wait + Sync,
+>(
+    rt: &R,
+    alloc: Global,
+    judging: &Judging<'_, J>,
+    gate: &G,
+    pieces: Pieces<'a>,
+    gathering: A,
+    lanes: LaneCount,
+    capacity: Capacity,
+) -> Result<Run<Piece<'a>, Judgement<'a>, A>, AllocError>
+    requires { A.holds gathering [] }
+    ensures { IfOk result (λ run. (ps : List Piece) × (js : List Judgement)
+        × (Gives pieces.cutter (map plain_piece ps) run.tail × (run.tail ≤ length (file_of pieces.cutter)))
+        × IsRun (IsStated (J.judges judging.now.judge.now) judging.now.schema.now) lanes ps js run.dealt.items run.receipts.items run.returned.items
+        × A.holds run.gatherer js) }
+{
+    run_crew(rt, alloc, judging, gate, pieces, gathering, lanes, capacity)
 }
 
 /// The work of judging pieces, by any judge.

@@ -110,7 +110,7 @@ fn command<'a>(alloc: Global) -> Result<Command<'a>, ProgramError> {
     let all = Arg::new(alloc, "all")
         .long("all")
         .action(ArgAction::SetTrue)
-        .help("tells all faults of the file, a line each, and not the first alone");
+        .help("tell all faults of the file, a line each, and not the first alone");
     let distinct = Arg::new(alloc, "distinct")
         .long("distinct")
         .action(ArgAction::SetTrue)

@@ -154,7 +154,7 @@ impl Schema {
 
     /// The declarations that this is the table of.
     pub fn declared(&self) -> &Declarations
-        ensures { plain_schema result.now ≡ self.now }
+        ensures { (rules : Rules) × (self.now ≡ with_rules (plain_schema result.now) rules) }
     {
         &self.declarations
     }
