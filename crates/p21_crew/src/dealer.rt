@@ -43,7 +43,7 @@ impl<P: Copy, O: Drop, W: Work<P, Out = O>, C: Cuts<Piece = P>, A: Gathers<O>> D
     ghost use Rattle.p21_lanes.specs.Batch.{batch_items};
     ghost use Rattle.p21_crew.specs.Underway.{Goes, HasRoom, IsWhole};
 
-    /// Deals all pieces and gathers what is returned for them; the answer is where the tail begins. It rests where no lane has room
+    /// Deals all pieces and gathers what is returned for them; the answer is where the tail begins. It rests where nothing can be dealt
     /// and no result is there. An error is want of memory, here or of a worker.
     pub(crate) fn run<R: Wait>(&mut self, rt: &R, rest: &Rest) -> Result<u64, AllocError>
         ensures goes { OnOk result (Goes C.cuts A.holds self.old self.new) }
@@ -154,13 +154,13 @@ impl<P: Copy, O: Drop, W: Work<P, Out = O>, C: Cuts<Piece = P>, A: Gathers<O>> D
         free
     }
 
-    /// Whether the batch may be dealt to a lane.
+    /// Whether there are pieces to deal, and a lane has room for them.
     fn has_room(&self, lane: u32) -> bool
         requires { lane < self.now.desk.lanes }
         ensures { IsTrue result → HasRoom self.now lane }
     {
         let room = u64::from(self.desk.capacity().get()) - self.desk.waiting(lane);
-        self.batch.len() as u64 <= room
+        !self.batch.is_empty() && self.batch.len() as u64 <= room
     }
 
     /// How many pieces were dealt to a lane for which no result is seen.

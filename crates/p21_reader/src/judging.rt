@@ -71,7 +71,7 @@ pub(crate) fn judge_pieces<
 ) -> Result<Run<Piece<'a>, Judgement<'a>, A>, AllocError>
     requires { A.holds gathering [] }
     ensures { IfOk result (λ run. (ps : List Piece) × (js : List Judgement)
-        × (Gives pieces.cutter (map plain_piece ps) run.tail × (run.tail ≤ length (file_of pieces.cutter)))
+        × (Gives pieces.entry.cutter (map plain_piece ps) run.tail × (run.tail ≤ length (file_of pieces.entry.cutter)))
         × IsRun (IsStated (J.judges judging.now.judge.now) judging.now.schema.now) lanes ps js run.dealt.items run.receipts.items run.returned.items
         × A.holds run.gatherer js) }
 {
