@@ -108,12 +108,21 @@ fn report_of_reading(
     ensures outcome { IfOk result (λ report. report.outcome ≡ outcome_of (plain_answer reading.now.answer)) }
     ensures text { IfOk result (λ report. IsReadingText schema.now (plain_answer reading.now.answer) report.text.items) }
 {
-    let outcome = match &reading.answer {
+    let text = render(alloc, schema, reading)?;
+    Ok(Report {
+        outcome: outcome(reading),
+        text,
+    })
+}
+
+/// How a run ends whose file has this reading.
+fn outcome(reading: &Reading<'_>) -> Outcome
+    ensures { result ≡ outcome_of (plain_answer reading.now.answer) }
+{
+    match &reading.answer {
         Ok(_) => Outcome::Complete,
         Err(_) => Outcome::Faulty,
-    };
-    let text = render(alloc, schema, reading)?;
-    Ok(Report { outcome, text })
+    }
 }
 
 /// The report of a schema that is refused. Memory alone can fail.

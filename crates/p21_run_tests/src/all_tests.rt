@@ -1,6 +1,6 @@
 //! A run that tells all faults, over a writer that fails.
 
-use crate::streams::{Bytes, Text, Turn};
+use crate::streams::{Bytes, Text, Turn, Turns};
 use p21_crew::OpenGate;
 use p21_desk::LaneCount;
 use p21_lanes::Capacity;
@@ -39,7 +39,7 @@ fn run_with_all<R: Threads + Wait + Sync>(rt: &R, alloc: Global, out: &mut Text)
 #[test]
 fn writer_of_all_faults_that_fails(rt: HostRuntime) -> Result<(), Fail> {
     for calls in 0..=LINES.len() {
-        let mut out = Text::until(rt.alloc(), 1, calls as u64, Turn::Fails);
+        let mut out = Text::in_steps(rt.alloc(), 1, Turns::until(calls as u64, Turn::Fails));
         let outcome = run_with_all(&rt, rt.alloc(), &mut out);
         let writes_all = calls == LINES.len();
         assert_eq!(rt; outcome == Outcome::Faulty, writes_all, "after {calls}");

@@ -13,68 +13,96 @@ pub(crate) enum Turn {
     Fails,
 }
 
+/// What calls do, one after the other: so many do the first, and all behind them the other.
+#[derive(Clone, Copy, Debug)]
+pub(crate) struct Turns {
+    first: Turn,
+    calls: u64,
+    then: Turn,
+}
+
+impl Turns {
+    /// Each call moves bytes.
+    pub(crate) const MOVING: Turns = Turns {
+        first: Turn::Moves,
+        calls: 0,
+        then: Turn::Moves,
+    };
+
+    /// So many calls move bytes, and behind them each does this.
+    pub(crate) fn until(calls: u64, then: Turn) -> Turns {
+        Turns {
+            first: Turn::Moves,
+            calls,
+            then,
+        }
+    }
+
+    /// So many calls are interrupted, and behind them each moves bytes.
+    pub(crate) fn behind(calls: u64) -> Turns {
+        Turns {
+            first: Turn::IsInterrupted,
+            calls,
+            then: Turn::Moves,
+        }
+    }
+
+    /// Whether the next call moves bytes.
+    fn next(&mut self) -> Result<(), IoFault> {
+        let turn = if self.calls > 0 {
+            self.calls -= 1;
+            self.first
+        } else {
+            self.then
+        };
+        match turn {
+            Turn::Moves => Ok(()),
+            Turn::IsInterrupted => Err(IoFault::Interrupted),
+            Turn::Fails => Err(IoFault::Failed),
+        }
+    }
+}
+
 /// A source of some bytes.
 #[derive(Drop)]
 pub(crate) struct Bytes<'a> {
     left: &'a [u8],
     /// The most bytes of a call, but at least one.
     most: usize,
-    /// How many calls are made before the ones that do this.
-    calls: u64,
-    then: Turn,
+    turns: Turns,
     marked: bool,
+    failed: bool,
 }
 
 impl<'a> Bytes<'a> {
     /// As many bytes a call as there is room for.
     pub(crate) fn new(bytes: &'a [u8]) -> Bytes<'a> {
-        Bytes::in_steps(bytes, usize::MAX)
+        Bytes::in_steps(bytes, usize::MAX, Turns::MOVING)
     }
 
-    /// At most so many bytes a call.
-    pub(crate) fn in_steps(bytes: &'a [u8], most: usize) -> Bytes<'a> {
+    /// At most so many bytes a call, by these turns.
+    pub(crate) fn in_steps(bytes: &'a [u8], most: usize, turns: Turns) -> Bytes<'a> {
         Bytes {
             left: bytes,
             most,
-            calls: u64::MAX,
-            then: Turn::Moves,
+            turns,
             marked: false,
+            failed: false,
         }
-    }
-
-    /// At most so many bytes a call, and after so many calls each does this.
-    pub(crate) fn until(bytes: &'a [u8], most: usize, calls: u64, then: Turn) -> Bytes<'a> {
-        Bytes {
-            left: bytes,
-            most,
-            calls,
-            then,
-            marked: false,
-        }
-    }
-}
-
-/// Whether a call moves bytes where so many calls are left before those that do this; one call fewer is left then.
-fn take_turn(calls: &mut u64, then: Turn) -> Result<(), IoFault> {
-    if *calls > 0 {
-        *calls -= 1;
-        return Ok(());
-    }
-    match then {
-        Turn::Moves => Ok(()),
-        Turn::IsInterrupted => Err(IoFault::Interrupted),
-        Turn::Fails => Err(IoFault::Failed),
     }
 }
 
 impl Source for Bytes<'_> {
     ghost marked = { λ s. s.marked };
 
+    ghost failed = { λ s. s.failed };
+
     ghost remaining = { λ s. Some s.left.now };
 
     fn read(&mut self, into: &mut [u8]) -> Result<usize, IoFault> {
-        if let Err(fault) = take_turn(&mut self.calls, self.then) {
+        if let Err(fault) = self.turns.next() {
             self.marked = true;
+            self.failed |= fault == IoFault::Failed;
             return Err(fault);
         }
         let count = into.len().min(self.left.len()).min(self.most.max(1));
@@ -90,25 +118,22 @@ pub(crate) struct Text {
     bytes: Vec<u8>,
     /// The most bytes of a call.
     most: usize,
-    /// How many calls are made before the ones that do this.
-    calls: u64,
-    then: Turn,
+    turns: Turns,
     marked: bool,
 }
 
 impl Text {
     /// All bytes of each call.
     pub(crate) fn new(alloc: Global) -> Text {
-        Text::until(alloc, usize::MAX, u64::MAX, Turn::Moves)
+        Text::in_steps(alloc, usize::MAX, Turns::MOVING)
     }
 
-    /// At most so many bytes a call, and after so many calls each does this.
-    pub(crate) fn until(alloc: Global, most: usize, calls: u64, then: Turn) -> Text {
+    /// At most so many bytes a call, by these turns.
+    pub(crate) fn in_steps(alloc: Global, most: usize, turns: Turns) -> Text {
         Text {
             bytes: Vec::new(alloc),
             most,
-            calls,
-            then,
+            turns,
             marked: false,
         }
     }
@@ -124,7 +149,7 @@ impl Sink for Text {
     ghost taken = { λ s. Some s.bytes.items };
 
     fn write(&mut self, from: &[u8]) -> Result<usize, IoFault> {
-        if let Err(fault) = take_turn(&mut self.calls, self.then) {
+        if let Err(fault) = self.turns.next() {
             self.marked = true;
             return Err(fault);
         }
