@@ -6,12 +6,12 @@ use Rattle.p21_crew.specs.declared.flight.Flight.{Flight}
 use Rattle.p21_lanes.specs.LaneIn.{accepted}
 use Rattle.p21_lanes.specs.LaneOut.{taken, took_end}
 use Rattle.p21_desk.specs.Dealing.{share}
-use Rattle.std.specs.Prelude.{IfSome, slice_get, slice_set}
+use Rattle.std.specs.Prelude.{slice_get, slice_set}
 use Rattle.std.proofs.lemmas.List.{map-append, length-append, length-replicate}
 use Rattle.std.proofs.lemmas.List.Elements.{All-append, All-replicate}
 use Rattle.std.proofs.lemmas.Option.{get_or_from_slice_get}
 use Rattle.p21_lanes.specs.Batch.{batch_items}
-use Rattle.p21_crew.specs.Underway.{Goes, Underway, LaneStands, IsCut, HasRoom}
+use Rattle.p21_crew.specs.Underway.{Goes, Underway, LaneStands, IsCut}
 use Rattle.p21_crew.proofs.EachLemmas.{each_at, each_set}
 use Rattle.p21_crew.proofs.ShareLemmas.{share-append, share-all, share-none, share-longer, share-next, share-skip}
 
@@ -195,8 +195,3 @@ module _ {P O W K C A : Type 0} where
         holds_outs = rw gatherer stands.holds_outs;
         cut = rw (batch, tail) all;
       }
-
-  -- room for the same batch at the same desk
-  pub room_same : (d e : Dealer P O W C A K) (free : Option ℕ) → e.desk ≡ d.desk → e.batch ≡ d.batch → IfSome free (HasRoom d) → IfSome free (HasRoom e)
-  room_same d e None desk batch room = room
-  room_same d e (Some lane) desk batch room = rw (desk, batch) room

@@ -45,7 +45,7 @@ impl<P: Copy, O: Drop, W: Work<P, Out = O>, C: Cuts<Piece = P>, A: Gathers<O>> D
 
     /// Deals all pieces and gathers what is returned for them; the answer is where the tail begins. It rests where nothing can be dealt
     /// and no result is there. An error is want of memory, here or of a worker.
-    pub(crate) fn run<R: Wait>(&mut self, rt: &R, rest: &Rest) -> Result<u64, AllocError>
+    pub(crate) fn run<R: Wait>(&mut self, rt: &R, rest: &mut Rest) -> Result<u64, AllocError>
         ensures goes { OnOk result (Goes C.cuts A.holds self.old self.new) }
         ensures whole { IfOk result (λ tail. IsWhole self.new tail) }
     {
@@ -122,7 +122,7 @@ impl<P: Copy, O: Drop, W: Work<P, Out = O>, C: Cuts<Piece = P>, A: Gathers<O>> D
         }
     }
 
-    /// Deals the batch to the lane that has the least to read, where a lane has room for it. The answer is whether one has.
+    /// Deals the batch to a lane that has little to read, where one has room for it. The answer is whether one has.
     fn deal<R: Wait>(&mut self, rt: &R) -> Result<bool, AllocError>
         ensures { OnOk result (Goes C.cuts A.holds self.old self.new) }
     {
@@ -137,21 +137,18 @@ impl<P: Copy, O: Drop, W: Work<P, Out = O>, C: Cuts<Piece = P>, A: Gathers<O>> D
         Ok(true)
     }
 
-    /// Of the lanes that have room for the batch, and not much to read, one that has the least.
+    /// The first lane that has less than two batches to read, and room for the batch: so no more workers are kept awake than there
+    /// is work for.
     fn free_lane(&mut self) -> Option<u32>
         ensures goes { Goes C.cuts A.holds self.old self.new }
         ensures lane { IfSome result (HasRoom self.new) }
     {
-        let mut least = 2 * self.batch.room() as u64;
-        let mut free = None;
         for lane in 0..self.desk.lanes().get() {
-            let unread = self.unread(lane);
-            if unread < least && self.has_room(lane) {
-                least = unread;
-                free = Some(lane);
+            if self.has_little(lane) && self.has_room(lane) {
+                return Some(lane);
             }
         }
-        free
+        None
     }
 
     /// Whether there are pieces to deal, and a lane has room for them.
@@ -163,15 +160,25 @@ impl<P: Copy, O: Drop, W: Work<P, Out = O>, C: Cuts<Piece = P>, A: Gathers<O>> D
         !self.batch.is_empty() && self.batch.len() as u64 <= room
     }
 
-    /// How many pieces were dealt to a lane for which no result is seen.
-    fn unread(&mut self, lane: u32) -> u64
+    /// Whether a lane has less than two batches to read. Its results are looked at only where that hangs on them, since the worker is
+    /// writing there.
+    fn has_little(&mut self, lane: u32) -> bool
         requires { lane < self.old.desk.lanes }
         ensures goes { Goes C.cuts A.holds self.old self.new }
         ensures desk { self.new.desk ≡ self.old.desk }
-        ensures batch { self.new.batch ≡ self.old.batch }
     {
-        let ready = self.flights[lane as usize].results.ready() as u64;
-        self.desk.waiting(lane).saturating_sub(ready)
+        let enough = 2 * self.batch.room() as u64;
+        let waiting = self.desk.waiting(lane);
+        waiting < enough || waiting - self.ready(lane).min(waiting) < enough
+    }
+
+    /// How many results of a lane are there.
+    fn ready(&mut self, lane: u32) -> u64
+        requires { lane < self.old.desk.lanes }
+        ensures goes { Goes C.cuts A.holds self.old self.new }
+        ensures desk { self.new.desk ≡ self.old.desk }
+    {
+        self.flights[lane as usize].results.ready() as u64
     }
 }
 

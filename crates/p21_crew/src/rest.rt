@@ -5,10 +5,15 @@ use crossbeam_utils::sync::{Parker, Unparker};
 use std::alloc::{AllocError, Global};
 use std::sync::Wait;
 
+/// How often a thread that has nothing to do looks again before it sleeps. To be woken costs both sides more than many looks.
+const LOOKS: u32 = 512;
+
 /// Where a thread waits that has nothing to do: it pauses, then yields, and then sleeps until it is woken.
 #[derive(Drop)]
 pub(crate) struct Rest {
     backoff: Backoff,
+    /// How often it looked in vain.
+    looks: u32,
     parker: Parker,
 }
 
@@ -23,6 +28,7 @@ impl Rest {
     pub(crate) fn new(alloc: Global) -> Result<Rest, AllocError> {
         Ok(Rest {
             backoff: Backoff::new(),
+            looks: 0,
             parker: Parker::new(alloc)?,
         })
     }
@@ -35,13 +41,15 @@ impl Rest {
     }
 
     /// Rests where nothing was done: the longer so, the longer.
-    pub(crate) fn rest_unless<R: Wait>(&self, rt: &R, busy: bool) {
+    pub(crate) fn rest_unless<R: Wait>(&mut self, rt: &R, busy: bool) {
         if busy {
             self.backoff.reset();
-        } else if self.backoff.is_completed() {
-            self.parker.park(rt);
-        } else {
+            self.looks = 0;
+        } else if self.looks < LOOKS {
             self.backoff.snooze();
+            self.looks += 1;
+        } else {
+            self.parker.park(rt);
         }
     }
 }

@@ -111,7 +111,7 @@ fn run_in<
     let size = batch_size(capacity);
     let batch = Batch::new(alloc, size)?;
     let desk = Desk::new(alloc, lanes, capacity)?;
-    let rest = Rest::new(alloc)?;
+    let mut rest = Rest::new(alloc)?;
     let flights = launch_all(scope, rt, alloc, work, gate, lanes, capacity, size, &rest)?;
     let mut dealer = Dealer {
         flights,
@@ -121,7 +121,7 @@ fn run_in<
         tail: None,
         gatherer,
     };
-    let dealt = dealer.run(rt, &rest);
+    let dealt = dealer.run(rt, &mut rest);
     let Dealer {
         flights,
         desk,

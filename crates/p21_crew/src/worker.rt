@@ -43,6 +43,7 @@ pub(crate) fn work_lane<P: Copy, O: Drop, K: Drop, W: Work<P, Out = O, Kept = K>
     let mut pieces = pieces;
     let mut results = results;
     let mut batch = batch;
+    let mut rest = rest;
     let mut kept = work.begin(alloc);
     let mut has_memory = true;
     for _ in rt.forever() {

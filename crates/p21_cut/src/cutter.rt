@@ -49,6 +49,7 @@ impl<'a> Cutter<'a> {
     ///
     /// A piece runs to the end of the file where, before its `;`, an apostrophe begins no string, a `/*` begins no
     /// comment, or the file ends.
+    #[inline(always)]
     pub fn next(&mut self) -> Cut<'a>
         ensures next { GivesNext self.old result self.new }
         ensures ends { LeavesLess self.old result self.new }

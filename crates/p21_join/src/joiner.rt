@@ -44,6 +44,7 @@ impl<'a> Joiner<'a> {
 
     /// Joins an instance behind the others. It is handed back as `Duplicate` exactly where one of them has its name, and
     /// as `Memory` where there was no memory left; then nothing is changed.
+    #[inline(always)]
     pub fn add(&mut self, instance: RawInstance<'a>) -> Result<(), JoinError<'a>>
         ensures { Joins (joined self.old) instance.entry result (joined self.new) }
     {

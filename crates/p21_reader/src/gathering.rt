@@ -97,6 +97,7 @@ impl<'a> Gathers<Judgement<'a>> for Gathering<'a> {
 
 /// Joins the instance of a piece, where it has no fault behind those before it, and puts its entity behind theirs. Otherwise the
 /// fault is told.
+#[inline(always)]
 pub(crate) fn add_value<'a>(
     joiner: &mut Joiner<'a>,
     entities: &mut Vec<Option<EntityId>>,
@@ -117,6 +118,7 @@ pub(crate) fn add_value<'a>(
 }
 
 /// Joins an instance that has this fault by itself, or none. A repeated name is told before that fault.
+#[inline(always)]
 fn add_whole<'a>(
     joiner: &mut Joiner<'a>,
     instance: RawInstance<'a>,
@@ -133,6 +135,7 @@ fn add_whole<'a>(
 
 /// Joins an instance that has this fault by itself, or none, unless its name is there. The answer is the fault that it has behind
 /// the others: a repeated name before its own.
+#[inline(always)]
 pub(crate) fn join_whole<'a>(
     joiner: &mut Joiner<'a>,
     instance: RawInstance<'a>,

@@ -63,6 +63,7 @@ pub(crate) struct Judgement<'a> {
 
 /// Reads a piece as an instance, and checks it by itself against a schema. The keyword of an instance without a fault is looked
 /// up once.
+#[inline(always)]
 pub(crate) fn judge_local<'a>(
     schema: &Schema,
     reader: &mut InstanceReader<'a>,
@@ -92,6 +93,7 @@ pub(crate) fn judge_local<'a>(
 }
 
 /// Judges a piece by any judge, and looks the keyword of its instance up.
+#[inline(always)]
 pub(crate) fn judge_by<'a, J: Judge>(
     judge: &J,
     schema: &Schema,
