@@ -10,9 +10,10 @@ use Rattle.p21_express.proofs.ChecksLemmas.{all_push}
 use Rattle.p21_express.proofs.CycleLemmas.{all_in}
 use Rattle.p21_express.specs.declared.checks.redeclared.Origin.{Origin as FoundOrigin}
 use Rattle.p21_express.specs.declared.checks.redeclared.Again.{Again as FoundAgain}
-use Rattle.p21_express.specs.declared.refusal.Refusal.{Refusal}
-use Rattle.p21_express.specs.declared.refusal.Refusal.TheVariants as refusal
-use Rattle.p21_express.specs.Answer.{OnRefused}
+use Rattle.p21_express.specs.declared.misfit.Misfit.{Misfit}
+use Rattle.p21_express.specs.declared.misfit.Unfit.{Unfit}
+use Rattle.p21_express.specs.declared.misfit.Unfit.TheVariants as unfit
+use Rattle.p21_express.specs.Misfit.{OnUnfit, Only}
 use Rattle.p21_express.specs.Again.{Origins, IsAgainAt, plain_again, plain_origin}
 use Rattle.p21_express.specs.Schema.{Schema, Entity}
 use Rattle.p21_express.specs.WellFormed.{IsIn, AreDistinct, Redeclaration, Origin, DeclaresAgain, DeclareAgain, IsRedeclaring, redeclarations}
@@ -110,6 +111,6 @@ all_step P es i x lt is before this = rw (one_step (map plain_entity) (map-appen
 pub all_refused : (P : Entity → Type 0) (es : List EntityDecl) (i : ℕ) (x : EntityDecl) → i < length es → x ≡ get_or es i x → ¬ (P (plain_entity x)) → ¬ (AllByRecursion P (map plain_entity es))
 all_refused P es i x lt is wrong h = wrong (all_in P (map plain_entity es) (plain_entity x) h (found_in (map plain_entity) (map-append plain_entity) es i x (plain_entity x) lt is (inl refl)))
 
-pub refused_to : (r : Refusal) (P Q : Type 0) → (P → Q) → OnRefused r P → OnRefused r Q
-refused_to (refusal.Refused kind left) P Q to h = to h
-refused_to refusal.Memory P Q to h = tt
+pub unfit_to : (u : Unfit) (m : Misfit) (P Q : Type 0) → (P → Q) → OnUnfit u (Only m P) → OnUnfit u (Only m Q)
+unfit_to (unfit.Found found left) m P Q to h = (h.0, to h.1)
+unfit_to unfit.Memory m P Q to h = tt

@@ -4,22 +4,23 @@ ghost use Rattle.std.specs.Prelude.{◌≡◌, ◌<◌, ◌↔◌, ℕ, List, []
 ghost use Rattle.std.specs.Option.{option_to_list};
 ghost use Rattle.std.specs.Bool.{MatchBool};
 ghost use Rattle.std.specs.List.{AllByRecursion};
-ghost use Rattle.p21_express.specs.Answer.{OnRefused};
 ghost use Rattle.p21_express.specs.Again.{plain_again, plain_origin, IsNewAt, IsDerivedAt, IsGood, IsAgainAt, IsKnown};
 ghost use Rattle.p21_express.specs.Graph.{lists};
 ghost use Rattle.p21_express.specs.Index.{IsExactIndex, IsEntityAt};
+ghost use Rattle.p21_express.specs.Misfit.{OnUnfit, Only};
 ghost use Rattle.p21_express.specs.Plain.{plain_schema, plain_entity, plain_attribute, plain_derived};
 ghost use Rattle.p21_express.specs.Positions.{AreSupertypes};
 ghost use Rattle.p21_express.specs.Search.{IsBlank, state_of, Reaches};
 ghost use Rattle.p21_express.specs.WellFormed.{IsIn, HasNoUnknown, HasNoCycles, IsRedeclaring, DeclaresAgain, new_explicit, new_derived, new_names, with_new, with_again, redeclarations};
+ghost use Rattle.p21_express.specs.declared.misfit.Misfit.TheVariants.{BadRedeclaration};
 
 use super::cycles::{add, entity_at, supertypes};
 use super::graph::{Graph, Search};
 use super::names::Index;
 use super::{Checked, attribute_places_at, place_at};
 use crate::declarations::{AttrDecl, Declarations, DeriveDecl, EntityDecl};
+use crate::misfit::{Misfit, Unfit};
 use crate::places::EntityPlaces;
-use crate::refusal::{Kind, Refusal};
 use std::alloc::{AllocError, Global};
 
 /// SELF\of.name, its place, and whether it is explicit.
@@ -270,13 +271,13 @@ fn entity(
     position: usize,
     decl: &EntityDecl,
     places: &EntityPlaces,
-) -> Result<(), Refusal>
+) -> Result<(), Unfit>
     requires index { IsExactIndex (plain_schema known.now.declarations.now) index.now }
     requires known { IsKnown known.now }
     requires blank { IsBlank (lists known.now.supertypes.items) (state_of search.old) }
     requires decl { slice_get (plain_schema known.now.declarations.now).entities position ≡ Some (plain_entity decl.now) }
     ensures blank { OnOk result (IsBlank (lists known.now.supertypes.items) (state_of search.new)) }
-    ensures redeclared { let s = plain_schema known.now.declarations.now in MatchResult result (λ _. IsRedeclaring s (plain_entity decl.now)) (λ r. OnRefused r (¬ (IsRedeclaring s (plain_entity decl.now)))) }
+    ensures redeclared { let s = plain_schema known.now.declarations.now in MatchResult result (λ _. IsRedeclaring s (plain_entity decl.now)) (λ e. OnUnfit e (Only BadRedeclaration (¬ (IsRedeclaring s (plain_entity decl.now))))) }
 {
     let all = all_again(alloc, decl, places)?;
     if all.is_empty() {
@@ -285,7 +286,7 @@ fn entity(
     let lineage = search.reached(alloc, &known.supertypes, position)?;
     let mut origins = Vec::new(alloc);
     for again in &all {
-        let refusal = Refusal::Refused(Kind::BadRedeclaration, again.place);
+        let refusal = Unfit::Found(Misfit::BadRedeclaration, again.place);
         let Some(place) = origin_of(alloc, known, index, search, &lineage, position, *again)? else {
             return Err(refusal);
         };
@@ -303,11 +304,11 @@ fn entity(
 
 /// Refuses where an attribute may not be declared again. The entities stand in the order of the text, and so does what
 /// each declares again: the first that is met is the first in the text.
-pub(super) fn check(alloc: Global, checked: Checked, index: &Index) -> Result<(), Refusal>
+pub(super) fn check(alloc: Global, checked: Checked, index: &Index) -> Result<(), Unfit>
     requires index { IsExactIndex (plain_schema checked.declarations.now) index.now }
     requires unknown { HasNoUnknown (plain_schema checked.declarations.now) }
     requires cycles { HasNoCycles (plain_schema checked.declarations.now) }
-    ensures { let s = plain_schema checked.entry.declarations.now in MatchResult result (λ _. AllByRecursion (IsRedeclaring s) s.entities) (λ r. OnRefused r (¬ (AllByRecursion (IsRedeclaring s) s.entities))) }
+    ensures { let s = plain_schema checked.entry.declarations.now in MatchResult result (λ _. AllByRecursion (IsRedeclaring s) s.entities) (λ e. OnUnfit e (Only BadRedeclaration (¬ (AllByRecursion (IsRedeclaring s) s.entities)))) }
 {
     let known = Known {
         declarations: checked.declarations,

@@ -23,13 +23,13 @@ pub loop-again-init : goal.loop-again-init
 loop-again-init c = (c.in_ok-lineage.ensures.blank, rw c.new-origins.ensures.items (origins_start (plain_schema c.args.known.now.declarations.now) c.args.decl.now.name.items))
 
 pub returns-in_default-clause-redeclared : goal.returns-in_default-clause-redeclared
-returns-in_default-clause-redeclared c = not_again (plain_schema c.args.known.now.declarations.now) (plain_entity c.args.decl.now) (map plain_again (take c.loop-again.again-index c.deref-again-items.result.now)) _ (map plain_again (drop (c.loop-again.again-index + 1) c.deref-again-items.result.now)) (let e0 : map plain_again c.deref-again-items.result.now ≡ redeclarations (plain_entity c.args.decl.now) = rw c.deref-again-items.ensures.value c.in_ok-all.ensures in sym e0 ∙ split_at plain_again c.deref-again-items.result.now c.loop-again.again-index _ c.loop-again-test.true (any_default c.deref-again-items.result.now c.loop-again.again-index _ _ c.loop-again-test.true)) (none_given c.in_ok-place.field-0 _ _ c.in_default.not-Some (c.in_ok-place.ensures.origin c.args.decl.now.name.items (record { entity = plain_entity c.args.decl.now; there = c.requires.decl; name_is = refl }) (λ w. rw c.deref.ensures.value (c.in_ok-lineage.ensures.found w))))
+returns-in_default-clause-redeclared c = (refl, not_again (plain_schema c.args.known.now.declarations.now) (plain_entity c.args.decl.now) (map plain_again (take c.loop-again.again-index c.deref-again-items.result.now)) _ (map plain_again (drop (c.loop-again.again-index + 1) c.deref-again-items.result.now)) (let e0 : map plain_again c.deref-again-items.result.now ≡ redeclarations (plain_entity c.args.decl.now) = rw c.deref-again-items.ensures.value c.in_ok-all.ensures in sym e0 ∙ split_at plain_again c.deref-again-items.result.now c.loop-again.again-index _ c.loop-again-test.true (any_default c.deref-again-items.result.now c.loop-again.again-index _ _ c.loop-again-test.true)) (none_given c.in_ok-place.field-0 _ _ c.in_default.not-Some (c.in_ok-place.ensures.origin c.args.decl.now.name.items (record { entity = plain_entity c.args.decl.now; there = c.requires.decl; name_is = refl }) (λ w. rw c.deref.ensures.value (c.in_ok-lineage.ensures.found w)))))
 
 pub returns-then-is_among-clause-redeclared : goal.returns-then-is_among-clause-redeclared
 returns-then-is_among-clause-redeclared c =
     let found = rw c.in-Some.is at (c.in_ok-place.ensures.origin c.args.decl.now.name.items (record { entity = plain_entity c.args.decl.now; there = c.requires.decl; name_is = refl }) (λ w. rw c.deref.ensures.value (c.in_ok-lineage.ensures.found w))) in
     let among = rw (c.if-is_among.true, c.deref-in-loop-again.ensures.value, c.name_at.ensures found.name found.at) at c.is_among.ensures in
-    again_twice (plain_schema c.args.known.now.declarations.now) (plain_entity c.args.decl.now) (map plain_again (take c.loop-again.again-index c.deref-again-items.result.now)) _ (map plain_again (drop (c.loop-again.again-index + 1) c.deref-again-items.result.now)) (map plain_origin c.loop-again.origins.items) found.name (let e0 : map plain_again c.deref-again-items.result.now ≡ redeclarations (plain_entity c.args.decl.now) = rw c.deref-again-items.ensures.value c.in_ok-all.ensures in sym e0 ∙ split_at plain_again c.deref-again-items.result.now c.loop-again.again-index _ c.loop-again-test.true (any_default c.deref-again-items.result.now c.loop-again.again-index _ _ c.loop-again-test.true)) c.loop-again.invariant.1 found.again among
+    (refl, again_twice (plain_schema c.args.known.now.declarations.now) (plain_entity c.args.decl.now) (map plain_again (take c.loop-again.again-index c.deref-again-items.result.now)) _ (map plain_again (drop (c.loop-again.again-index + 1) c.deref-again-items.result.now)) (map plain_origin c.loop-again.origins.items) found.name (let e0 : map plain_again c.deref-again-items.result.now ≡ redeclarations (plain_entity c.args.decl.now) = rw c.deref-again-items.ensures.value c.in_ok-all.ensures in sym e0 ∙ split_at plain_again c.deref-again-items.result.now c.loop-again.again-index _ c.loop-again-test.true (any_default c.deref-again-items.result.now c.loop-again.again-index _ _ c.loop-again-test.true)) c.loop-again.invariant.1 found.again among)
 
 pub loop-again-preserved : goal.loop-again-preserved
 loop-again-preserved c =
