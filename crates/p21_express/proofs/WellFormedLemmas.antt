@@ -1,5 +1,5 @@
 -- Declarations that fit together, check by check.
-use Rattle.std.proofs.Common.{◌≡◌, List, Option, None, IsSome, Result, Ok, Err, sym, subst}
+use Rattle.std.proofs.Common.{◌≡◌, Option, None, IsSome, Result, Ok, Err, sym, subst}
 use Rattle.std.specs.Prelude.{MatchResult}
 use Rattle.std.specs.List.{AllByRecursion}
 use Rattle.p21_express.specs.declared.misfit.Misfit.{Misfit}
@@ -9,7 +9,7 @@ use Rattle.p21_express.specs.declared.misfit.Unfit.TheVariants as unfit
 use Rattle.p21_express.specs.Schema.{Schema, Entity, Attribute, Defined, Underlying, Expr, items, select, plain, integer, number, boolean, logical, real, text, binary, aggregate, named}
 use Rattle.p21_express.specs.Checks.{Finds, HasKnownNames, HasKnownUnder, HasNoSelectUnder}
 use Rattle.p21_express.specs.Misfit.{OnUnfit, Only, OfNames, IsMisfit}
-use Rattle.p21_express.specs.SchemaFault.{AreNamesKnown, AreKnownUnder, IsNoEntityAlone, IsNoSelectAlone, IsNoLoneSelect, HasNoLoneSelect, FailsRepeated, FailsNames, FailsSelects, FailsCycles, FailsRedeclared}
+use Rattle.p21_express.specs.SchemaFault.{AreNamesKnown, AreKnownUnder, IsNoEntityAlone, IsNoSelectAlone, IsNoLoneSelect, HasNoLoneSelect}
 use Rattle.p21_express.specs.WellFormed.{IsEntity, IsKnown, IsKnownUnder, IsAllowedAlone, HasNoRepeated, HasNoUnknown, HasNoCycles, IsRedeclaring, IsWellFormed}
 use Rattle.p21_express.proofs.ChecksLemmas.{all_both, all_parts, all_same, finds_both, found_none, found_some}
 

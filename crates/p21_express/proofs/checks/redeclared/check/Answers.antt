@@ -14,6 +14,7 @@ entity-requires-clause-known c = record {
   unknown = c.requires.unknown;
   supertypes = c.in_ok-supertypes.ensures;
   acyclic = entities_to_graph (plain_schema c.args.checked.declarations.now) (lists c.in_ok-supertypes.field-0.items) c.in_ok-supertypes.ensures c.requires.cycles.entities;
+  names = c.in_ok-all_new_names.ensures;
 }
 
 pub entity-requires-clause-decl : goal.entity-requires-clause-decl
