@@ -1,5 +1,5 @@
 -- Attributes that are declared again.
-use Rattle.std.proofs.Common.{◌≡◌, ℕ, ◌+◌, ◌<◌, List, [], ◌∷◌, ◌++◌, length, get_or, map, take, drop, Bool, true, false, Option, Some, None, slice_get, refl, sym, ap, ◌∙◌, ⊎_elim, subst, append_assoc}
+use Rattle.std.proofs.Common.{◌≡◌, ℕ, ◌+◌, ◌<◌, List, [], ◌∷◌, ◌++◌, length, get_or, map, take, drop, Bool, true, false, Option, Some, None, slice_get, refl, sym, ap, ◌∙◌, subst, append_assoc}
 use Rattle.std.specs.Bool.{MatchBool}
 use Rattle.std.specs.Prelude.{Vec}
 use Rattle.std.specs.declared.alloc.Global.{Global}
@@ -9,16 +9,15 @@ use Rattle.std.proofs.lemmas.Option.{slice_get_within, slice_get-get_or}
 use Rattle.p21_express.specs.declared.declarations.AttrDecl.{AttrDecl}
 use Rattle.p21_express.specs.declared.declarations.DeriveDecl.{DeriveDecl}
 use Rattle.std.specs.Option.{option_to_list}
-use Rattle.p21_express.specs.declared.checks.redeclared.Origin.{Origin as FoundOrigin}
 use Rattle.p21_express.specs.declared.checks.redeclared.Again.{Again as FoundAgain}
-use Rattle.p21_express.specs.Again.{IsNewAt, IsDerivedAt, plain_origin, plain_again}
+use Rattle.p21_express.specs.Again.{IsNewAt, IsDerivedAt, plain_again}
 use Rattle.p21_express.specs.Graph.{lists}
 use Rattle.p21_express.specs.Index.{IsEntityAt}
 use Rattle.p21_express.specs.Plain.{plain_attribute, plain_derived}
 use Rattle.p21_express.specs.Positions.{ArePositions, AreSupertypes}
 use Rattle.p21_express.specs.Schema.{Schema, Entity, Attribute, Derived}
-use Rattle.p21_express.specs.WellFormed.{IsIn, with_new, new_explicit, new_derived, new_names, with_again, again_explicit, again_derived, Redeclaration, Origin}
-use Rattle.p21_express.proofs.GraphLemmas.{in_front, in_back, in_either, lists_length}
+use Rattle.p21_express.specs.WellFormed.{IsIn, new_derived, new_names, with_again, again_explicit, again_derived, Redeclaration}
+use Rattle.p21_express.proofs.GraphLemmas.{in_front, in_back, lists_length}
 use Rattle.p21_express.proofs.PositionLemmas.{zip_length}
 
 -- ---- what is told of each of a list, one after the other
@@ -34,26 +33,9 @@ module _ {X Y : Type 0} (F : List X → List Y) (joins : (xs ys : List X) → F 
       let all : F (take (i + 1) xs) ++ F (drop (i + 1) xs) ≡ F xs = sym (joins (take (i + 1) xs) (drop (i + 1) xs)) ∙ ap F (take-append-drop (i + 1) xs) in
       rw all at (in_front (F (take (i + 1) xs)) (F (drop (i + 1) xs)) y k)
 
-  pub none_in : (xs : List X) (i : ℕ) (x : X) (y : Y) → i < length xs → x ≡ get_or xs i x → (IsIn (F (take i xs)) y → ⊥) → (IsIn (F (x ∷ [])) y → ⊥) → IsIn (F (take (i + 1) xs)) y → ⊥
-  none_in xs i x y lt is front this h =
-      let e : F (take (i + 1) xs) ≡ F (take i xs) ++ F (x ∷ []) = one_step xs i x lt is in
-      ⊎_elim (λ (k : IsIn (F (take i xs)) y). front k) (λ (k : IsIn (F (x ∷ [])) y). this k) (in_either (F (take i xs)) (F (x ∷ [])) y (rw e at h))
-
-with_new_front : (o : Option (List ℕ)) (n : List ℕ) (xs : List (List ℕ)) → with_new o n xs ≡ with_new o n [] ++ xs
-with_new_front None n xs = refl
-with_new_front (Some e) n xs = refl
-
 with_again_front : (o : Option (List ℕ)) (n : List ℕ) (b : Bool) (xs : List Redeclaration) → with_again o n b xs ≡ with_again o n b [] ++ xs
 with_again_front None n b xs = refl
 with_again_front (Some e) n b xs = refl
-
-explicit_joins : (xs ys : List Attribute) → new_explicit (xs ++ ys) ≡ new_explicit xs ++ new_explicit ys
-explicit_joins [] ys = refl
-explicit_joins (x ∷ xs) ys = with_new_front x.of x.name (new_explicit (xs ++ ys)) ∙ ap (λ (zs : List (List ℕ)). with_new x.of x.name [] ++ zs) (explicit_joins xs ys) ∙ sym (append_assoc (with_new x.of x.name []) (new_explicit xs) (new_explicit ys)) ∙ ap (λ (zs : List (List ℕ)). zs ++ new_explicit ys) (sym (with_new_front x.of x.name (new_explicit xs)))
-
-derived_joins : (xs ys : List Derived) → new_derived (xs ++ ys) ≡ new_derived xs ++ new_derived ys
-derived_joins [] ys = refl
-derived_joins (x ∷ xs) ys = with_new_front x.of x.name (new_derived (xs ++ ys)) ∙ ap (λ (zs : List (List ℕ)). with_new x.of x.name [] ++ zs) (derived_joins xs ys) ∙ sym (append_assoc (with_new x.of x.name []) (new_derived xs) (new_derived ys)) ∙ ap (λ (zs : List (List ℕ)). zs ++ new_derived ys) (sym (with_new_front x.of x.name (new_derived xs)))
 
 again_explicit_joins : (xs ys : List Attribute) → again_explicit (xs ++ ys) ≡ again_explicit xs ++ again_explicit ys
 again_explicit_joins [] ys = refl
@@ -62,18 +44,6 @@ again_explicit_joins (x ∷ xs) ys = with_again_front x.of x.name true (again_ex
 again_derived_joins : (xs ys : List Derived) → again_derived (xs ++ ys) ≡ again_derived xs ++ again_derived ys
 again_derived_joins [] ys = refl
 again_derived_joins (x ∷ xs) ys = with_again_front x.of x.name false (again_derived (xs ++ ys)) ∙ ap (λ (zs : List Redeclaration). with_again x.of x.name false [] ++ zs) (again_derived_joins xs ys) ∙ sym (append_assoc (with_again x.of x.name false []) (again_derived xs) (again_derived ys)) ∙ ap (λ (zs : List Redeclaration). zs ++ again_derived ys) (sym (with_again_front x.of x.name false (again_derived xs)))
-
-abbrev pub explicit_of : List AttrDecl → List (List ℕ)
-explicit_of xs = new_explicit (map plain_attribute xs)
-
-pub explicit_of_joins : (xs ys : List AttrDecl) → explicit_of (xs ++ ys) ≡ explicit_of xs ++ explicit_of ys
-explicit_of_joins xs ys = ap new_explicit (map-append plain_attribute xs ys) ∙ explicit_joins (map plain_attribute xs) (map plain_attribute ys)
-
-abbrev pub derived_of : List DeriveDecl → List (List ℕ)
-derived_of xs = new_derived (map plain_derived xs)
-
-pub derived_of_joins : (xs ys : List DeriveDecl) → derived_of (xs ++ ys) ≡ derived_of xs ++ derived_of ys
-derived_of_joins xs ys = ap new_derived (map-append plain_derived xs ys) ∙ derived_joins (map plain_derived xs) (map plain_derived ys)
 
 abbrev pub again_explicit_of : List AttrDecl → List Redeclaration
 again_explicit_of xs = again_explicit (map plain_attribute xs)
@@ -87,12 +57,6 @@ again_derived_of xs = again_derived (map plain_derived xs)
 pub again_derived_of_joins : (xs ys : List DeriveDecl) → again_derived_of (xs ++ ys) ≡ again_derived_of xs ++ again_derived_of ys
 again_derived_of_joins xs ys = ap again_derived (map-append plain_derived xs ys) ∙ again_derived_joins (map plain_derived xs) (map plain_derived ys)
 
-abbrev pub origins_of : List FoundOrigin → List Origin
-origins_of xs = map plain_origin xs
-
-pub origins_of_joins : (xs ys : List FoundOrigin) → origins_of (xs ++ ys) ≡ origins_of xs ++ origins_of ys
-origins_of_joins xs ys = map-append plain_origin xs ys
-
 pub any_default : {X : Type 0} (xs : List X) (i : ℕ) (d e : X) → i < length xs → get_or xs i d ≡ get_or xs i e
 any_default xs i d e lt = let a : slice_get xs i ≡ Some (get_or xs i d) = slice_get-get_or xs i d lt in let b : slice_get xs i ≡ Some (get_or xs i e) = slice_get-get_or xs i e lt in let c : Some (get_or xs i d) ≡ Some (get_or xs i e) = sym a ∙ b in cc
 
@@ -105,9 +69,6 @@ again_step F joins xs i x front all o lt is this before =
 pub test_same : (b : Bool) (P Q : Type 0) → (P → Q) → (Q → P) → MatchBool b P (¬ P) → MatchBool b Q (¬ Q)
 test_same true P Q to from h = to h
 test_same false P Q to from h = λ q. h (from q)
-
-pub either_new : (b : Bool) (xs ys : List (List ℕ)) (n : List ℕ) → ¬ (IsIn xs n) → MatchBool b (IsIn ys n) (¬ (IsIn ys n)) → MatchBool b (IsIn (xs ++ ys) n) (¬ (IsIn (xs ++ ys) n))
-either_new b xs ys n none h = test_same b (IsIn ys n) (IsIn (xs ++ ys) n) (in_back xs ys n) (λ k. ⊎_elim (λ (l : IsIn xs n). absurd (none l)) (λ (r : IsIn ys n). r) (in_either xs ys n k)) h
 
 pub same_entity : (s : Schema) (i : ℕ) (e f : Entity) → slice_get s.entities i ≡ Some e → slice_get s.entities i ≡ Some f → e ≡ f
 same_entity s i e f h k = let a : Some e ≡ Some f = sym h ∙ k in cc

@@ -25,6 +25,17 @@ pub finds_some : {X : Type 0} (P : Type 0) (a b : Option X) → ¬ P → IsSome 
 finds_some P a None wrong found = absurd (let e : false ≡ true = found in cc)
 finds_some P a (Some y) wrong found = λ n h. wrong h
 
+-- nothing is found at last
+pub found_none : {X : Type 0} (a b : Option X) (P : Type 0) → Finds a b P → b ≡ None → P
+found_none a None P f e = f.1
+found_none a (Some y) P f e = absurd cc
+
+-- something is found at last, and nothing was at first
+pub found_some : {X : Type 0} (a b : Option X) (P : Type 0) → a ≡ None → Finds a b P → IsSome b → ¬ P
+found_some a None P e f some = absurd (let k : false ≡ true = some in cc)
+found_some None (Some y) P e f some = f refl
+found_some (Some x) (Some y) P e f some = absurd cc
+
 -- ---- all of a list
 
 pub all_push : {X : Type 0} (P : X → Type 0) (xs : List X) (y : X) → AllByRecursion P xs → P y → AllByRecursion P (xs ++ y ∷ [])

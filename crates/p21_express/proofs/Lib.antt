@@ -27,5 +27,6 @@ pub mod UnknownLemmas
 pub mod CycleLemmas
 pub mod AgainLemmas
 pub mod AncestryLemmas
+pub mod NewNameLemmas
 pub mod RedeclarationLemmas
 pub mod WellFormedLemmas

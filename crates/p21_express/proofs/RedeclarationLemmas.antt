@@ -8,12 +8,12 @@ use Rattle.p21_express.specs.declared.declarations.EntityDecl.{EntityDecl}
 use Rattle.p21_express.specs.Plain.{plain_entity}
 use Rattle.p21_express.proofs.ChecksLemmas.{all_push}
 use Rattle.p21_express.proofs.CycleLemmas.{all_in}
-use Rattle.p21_express.specs.declared.checks.redeclared.Origin.{Origin as FoundOrigin}
 use Rattle.p21_express.specs.declared.checks.redeclared.Again.{Again as FoundAgain}
-use Rattle.p21_express.specs.declared.refusal.Refusal.{Refusal}
-use Rattle.p21_express.specs.declared.refusal.Refusal.TheVariants as refusal
-use Rattle.p21_express.specs.Answer.{OnRefused}
-use Rattle.p21_express.specs.Again.{Origins, IsAgainAt, plain_again, plain_origin}
+use Rattle.p21_express.specs.declared.misfit.Misfit.{Misfit}
+use Rattle.p21_express.specs.declared.misfit.Unfit.{Unfit}
+use Rattle.p21_express.specs.declared.misfit.Unfit.TheVariants as unfit
+use Rattle.p21_express.specs.Misfit.{OnUnfit, Only}
+use Rattle.p21_express.specs.Again.{Origins, IsAgainAt, plain_again}
 use Rattle.p21_express.specs.Schema.{Schema, Entity}
 use Rattle.p21_express.specs.WellFormed.{IsIn, AreDistinct, Redeclaration, Origin, DeclaresAgain, DeclareAgain, IsRedeclaring, redeclarations}
 use Rattle.p21_express.proofs.AgainLemmas.{one_step, found_in}
@@ -90,12 +90,12 @@ module _ (s : Schema) (e : Entity) where
       let all : DeclareAgain s e.name (pre ++ r ∷ post) h.origins = subst (λ (xs : List Redeclaration). DeclareAgain s e.name xs h.origins) is h.declare in
       twice s e.name pre r post os h.origins d before again i all h.distinct
 
-pub origins_step : (s : Schema) (e : List ℕ) (xs : List FoundAgain) (i : ℕ) (x : FoundAgain) (os : List FoundOrigin) (o : FoundOrigin) (d : List ℕ) → i < length xs → x ≡ get_or xs i x → Origins s e (map plain_again (take i xs)) (map plain_origin os) → o.entity.now ≡ d → o.name.now ≡ x.name.now → DeclaresAgain s e (plain_again x) d → ¬ (IsIn (map plain_origin os) (plain_origin o)) → Origins s e (map plain_again (take (i + 1) xs)) (map plain_origin (os ++ o ∷ []))
+pub origins_step : (s : Schema) (e : List ℕ) (xs : List FoundAgain) (i : ℕ) (x : FoundAgain) (os : List Origin) (o : Origin) (d : List ℕ) → i < length xs → x ≡ get_or xs i x → Origins s e (map plain_again (take i xs)) os → o.entity ≡ d → o.name ≡ x.name.now → DeclaresAgain s e (plain_again x) d → ¬ (IsIn os o) → Origins s e (map plain_again (take (i + 1) xs)) (os ++ o ∷ [])
 origins_step s e xs i x os o d lt is before entity name again new =
-    let same : plain_origin o ≡ record { entity = d; name = x.name.now } = cc in
-    let fresh : ¬ (IsIn (map plain_origin os) (record { entity = d; name = x.name.now })) = subst (λ (z : Origin). ¬ (IsIn (map plain_origin os) z)) same new in
-    let pushed : Origins s e (map plain_again (take i xs) ++ plain_again x ∷ []) (map plain_origin os ++ plain_origin o ∷ []) = subst (λ (z : Origin). Origins s e (map plain_again (take i xs) ++ plain_again x ∷ []) (map plain_origin os ++ z ∷ [])) (sym same) (origins_push s e (map plain_again (take i xs)) (map plain_origin os) (plain_again x) d before again fresh) in
-    rw (one_step (map plain_again) (map-append plain_again) xs i x lt is, map-append plain_origin os (o ∷ [])) pushed
+    let same : o ≡ record { entity = d; name = x.name.now } = λ i. record { entity = entity i; name = name i } in
+    let fresh : ¬ (IsIn os (record { entity = d; name = x.name.now })) = subst (λ (z : Origin). ¬ (IsIn os z)) same new in
+    let pushed : Origins s e (map plain_again (take i xs) ++ plain_again x ∷ []) (os ++ o ∷ []) = subst (λ (z : Origin). Origins s e (map plain_again (take i xs) ++ plain_again x ∷ []) (os ++ z ∷ [])) (sym same) (origins_push s e (map plain_again (take i xs)) os (plain_again x) d before again fresh) in
+    rw (one_step (map plain_again) (map-append plain_again) xs i x lt is) pushed
 
 pub origins_start : (s : Schema) (e : List ℕ) → Origins s e [] []
 origins_start s e = record { declare = DeclareAgain.none; distinct = tt }
@@ -110,6 +110,6 @@ all_step P es i x lt is before this = rw (one_step (map plain_entity) (map-appen
 pub all_refused : (P : Entity → Type 0) (es : List EntityDecl) (i : ℕ) (x : EntityDecl) → i < length es → x ≡ get_or es i x → ¬ (P (plain_entity x)) → ¬ (AllByRecursion P (map plain_entity es))
 all_refused P es i x lt is wrong h = wrong (all_in P (map plain_entity es) (plain_entity x) h (found_in (map plain_entity) (map-append plain_entity) es i x (plain_entity x) lt is (inl refl)))
 
-pub refused_to : (r : Refusal) (P Q : Type 0) → (P → Q) → OnRefused r P → OnRefused r Q
-refused_to (refusal.Refused kind left) P Q to h = to h
-refused_to refusal.Memory P Q to h = tt
+pub unfit_to : (u : Unfit) (m : Misfit) (P Q : Type 0) → (P → Q) → OnUnfit u (Only m P) → OnUnfit u (Only m Q)
+unfit_to (unfit.Found found left) m P Q to h = (h.0, to h.1)
+unfit_to unfit.Memory m P Q to h = tt

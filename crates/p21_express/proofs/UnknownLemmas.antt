@@ -4,7 +4,8 @@ use Rattle.p21_express.specs.declared.checks.names.Declared.{Declared}
 use Rattle.p21_express.specs.declared.checks.names.Declared.TheVariants as found
 use Rattle.p21_express.specs.Schema.{Schema, Entity, Defined, Expr, integer, number, boolean, logical, real, text, binary, aggregate, named}
 use Rattle.p21_express.specs.Checks.{lone_name}
-use Rattle.p21_express.specs.WellFormed.{IsIn, AreDistinct, declared_names, IsEntity, IsType, IsSelect, IsAllowedAlone}
+use Rattle.p21_express.specs.SchemaFault.{IsNoEntityAlone, IsNoSelectAlone}
+use Rattle.p21_express.specs.WellFormed.{IsIn, AreDistinct, declared_names, IsEntity, IsType, IsSelect}
 use Rattle.p21_express.specs.Index.{Declares, IsEntityAt, IsSelectAt, IsTypeAt}
 use Rattle.p21_express.proofs.IndexLemmas.{is_in_at, at_is_in, entity_named, select_named, type_named, entity_or_type, select_or_type}
 
@@ -47,6 +48,9 @@ is_select s i n h = record { type = h.type; declared = is_in_at s.types i h.type
 pub type_no_select : (s : Schema) (i : ℕ) (n : List ℕ) → AreDistinct (declared_names s) → IsTypeAt s i n → ¬ (IsSelect s n)
 type_no_select s i n d h k = let at = select_at s n k in select_or_type s at.0 i n d at.1 h
 
+pub entity_no_select : (s : Schema) (i : ℕ) (n : List ℕ) → AreDistinct (declared_names s) → IsEntityAt s i n → ¬ (IsSelect s n)
+entity_no_select s i n d h k = let at = select_at s n k in select_no_entity s at.0 n d at.1 (is_entity s i n h)
+
 pub none_no_select : (s : Schema) (n : List ℕ) → ¬ (IsType s n) → ¬ (IsSelect s n)
 none_no_select s n none k = let at = select_at s n k in none (select_is_type s at.0 n at.1)
 
@@ -59,16 +63,27 @@ pub not_known : (s : Schema) (n : List ℕ) → Declares s n None → ¬ (IsEnti
 not_known s n d (inl h) = d.0 h
 not_known s n d (inr h) = d.1 h
 
-pub allowed_none : (s : Schema) (e : Expr) → lone_name e ≡ None → IsAllowedAlone s e
-allowed_none s integer h = tt
-allowed_none s number h = tt
-allowed_none s boolean h = tt
-allowed_none s logical h = tt
-allowed_none s real h = tt
-allowed_none s (text w) h = tt
-allowed_none s (binary w) h = tt
-allowed_none s (aggregate a e) h = tt
-allowed_none s (named n) h = absurd cc
+pub lone_no_entity : (s : Schema) (e : Expr) → lone_name e ≡ None → IsNoEntityAlone s e
+lone_no_entity s integer h = tt
+lone_no_entity s number h = tt
+lone_no_entity s boolean h = tt
+lone_no_entity s logical h = tt
+lone_no_entity s real h = tt
+lone_no_entity s (text w) h = tt
+lone_no_entity s (binary w) h = tt
+lone_no_entity s (aggregate a e) h = tt
+lone_no_entity s (named n) h = absurd cc
+
+pub lone_no_select : (s : Schema) (e : Expr) → lone_name e ≡ None → IsNoSelectAlone s e
+lone_no_select s integer h = tt
+lone_no_select s number h = tt
+lone_no_select s boolean h = tt
+lone_no_select s logical h = tt
+lone_no_select s real h = tt
+lone_no_select s (text w) h = tt
+lone_no_select s (binary w) h = tt
+lone_no_select s (aggregate a e) h = tt
+lone_no_select s (named n) h = absurd cc
 
 pub lone_named : (e : Expr) (n : List ℕ) → lone_name e ≡ Some n → e ≡ named n
 lone_named integer n h = absurd cc
@@ -82,8 +97,14 @@ lone_named (aggregate a e) n h = absurd cc
 lone_named (named m) n h = ap named (let k : m ≡ n = cc in k)
 
 -- a name that stands alone, seen at its type
-pub allowed_some : (s : Schema) (e : Expr) (n : List ℕ) → lone_name e ≡ Some n → ¬ (IsEntity s n) × ¬ (IsSelect s n) → IsAllowedAlone s e
-allowed_some s e n h ok = subst (IsAllowedAlone s) (sym (lone_named e n h)) ok
+pub lone_entity : (s : Schema) (e : Expr) (n : List ℕ) → lone_name e ≡ Some n → ¬ (IsEntity s n) → IsNoEntityAlone s e
+lone_entity s e n h ok = subst (IsNoEntityAlone s) (sym (lone_named e n h)) ok
 
-pub alone_some : (s : Schema) (e : Expr) (n : List ℕ) → lone_name e ≡ Some n → IsAllowedAlone s e → ¬ (IsEntity s n) × ¬ (IsSelect s n)
-alone_some s e n h ok = subst (IsAllowedAlone s) (lone_named e n h) ok
+pub entity_lone : (s : Schema) (e : Expr) (n : List ℕ) → lone_name e ≡ Some n → IsNoEntityAlone s e → ¬ (IsEntity s n)
+entity_lone s e n h ok = subst (IsNoEntityAlone s) (lone_named e n h) ok
+
+pub lone_select : (s : Schema) (e : Expr) (n : List ℕ) → lone_name e ≡ Some n → ¬ (IsSelect s n) → IsNoSelectAlone s e
+lone_select s e n h ok = subst (IsNoSelectAlone s) (sym (lone_named e n h)) ok
+
+pub select_lone : (s : Schema) (e : Expr) (n : List ℕ) → lone_name e ≡ Some n → IsNoSelectAlone s e → ¬ (IsSelect s n)
+select_lone s e n h ok = subst (IsNoSelectAlone s) (lone_named e n h) ok

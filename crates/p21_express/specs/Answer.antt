@@ -1,5 +1,5 @@
 -- What a text has by the grammar alone, and what an error says.
-use Rattle.std.specs.Prelude.{◌≡◌, ◌≢◌, ℕ, List}
+use Rattle.std.specs.Prelude.{ℕ, List}
 use Rattle.p21_express.specs.declared.refusal.Refusal.{Refusal}
 use Rattle.p21_express.specs.declared.refusal.Refusal.TheVariants as refusal
 use Rattle.p21_express.specs.declared.error.SchemaError.{SchemaError}
@@ -37,8 +37,3 @@ OnRefusal errors.Memory P = Unit {0}
 abbrev pub OnRefused : Refusal → Type 0 → Type 0
 OnRefused (refusal.Refused kind left) P = P
 OnRefused refusal.Memory P = Unit {0}
-
--- one says what the other says
-abbrev pub IsSame : Refusal → SchemaError → Type 0
-IsSame refusal.Memory e = e ≡ errors.Memory
-IsSame (refusal.Refused kind left) e = e ≢ errors.Memory

@@ -4,7 +4,8 @@ use Rattle.std.specs.Borrow.{Bor}
 use Rattle.std.specs.BTreeMap.{BTreeMap, get}
 use Rattle.std.specs.List.{AllByRecursion}
 use Rattle.p21_express.specs.Schema.{Schema, Entity, Defined, Expr, integer, number, boolean, logical, real, text, binary, aggregate, named}
-use Rattle.p21_express.specs.WellFormed.{IsIn, AreDistinct, IsEntity, IsKnown, IsKnownUnder}
+use Rattle.p21_express.specs.WellFormed.{IsIn, AreDistinct, IsEntity, IsKnown}
+use Rattle.p21_express.specs.SchemaFault.{AreKnownUnder, IsNoLoneSelect}
 use Rattle.p21_express.specs.Index.{key_cmp}
 
 -- Something is found at last exactly where it was before or P fails.
@@ -38,4 +39,8 @@ HasKnownNames s e = AllByRecursion (IsEntity s) e.supertypes × AllByRecursion (
 
 -- each name that a type uses is declared as what it is used for
 abbrev pub HasKnownUnder : Schema → Defined → Type 0
-HasKnownUnder s t = IsKnownUnder s t.under
+HasKnownUnder s t = AreKnownUnder s t.under
+
+-- no SELECT stands alone under a type
+abbrev pub HasNoSelectUnder : Schema → Defined → Type 0
+HasNoSelectUnder s t = IsNoLoneSelect s t.under

@@ -12,6 +12,8 @@ pub mod Naming
 pub mod Found
 pub mod Lexer
 pub mod Answer
+pub mod SchemaFault
+pub mod Misfit
 pub mod Graph
 pub mod Search
 pub mod Checks

@@ -1,7 +1,7 @@
 //! Whether declarations fit together. Each check goes over the whole text, and tells the first place.
 
 ghost use Rattle.std.specs.Prelude.{◌≡◌, IsSome, MatchResult};
-ghost use Rattle.p21_express.specs.Answer.{OnRefused};
+ghost use Rattle.p21_express.specs.Misfit.{OnUnfit, Only, IsMisfit};
 ghost use Rattle.p21_express.specs.Plain.{plain_schema};
 ghost use Rattle.p21_express.specs.WellFormed.{IsWellFormed};
 
@@ -13,8 +13,8 @@ mod repeated;
 mod unknown;
 
 use crate::declarations::Declarations;
+use crate::misfit::{Misfit, Unfit};
 use crate::places::{AttrPlaces, EntityPlaces, TypePlaces};
-use crate::refusal::{Kind, Refusal};
 use std::alloc::Global;
 
 /// What is looked at: declarations, and where their names stand.
@@ -50,7 +50,8 @@ impl<'d> Checked<'d> {
 /// The first place in the text where something is wrong, among those that were met.
 #[derive(Clone, Copy, Debug)]
 struct First {
-    found: Option<(Kind, usize)>,
+    /// How many words stand from there on.
+    found: Option<usize>,
 }
 
 impl First {
@@ -61,23 +62,24 @@ impl First {
     }
 
     /// Something is wrong where so many words are left.
-    fn meet(&mut self, kind: Kind, left: usize)
+    fn meet(&mut self, left: usize)
         ensures { IsSome self.new.found }
     {
         let is_first = match self.found {
-            Some((_, other)) => left > other,
+            Some(other) => left > other,
             None => true,
         };
         if is_first {
-            self.found = Some((kind, left));
+            self.found = Some(left);
         }
     }
 
-    fn refusal(self) -> Result<(), Refusal>
-        ensures { MatchResult result (λ _. self.found ≡ None) (λ r. OnRefused r (IsSome self.found)) }
+    /// Refuses where something was met, and says what it is.
+    fn refusal(self, misfit: Misfit) -> Result<(), Unfit>
+        ensures { MatchResult result (λ _. self.found ≡ None) (λ e. OnUnfit e (Only misfit (IsSome self.found))) }
     {
         match self.found {
-            Some((kind, left)) => Err(Refusal::Refused(kind, left)),
+            Some(left) => Err(Unfit::Found(misfit, left)),
             None => Ok(()),
         }
     }
@@ -105,8 +107,8 @@ pub(crate) fn check<'d>(
     declarations: &'d Declarations,
     entity_places: &'d [EntityPlaces],
     type_places: &'d [TypePlaces],
-) -> Result<(), Refusal>
-    ensures { let s = plain_schema declarations.now in MatchResult result (λ _. IsWellFormed s) (λ r. OnRefused r (¬ (IsWellFormed s))) }
+) -> Result<(), Unfit>
+    ensures { let s = plain_schema declarations.now in MatchResult result (λ _. IsWellFormed s) (λ e. OnUnfit e (IsMisfit s)) }
 {
     let no_entity = EntityPlaces::nowhere(alloc);
     let no_type = TypePlaces::nowhere(alloc);

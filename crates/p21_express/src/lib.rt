@@ -9,6 +9,7 @@ mod entities;
 mod error;
 mod keywords;
 mod layer;
+mod misfit;
 mod names;
 mod parts;
 mod places;

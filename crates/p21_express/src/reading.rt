@@ -1,9 +1,12 @@
 //! Declarations from a text.
 
-ghost use Rattle.std.specs.Prelude.{◌≡◌, ℕ, List, IfOk, IfErr, map};
+ghost use Rattle.std.specs.Prelude.{◌≡◌, ◌≤◌, ℕ, List, IfOk, IfErr, length, map};
 ghost use Rattle.std.specs.Char.{to_ascii_uppercase};
+ghost use Rattle.std.specs.List.{AllByRecursion};
 ghost use Rattle.p21_express.specs.Plain.{plain_schema};
-ghost use Rattle.p21_express.specs.Answer.{IsForm, HasNoForm, HasNoReading, OnRefusal, IsSame};
+ghost use Rattle.p21_express.specs.Answer.{IsForm, HasNoForm, HasNoReading, OnRefusal};
+ghost use Rattle.p21_express.specs.Misfit.{form_error, misfit_error, IsRefusedAs, IsUnfitAs};
+ghost use Rattle.p21_express.specs.SchemaFault.{IsSchemaFault};
 ghost use Rattle.p21_express.specs.Reader.{words_of, Gives, schema_at, if_whole};
 ghost use Rattle.p21_express.specs.Schema.{Schema};
 ghost use Rattle.p21_express.specs.Reading.{IsReading};
@@ -11,30 +14,63 @@ ghost use Rattle.p21_express.specs.Reading.{IsReading};
 use crate::checks::check;
 use crate::declarations::Declarations;
 use crate::error::SchemaError;
+use crate::misfit::{Misfit, Unfit};
 use crate::places::{EntityPlaces, TypePlaces};
 use crate::refusal::{Kind, Refusal};
 use crate::schema::schema;
 use crate::words::{Scanned, scan};
 use std::alloc::{AllocError, Global};
 
-/// The error at a place of the text, where so many words stand from it on.
-fn at_place(refusal: Refusal, places: &[usize]) -> SchemaError
-    ensures { IsSame refusal result }
+/// The place of the text from which on so many words stand.
+fn place_at(places: &[usize], left: usize) -> u64
+    ensures { (n : ℕ) → AllByRecursion (λ place. place ≤ n) places.now → result ≤ n }
 {
-    let Refusal::Refused(kind, left) = refusal else {
-        return SchemaError::Memory;
-    };
-    let place = match places.get(places.len().saturating_sub(left.saturating_add(1))) {
+    match places.get(places.len().saturating_sub(left.saturating_add(1))) {
         Some(place) => *place as u64,
         None => 0,
-    };
+    }
+}
+
+/// The error of a kind at a place.
+fn form_error(kind: Kind, place: u64) -> SchemaError
+    ensures { result ≡ form_error kind place }
+{
     match kind {
         Kind::Syntax => SchemaError::Syntax(place),
         Kind::NotSupported => SchemaError::NotSupported(place),
-        Kind::Repeated => SchemaError::Repeated(place),
-        Kind::UnknownName => SchemaError::UnknownName(place),
-        Kind::Cycle => SchemaError::Cycle(place),
-        Kind::BadRedeclaration => SchemaError::BadRedeclaration(place),
+    }
+}
+
+/// The error of declarations at a place.
+fn misfit_error(misfit: Misfit, place: u64) -> SchemaError
+    ensures { result ≡ misfit_error misfit place }
+{
+    match misfit {
+        Misfit::Repeated => SchemaError::Repeated(place),
+        Misfit::UnknownName => SchemaError::UnknownName(place),
+        Misfit::LoneSelect => SchemaError::NotSupported(place),
+        Misfit::Cycle => SchemaError::Cycle(place),
+        Misfit::BadRedeclaration => SchemaError::BadRedeclaration(place),
+    }
+}
+
+/// The error of words that are no schema.
+fn refused_as(refusal: Refusal, places: &[usize]) -> SchemaError
+    ensures { (n : ℕ) → AllByRecursion (λ place. place ≤ n) places.now → IsRefusedAs n refusal result }
+{
+    match refusal {
+        Refusal::Refused(kind, left) => form_error(kind, place_at(places, left)),
+        Refusal::Memory => SchemaError::Memory,
+    }
+}
+
+/// The error of declarations that do not fit together.
+fn unfit_as(unfit: Unfit, places: &[usize]) -> SchemaError
+    ensures { (n : ℕ) → AllByRecursion (λ place. place ≤ n) places.now → IsUnfitAs n unfit result }
+{
+    match unfit {
+        Unfit::Found(misfit, left) => misfit_error(misfit, place_at(places, left)),
+        Unfit::Memory => SchemaError::Memory,
     }
 }
 
@@ -74,7 +110,9 @@ struct Form {
 /// The declarations of a schema's text by the grammar alone.
 fn read_form(alloc: Global, text: &[u8]) -> Result<Form, SchemaError>
     ensures ok { IfOk result (λ found. IsForm text.now (plain_schema found.declarations)) }
+    ensures places { IfOk result (λ found. AllByRecursion (λ place. place ≤ length text.now) found.places.items) }
     ensures err { IfErr result (λ e. OnRefusal e (HasNoForm text.now)) }
+    ensures fault { IfErr result (λ e. IsSchemaFault text.now e) }
 {
     let upper = upper_case(alloc, text)?;
     let scanned = scan(alloc, &upper)?;
@@ -88,7 +126,7 @@ fn read_form(alloc: Global, text: &[u8]) -> Result<Form, SchemaError>
                 places,
             })
         }
-        Err(refusal) => Err(at_place(refusal, &scanned.places)),
+        Err(refusal) => Err(refused_as(refusal, &scanned.places)),
     }
 }
 
@@ -100,6 +138,7 @@ fn read_form(alloc: Global, text: &[u8]) -> Result<Form, SchemaError>
 pub fn read_declarations(alloc: Global, text: &[u8]) -> Result<Declarations, SchemaError>
     ensures ok { IfOk result (λ found. IsReading text.now (plain_schema found)) }
     ensures err { IfErr result (λ e. OnRefusal e (HasNoReading text.now)) }
+    ensures fault { IfErr result (λ e. IsSchemaFault text.now e) }
 {
     let found = read_form(alloc, text)?;
     match check(
@@ -112,7 +151,7 @@ pub fn read_declarations(alloc: Global, text: &[u8]) -> Result<Declarations, Sch
             let Form { declarations, .. } = found;
             Ok(declarations)
         }
-        Err(refusal) => Err(at_place(refusal, &found.places)),
+        Err(unfit) => Err(unfit_as(unfit, &found.places)),
     }
 }
 

@@ -1,22 +1,18 @@
-//! Why a schema is refused.
+//! Why words are no schema.
 
 ghost use Rattle.std.specs.Prelude.{◌≡◌};
 ghost use Rattle.p21_express.specs.declared.refusal.Refusal.TheVariants.{Memory};
 
 use std::alloc::{AllocError, AllocFailed};
 
-/// What is wrong with a schema.
+/// What is wrong with the form of words.
 #[derive(Clone, Copy, Debug, PartialEq, Eq)]
 pub(crate) enum Kind {
     Syntax,
     NotSupported,
-    Repeated,
-    UnknownName,
-    Cycle,
-    BadRedeclaration,
 }
 
-/// Why a schema is refused, while it is read.
+/// Why words are refused, while they are read.
 #[derive(Clone, Copy, Debug)]
 pub(crate) enum Refusal {
     /// What is wrong, and how many words stand from there on.

@@ -215,6 +215,7 @@ pub(crate) struct Scanned<'a> {
 pub(crate) fn scan(alloc: Global, text: &[u8]) -> Result<Scanned<'_>, AllocError>
     ensures whole { IfOk result (λ s. IsTrue s.is_whole → UpperWords text.now (words_of s.words.items)) }
     ensures broken { IfOk result (λ s. s.is_whole ≡ false → HasNoWords text.now) }
+    ensures places { IfOk result (λ s. AllByRecursion (λ place. place ≤ length text.now) s.places.items) }
 {
     let mut words = Vec::new(alloc);
     let mut places = Vec::new(alloc);

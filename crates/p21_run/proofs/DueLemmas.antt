@@ -5,6 +5,7 @@ use Rattle.std.specs.Io.KnownBytes.{Appends}
 use Rattle.p21_express.specs.declared.error.SchemaError.{SchemaError}
 use Rattle.p21_express.specs.declared.error.SchemaError.TheVariants as error
 use Rattle.p21_express.specs.Answer.{OnRefusal, HasNoReading}
+use Rattle.p21_express.specs.SchemaFault.{IsSchemaFault}
 use Rattle.p21_run.specs.declared.outcome.Outcome.{Outcome}
 use Rattle.p21_run.specs.declared.outcome.Outcome.TheVariants as outcome
 use Rattle.p21_render.specs.SchemaFaultLine.{schema_fault_text}
@@ -28,8 +29,8 @@ refused (error.Cycle at) P text holds told = holds
 refused (error.BadRedeclaration at) P text holds told = holds
 refused error.Memory P text holds told = cc
 
-pub refusal_due : (all : Bool) (rules : Rules) (e : SchemaError) (o : Outcome) (schema_text file text : List ℕ) → OnRefusal e (HasNoReading schema_text) → schema_fault_text e ≡ Some text → o ≡ outcome.SchemaRefused → IsDue all rules schema_text file o text
-refusal_due all rules e o schema_text file text holds told is = subst (λ x. IsDue all rules schema_text file x text) (sym is) (record { declares_nothing = refused e (HasNoReading schema_text) text holds told; fault = e; told = told })
+pub refusal_due : (all : Bool) (rules : Rules) (e : SchemaError) (o : Outcome) (schema_text file text : List ℕ) → OnRefusal e (HasNoReading schema_text) → IsSchemaFault schema_text e → schema_fault_text e ≡ Some text → o ≡ outcome.SchemaRefused → IsDue all rules schema_text file o text
+refusal_due all rules e o schema_text file text holds of told is = subst (λ x. IsDue all rules schema_text file x text) (sym is) (record { declares_nothing = refused e (HasNoReading schema_text) text holds told; fault = e; is_fault = of; told = told })
 
 -- a report ends with a model or with a fault
 

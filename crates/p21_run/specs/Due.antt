@@ -4,6 +4,7 @@ use Rattle.std.specs.Io.KnownBytes.{Keeps, Appends}
 use Rattle.p21_express.specs.Schema.{Schema}
 use Rattle.p21_express.specs.Reading as express
 use Rattle.p21_express.specs.Answer.{HasNoReading}
+use Rattle.p21_express.specs.SchemaFault.{IsSchemaFault}
 use Rattle.p21_express.specs.declared.error.SchemaError.{SchemaError}
 use Rattle.p21_tree.specs.Sentence.{Instance}
 use Rattle.p21_tree.specs.declared.faults.Fault.{Fault}
@@ -40,10 +41,11 @@ abbrev pub IsReport : (all : Bool) → Schema → List ℕ → Outcome → List 
 IsReport true s file o text = IsFullReportOf s file o text
 IsReport false s file o text = IsReportOf s file o text
 
--- The text is the line of a fault of a schema's text that declares no schema.
+-- The text is the line of the fault of a schema's text that declares no schema: of the first condition that it fails.
 pub record IsRefusal (schema_text text : List ℕ) : Type 0 where
   pub declares_nothing : HasNoReading schema_text
   pub fault : SchemaError
+  pub is_fault : IsSchemaFault schema_text fault
   pub told : schema_fault_text fault ≡ Some text
 
 -- The text that is due with an outcome: the line of the schema's fault where it declares nothing, and otherwise the report of

@@ -2,22 +2,23 @@
 
 ghost use Rattle.std.specs.Prelude.{◌≡◌, List, [], ◌∷◌, ◌++◌, IfOk, OnOk, MatchResult};
 ghost use Rattle.std.specs.Option.{option_to_list};
-ghost use Rattle.p21_express.specs.Answer.{OnRefused};
 ghost use Rattle.p21_express.specs.Checks.{lone_name};
 ghost use Rattle.p21_express.specs.Graph.{lists};
 ghost use Rattle.p21_express.specs.Index.{IsEntityAt, IsSelectAt, IsTypeAt, IsExactIndex};
+ghost use Rattle.p21_express.specs.Misfit.{OnUnfit, Only};
 ghost use Rattle.p21_express.specs.Naming.{texts};
 ghost use Rattle.p21_express.specs.Plain.{plain_schema, plain_expr, plain_under};
 ghost use Rattle.p21_express.specs.Positions.{IsPosition, ArePositions, AreSupertypes, AreTypes, AreTypesUnder};
 ghost use Rattle.p21_express.specs.Schema.{Schema};
 ghost use Rattle.p21_express.specs.WellFormed.{HasNoUnknown, HasNoCycles};
+ghost use Rattle.p21_express.specs.declared.misfit.Misfit.TheVariants.{Cycle};
 
 use super::Checked;
 use super::graph::{Graph, is_cyclic, on_cycles};
 use super::names::{Declared, Index, declared_by};
 use super::unknown::lone_name;
 use crate::declarations::{TypeExpr, Under};
-use crate::refusal::{Kind, Refusal};
+use crate::misfit::{Misfit, Unfit};
 use std::alloc::{AllocError, Global};
 
 /// The position of the entity that has this name.
@@ -161,10 +162,10 @@ fn first_place(
 }
 
 /// Refuses where a declaration leads back to itself.
-pub(super) fn check(alloc: Global, checked: Checked, index: &Index) -> Result<(), Refusal>
+pub(super) fn check(alloc: Global, checked: Checked, index: &Index) -> Result<(), Unfit>
     requires index { IsExactIndex (plain_schema checked.declarations.now) index.now }
     requires unknown { HasNoUnknown (plain_schema checked.declarations.now) }
-    ensures { let s = plain_schema checked.entry.declarations.now in MatchResult result (λ _. HasNoCycles s) (λ r. OnRefused r (¬ (HasNoCycles s))) }
+    ensures { let s = plain_schema checked.entry.declarations.now in MatchResult result (λ _. HasNoCycles s) (λ e. OnUnfit e (Only Cycle (¬ (HasNoCycles s)))) }
 {
     let supertypes = supertypes(alloc, checked, index)?;
     let types = types(alloc, checked, index)?;
@@ -172,7 +173,7 @@ pub(super) fn check(alloc: Global, checked: Checked, index: &Index) -> Result<()
     let is_own_type = is_cyclic(alloc, &types)?;
     if is_own_ancestor || is_own_type {
         let left = first_place(alloc, checked, &supertypes, &types)?;
-        return Err(Refusal::Refused(Kind::Cycle, left));
+        return Err(Unfit::Found(Misfit::Cycle, left));
     }
     Ok(())
 }

@@ -1,26 +1,31 @@
 //! Attributes that are declared again.
 
-ghost use Rattle.std.specs.Prelude.{◌≡◌, ◌<◌, ◌↔◌, ℕ, List, [], Some, slice_get, IfOk, OnOk, MatchOption, MatchResult, true, map, option_map};
+ghost use Rattle.std.specs.Prelude.{◌≡◌, ◌<◌, ◌↔◌, ℕ, List, [], ◌∷◌, ◌++◌, Some, slice_get, IfOk, OnOk, MatchOption, MatchResult, true, map, option_map};
 ghost use Rattle.std.specs.Option.{option_to_list};
 ghost use Rattle.std.specs.Bool.{MatchBool};
-ghost use Rattle.std.specs.List.{AllByRecursion};
-ghost use Rattle.p21_express.specs.Answer.{OnRefused};
-ghost use Rattle.p21_express.specs.Again.{plain_again, plain_origin, IsNewAt, IsDerivedAt, IsGood, IsAgainAt, IsKnown};
+ghost use Rattle.std.specs.List.{AllByRecursion, AllZip};
+ghost use Rattle.p21_express.specs.Again.{plain_again, plain_origin, HasNewNames, HasOrigins, IsNewAt, IsDerivedAt, IsGood, IsAgainAt, IsKnown};
+ghost use Rattle.p21_express.specs.Checks.{HasNames};
 ghost use Rattle.p21_express.specs.Graph.{lists};
 ghost use Rattle.p21_express.specs.Index.{IsExactIndex, IsEntityAt};
-ghost use Rattle.p21_express.specs.Plain.{plain_schema, plain_entity, plain_attribute, plain_derived};
+ghost use Rattle.p21_express.specs.Misfit.{OnUnfit, Only};
+ghost use Rattle.p21_express.specs.Plain.{plain_schema, plain_entity};
 ghost use Rattle.p21_express.specs.Positions.{AreSupertypes};
 ghost use Rattle.p21_express.specs.Search.{IsBlank, state_of, Reaches};
-ghost use Rattle.p21_express.specs.WellFormed.{IsIn, HasNoUnknown, HasNoCycles, IsRedeclaring, DeclaresAgain, new_explicit, new_derived, new_names, with_new, with_again, redeclarations};
+ghost use Rattle.p21_express.specs.WellFormed.{IsIn, HasNoUnknown, HasNoCycles, IsRedeclaring, DeclaresAgain, with_again, redeclarations};
+ghost use Rattle.p21_express.specs.WellFormed.{Origin as SomeOrigin};
+ghost use Rattle.p21_express.specs.declared.misfit.Misfit.TheVariants.{BadRedeclaration};
 
 use super::cycles::{add, entity_at, supertypes};
 use super::graph::{Graph, Search};
 use super::names::Index;
-use super::{Checked, attribute_places_at, place_at};
-use crate::declarations::{AttrDecl, Declarations, DeriveDecl, EntityDecl};
+use super::repeated::{attributes, derived_attributes};
+use super::{Checked, First, attribute_places_at, place_at};
+use crate::declarations::{Declarations, EntityDecl};
+use crate::misfit::{Misfit, Unfit};
 use crate::places::EntityPlaces;
-use crate::refusal::{Kind, Refusal};
 use std::alloc::{AllocError, Global};
+use std::collections::BTreeMap;
 
 /// SELF\of.name, its place, and whether it is explicit.
 #[derive(Clone, Copy)]
@@ -36,44 +41,6 @@ struct Again<'d> {
 struct Origin<'d> {
     entity: &'d [u8],
     name: &'d [u8],
-}
-
-/// Whether this name is newly declared.
-fn is_new(of: &Option<Vec<u8>>, own: &[u8], name: &[u8]) -> bool
-    ensures { MatchBool result (IsIn (with_new (option_map (λ n. n.items) of.now) own.now []) name.now) (¬ (IsIn (with_new (option_map (λ n. n.items) of.now) own.now []) name.now)) }
-{
-    of.is_none() && own == name
-}
-
-/// Whether explicit attributes newly declare this name.
-fn is_new_explicit(attributes: &[AttrDecl], name: &[u8]) -> bool
-    ensures { MatchBool result (IsIn (new_explicit (map plain_attribute attributes.now)) name.now) (¬ (IsIn (new_explicit (map plain_attribute attributes.now)) name.now)) }
-{
-    for attribute in attributes {
-        if is_new(&attribute.of, &attribute.name, name) {
-            return true;
-        }
-    }
-    false
-}
-
-/// Whether attributes of DERIVE newly declare this name.
-fn is_new_derived(derived: &[DeriveDecl], name: &[u8]) -> bool
-    ensures { MatchBool result (IsIn (new_derived (map plain_derived derived.now)) name.now) (¬ (IsIn (new_derived (map plain_derived derived.now)) name.now)) }
-{
-    for attribute in derived {
-        if is_new(&attribute.of, &attribute.name, name) {
-            return true;
-        }
-    }
-    false
-}
-
-/// Whether an entity newly declares this name.
-fn is_new_in(entity: &EntityDecl, name: &[u8]) -> bool
-    ensures { MatchBool result (IsIn (new_names (plain_entity entity.now)) name.now) (¬ (IsIn (new_names (plain_entity entity.now)) name.now)) }
-{
-    is_new_explicit(&entity.attributes, name) || is_new_derived(&entity.derived, name)
 }
 
 /// The entity at a position.
@@ -93,74 +60,11 @@ fn name_at(declarations: &Declarations, position: usize) -> &[u8]
     }
 }
 
-/// Whether the entity at a position newly declares this name.
-fn is_new_at(declarations: &Declarations, position: usize, name: &[u8]) -> bool
-    ensures { MatchBool result (IsNewAt (plain_schema declarations.now) name.now position) (¬ (IsNewAt (plain_schema declarations.now) name.now position)) }
-{
-    match entity_in(declarations, position) {
-        Some(entity) => is_new_in(entity, name),
-        None => false,
-    }
-}
-
-/// Whether the entity at a position newly declares this name in DERIVE.
-fn is_derived_at(declarations: &Declarations, position: usize, name: &[u8]) -> bool
-    ensures { MatchBool result (IsDerivedAt (plain_schema declarations.now) name.now position) (¬ (IsDerivedAt (plain_schema declarations.now) name.now position)) }
-{
-    match entity_in(declarations, position) {
-        Some(entity) => is_new_derived(&entity.derived, name),
-        None => false,
-    }
-}
-
-/// The first of some entities that newly declares a name.
-fn first_new(declarations: &Declarations, among: &[usize], name: &[u8]) -> Option<usize>
-    ensures { MatchOption result ((i : ℕ) → IsIn among.now i → ¬ (IsNewAt (plain_schema declarations.now) name.now i)) (λ i. IsIn among.now i × IsNewAt (plain_schema declarations.now) name.now i) }
-{
-    for position in among {
-        if is_new_at(declarations, *position, name) {
-            return Some(*position);
-        }
-    }
-    None
-}
-
-/// Whether no other of some entities newly declares a name.
-fn is_only(declarations: &Declarations, among: &[usize], name: &[u8], this: usize) -> bool
-    ensures { MatchBool result ((i : ℕ) → IsIn among.now i → IsNewAt (plain_schema declarations.now) name.now i → i ≡ this) (¬ ((i : ℕ) → IsIn among.now i → IsNewAt (plain_schema declarations.now) name.now i → i ≡ this)) }
-{
-    for position in among {
-        if *position != this && is_new_at(declarations, *position, name) {
-            return false;
-        }
-    }
-    true
-}
-
-/// Whether an attribute of the entity at a position may be declared again: explicitly none of DERIVE.
-fn is_allowed(declarations: &Declarations, position: usize, again: Again) -> bool
-    ensures { let r = plain_again again.entry in MatchBool result (r.explicit ≡ true → ¬ (IsDerivedAt (plain_schema declarations.now) r.name position)) (¬ (r.explicit ≡ true → ¬ (IsDerivedAt (plain_schema declarations.now) r.name position))) }
-{
-    if again.explicit {
-        return !is_derived_at(declarations, position, again.name);
-    }
-    true
-}
-
-/// The only one of some entities that newly declares the attribute, where it may be declared again.
-fn origin_among(declarations: &Declarations, among: &[usize], again: Again) -> Option<usize>
-    ensures { MatchOption result ((i : ℕ) → ¬ (IsGood (plain_schema declarations.now) (plain_again again.entry) among.now i)) (λ i. IsGood (plain_schema declarations.now) (plain_again again.entry) among.now i) }
-{
-    let Some(position) = first_new(declarations, among, again.name) else {
-        return None;
-    };
-    if !is_only(declarations, among, again.name, position) {
-        return None;
-    }
-    if !is_allowed(declarations, position, again) {
-        return None;
-    }
-    Some(position)
+/// The names that an entity newly declares, and those of DERIVE among them.
+#[derive(Drop)]
+struct NewNames<'d> {
+    all: BTreeMap<&'d [u8], usize>,
+    derived: BTreeMap<&'d [u8], usize>,
 }
 
 /// What the checks of all entities look at.
@@ -168,6 +72,126 @@ fn origin_among(declarations: &Declarations, among: &[usize], again: Again) -> O
 struct Known<'d> {
     declarations: &'d Declarations,
     supertypes: Graph,
+    /// For each entity the names that it newly declares.
+    names: Vec<NewNames<'d>>,
+}
+
+/// The names that an entity newly declares.
+fn new_names<'d>(
+    alloc: Global,
+    entity: &'d EntityDecl,
+    places: &EntityPlaces,
+) -> Result<NewNames<'d>, AllocError>
+    ensures { IfOk result (λ names. HasNewNames (plain_entity entity.now) names) }
+{
+    let mut first = First::new();
+    let all = attributes(alloc, entity, places, &mut first)?;
+    let derived = derived_attributes(alloc, entity, &mut first)?;
+    Ok(NewNames {
+        all: all.places,
+        derived: derived.places,
+    })
+}
+
+/// For each entity the names that it newly declares.
+fn all_new_names<'d>(alloc: Global, checked: Checked<'d>) -> Result<Vec<NewNames<'d>>, AllocError>
+    ensures { IfOk result (λ all. AllZip HasNewNames (plain_schema checked.entry.declarations.now).entities all.items) }
+{
+    let mut all = Vec::new(alloc);
+    for (i, entity) in checked.declarations.entities.iter().enumerate() {
+        all.push(new_names(alloc, entity, checked.entity_places(i))?)?;
+    }
+    Ok(all)
+}
+
+/// The names that the entity at a position newly declares.
+fn names_at<'k, 'd>(known: &'k Known<'d>, position: usize) -> Option<&'k NewNames<'d>>
+    ensures { option_map (λ names. names.now) result ≡ slice_get known.now.names.items position }
+{
+    known.names.get(position)
+}
+
+/// Whether a name is one of these.
+fn has(names: &BTreeMap<&[u8], usize>, name: &[u8]) -> bool
+    ensures { (ns : List (List ℕ)) → HasNames names.now ns → MatchBool result (IsIn ns name.now) (¬ (IsIn ns name.now)) }
+{
+    names.get(name).is_some()
+}
+
+/// Whether the entity at a position newly declares this name.
+fn is_new_at(known: &Known, position: usize, name: &[u8]) -> bool
+    requires { IsKnown known.now }
+    ensures { let s = plain_schema known.now.declarations.now in MatchBool result (IsNewAt s name.now position) (¬ (IsNewAt s name.now position)) }
+{
+    match names_at(known, position) {
+        Some(names) => has(&names.all, name),
+        None => false,
+    }
+}
+
+/// Whether the entity at a position newly declares this name in DERIVE.
+fn is_derived_at(known: &Known, position: usize, name: &[u8]) -> bool
+    requires { IsKnown known.now }
+    ensures { let s = plain_schema known.now.declarations.now in MatchBool result (IsDerivedAt s name.now position) (¬ (IsDerivedAt s name.now position)) }
+{
+    match names_at(known, position) {
+        Some(names) => has(&names.derived, name),
+        None => false,
+    }
+}
+
+/// The first of some entities that newly declares a name.
+fn first_new(known: &Known, among: &[usize], name: &[u8]) -> Option<usize>
+    requires { IsKnown known.now }
+    ensures { MatchOption result ((i : ℕ) → IsIn among.now i → ¬ (IsNewAt (plain_schema known.now.declarations.now) name.now i)) (λ i. IsIn among.now i × IsNewAt (plain_schema known.now.declarations.now) name.now i) }
+{
+    for position in among {
+        if is_new_at(known, *position, name) {
+            return Some(*position);
+        }
+    }
+    None
+}
+
+/// Whether no other of some entities newly declares a name.
+fn is_only(known: &Known, among: &[usize], name: &[u8], this: usize) -> bool
+    requires { IsKnown known.now }
+    ensures { MatchBool result ((i : ℕ) → IsIn among.now i → IsNewAt (plain_schema known.now.declarations.now) name.now i → i ≡ this) (¬ ((i : ℕ) → IsIn among.now i → IsNewAt (plain_schema known.now.declarations.now) name.now i → i ≡ this)) }
+{
+    for position in among {
+        if *position != this && is_new_at(known, *position, name) {
+            return false;
+        }
+    }
+    true
+}
+
+/// Whether an attribute of the entity at a position may be declared again: explicitly none of DERIVE.
+fn is_allowed(known: &Known, position: usize, again: Again) -> bool
+    requires { IsKnown known.now }
+    ensures { let r = plain_again again.entry in MatchBool result (r.explicit ≡ true → ¬ (IsDerivedAt (plain_schema known.now.declarations.now) r.name position)) (¬ (r.explicit ≡ true → ¬ (IsDerivedAt (plain_schema known.now.declarations.now) r.name position))) }
+{
+    if again.explicit {
+        return !is_derived_at(known, position, again.name);
+    }
+    true
+}
+
+/// The only one of some entities that newly declares the attribute, where it may be declared again.
+fn origin_among(known: &Known, among: &[usize], again: Again) -> Option<usize>
+    requires { IsKnown known.now }
+    ensures { MatchOption result ((i : ℕ) → ¬ (IsGood (plain_schema known.now.declarations.now) (plain_again again.entry) among.now i)) (λ i. IsGood (plain_schema known.now.declarations.now) (plain_again again.entry) among.now i) }
+{
+    let Some(position) = first_new(known, among, again.name) else {
+        return None;
+    };
+    if !is_only(known, among, again.name, position) {
+        return None;
+    }
+    if !is_allowed(known, position, again) {
+        return None;
+    }
+    Some(position)
 }
 
 /// The position of the entity that newly declares what another declares again, where that is allowed. `lineage` has the
@@ -197,7 +221,7 @@ fn origin_of(
         return Ok(None);
     }
     let among = search.reached(alloc, &known.supertypes, of)?;
-    Ok(origin_among(known.declarations, &among, again))
+    Ok(origin_among(known, &among, again))
 }
 
 /// What an attribute declares again, if it does.
@@ -243,22 +267,15 @@ fn all_again<'d>(
     Ok(all)
 }
 
-fn is_same(one: Origin, other: Origin) -> bool
-    ensures { MatchBool result (plain_origin one.entry ≡ plain_origin other.entry) (¬ (plain_origin one.entry ≡ plain_origin other.entry)) }
-{
-    one.entity == other.entity && one.name == other.name
-}
+/// The attributes that were declared again.
+type Origins<'d> = BTreeMap<(&'d [u8], &'d [u8]), bool>;
 
-/// Whether the attribute is one of these.
-fn is_among(origins: &[Origin], origin: Origin) -> bool
-    ensures { MatchBool result (IsIn (map plain_origin origins.now) (plain_origin origin.entry)) (¬ (IsIn (map plain_origin origins.now) (plain_origin origin.entry))) }
+/// One more attribute that is declared again; whether it was before.
+fn meet<'d>(origins: &mut Origins<'d>, origin: Origin<'d>) -> Result<bool, AllocError>
+    ensures { (os : List SomeOrigin) → HasOrigins origins.old os → IfOk result (λ again. MatchBool again (IsIn os (plain_origin origin.entry)) (¬ (IsIn os (plain_origin origin.entry)) × HasOrigins origins.new (os ++ plain_origin origin.entry ∷ []))) }
 {
-    for other in origins {
-        if is_same(*other, origin) {
-            return true;
-        }
-    }
-    false
+    let before = origins.insert((origin.entity, origin.name), true)?;
+    Ok(before.is_some())
 }
 
 /// Refuses where an entity may not declare again what it does.
@@ -270,22 +287,22 @@ fn entity(
     position: usize,
     decl: &EntityDecl,
     places: &EntityPlaces,
-) -> Result<(), Refusal>
+) -> Result<(), Unfit>
     requires index { IsExactIndex (plain_schema known.now.declarations.now) index.now }
     requires known { IsKnown known.now }
     requires blank { IsBlank (lists known.now.supertypes.items) (state_of search.old) }
     requires decl { slice_get (plain_schema known.now.declarations.now).entities position ≡ Some (plain_entity decl.now) }
     ensures blank { OnOk result (IsBlank (lists known.now.supertypes.items) (state_of search.new)) }
-    ensures redeclared { let s = plain_schema known.now.declarations.now in MatchResult result (λ _. IsRedeclaring s (plain_entity decl.now)) (λ r. OnRefused r (¬ (IsRedeclaring s (plain_entity decl.now)))) }
+    ensures redeclared { let s = plain_schema known.now.declarations.now in MatchResult result (λ _. IsRedeclaring s (plain_entity decl.now)) (λ e. OnUnfit e (Only BadRedeclaration (¬ (IsRedeclaring s (plain_entity decl.now))))) }
 {
     let all = all_again(alloc, decl, places)?;
     if all.is_empty() {
         return Ok(());
     }
     let lineage = search.reached(alloc, &known.supertypes, position)?;
-    let mut origins = Vec::new(alloc);
+    let mut origins = BTreeMap::new(alloc);
     for again in &all {
-        let refusal = Refusal::Refused(Kind::BadRedeclaration, again.place);
+        let refusal = Unfit::Found(Misfit::BadRedeclaration, again.place);
         let Some(place) = origin_of(alloc, known, index, search, &lineage, position, *again)? else {
             return Err(refusal);
         };
@@ -293,25 +310,26 @@ fn entity(
             entity: name_at(known.declarations, place),
             name: again.name,
         };
-        if is_among(&origins, origin) {
+        let is_again = meet(&mut origins, origin)?;
+        if is_again {
             return Err(refusal);
         }
-        origins.push(origin)?;
     }
     Ok(())
 }
 
 /// Refuses where an attribute may not be declared again. The entities stand in the order of the text, and so does what
 /// each declares again: the first that is met is the first in the text.
-pub(super) fn check(alloc: Global, checked: Checked, index: &Index) -> Result<(), Refusal>
+pub(super) fn check(alloc: Global, checked: Checked, index: &Index) -> Result<(), Unfit>
     requires index { IsExactIndex (plain_schema checked.declarations.now) index.now }
     requires unknown { HasNoUnknown (plain_schema checked.declarations.now) }
     requires cycles { HasNoCycles (plain_schema checked.declarations.now) }
-    ensures { let s = plain_schema checked.entry.declarations.now in MatchResult result (λ _. AllByRecursion (IsRedeclaring s) s.entities) (λ r. OnRefused r (¬ (AllByRecursion (IsRedeclaring s) s.entities))) }
+    ensures { let s = plain_schema checked.entry.declarations.now in MatchResult result (λ _. AllByRecursion (IsRedeclaring s) s.entities) (λ e. OnUnfit e (Only BadRedeclaration (¬ (AllByRecursion (IsRedeclaring s) s.entities)))) }
 {
     let known = Known {
         declarations: checked.declarations,
         supertypes: supertypes(alloc, checked, index)?,
+        names: all_new_names(alloc, checked)?,
     };
     let mut search = Search::new(alloc, known.supertypes.len())?;
     for (position, decl) in checked.declarations.entities.iter().enumerate() {

@@ -1,25 +1,25 @@
 //! Names that are repeated.
 
-ghost use Rattle.std.specs.Prelude.{◌≡◌, ℕ, List, [], ◌∷◌, ◌++◌, Option, OnOk, MatchResult, option_map};
-ghost use Rattle.p21_express.specs.declared.refusal.Kind.{Kind as WrongKind};
+ghost use Rattle.std.specs.Prelude.{◌≡◌, ℕ, List, [], ◌∷◌, ◌++◌, Option, IfOk, OnOk, MatchResult, option_map};
+ghost use Rattle.p21_express.specs.declared.misfit.Misfit.TheVariants.{Repeated};
 ghost use Rattle.std.specs.List.{AllByRecursion};
-ghost use Rattle.p21_express.specs.Answer.{OnRefused};
 ghost use Rattle.p21_express.specs.Checks.{Finds, HasMet, HasNames};
+ghost use Rattle.p21_express.specs.Misfit.{OnUnfit, Only};
 ghost use Rattle.p21_express.specs.Naming.{texts};
 ghost use Rattle.p21_express.specs.Plain.{plain_schema, plain_entity, plain_under};
-ghost use Rattle.p21_express.specs.WellFormed.{AreDistinct, HasDistinctItems, HasNoRepeated, declared_names, new_names, with_new};
+ghost use Rattle.p21_express.specs.WellFormed.{AreDistinct, HasDistinctItems, HasNoRepeated, declared_names, new_derived, new_names, with_new};
 
 use super::{Checked, First, attribute_places_at, place_at};
 use crate::declarations::{EntityDecl, Under};
+use crate::misfit::{Misfit, Unfit};
 use crate::places::EntityPlaces;
-use crate::refusal::{Kind, Refusal};
 use std::alloc::{AllocError, Global};
 use std::collections::BTreeMap;
 
 /// Names that were met, and the last place of each.
 #[derive(Drop)]
-struct Met<'d> {
-    places: BTreeMap<&'d [u8], usize>,
+pub(super) struct Met<'d> {
+    pub(super) places: BTreeMap<&'d [u8], usize>,
 }
 
 impl<'d> Met<'d> {
@@ -33,12 +33,12 @@ impl<'d> Met<'d> {
 
     /// One more name, which is repeated where it was met before: there the later place counts.
     fn meet(&mut self, name: &'d [u8], left: usize, first: &mut First) -> Result<(), AllocError>
-        ensures { (before : Option (WrongKind × ℕ)) (ns : List (List ℕ)) → HasMet before first.old.found self.old.places ns → OnOk result (HasMet before first.new.found self.new.places (ns ++ name.now ∷ [])) }
+        ensures { (before : Option ℕ) (ns : List (List ℕ)) → HasMet before first.old.found self.old.places ns → OnOk result (HasMet before first.new.found self.new.places (ns ++ name.now ∷ [])) }
     {
         let Some(other) = self.places.insert(name, left)? else {
             return Ok(());
         };
-        first.meet(Kind::Repeated, left.min(other));
+        first.meet(left.min(other));
         self.places.insert(name, left.max(other))?;
         Ok(())
     }
@@ -51,7 +51,7 @@ impl<'d> Met<'d> {
         left: usize,
         first: &mut First,
     ) -> Result<(), AllocError>
-        ensures { (before : Option (WrongKind × ℕ)) (ns : List (List ℕ)) → HasMet before first.old.found self.old.places ns → OnOk result (HasMet before first.new.found self.new.places (ns ++ with_new (option_map (λ n. n.items) of.now) name.now [])) }
+        ensures { (before : Option ℕ) (ns : List (List ℕ)) → HasMet before first.old.found self.old.places ns → OnOk result (HasMet before first.new.found self.new.places (ns ++ with_new (option_map (λ n. n.items) of.now) name.now [])) }
     {
         match of {
             Some(_) => Ok(()),
@@ -77,13 +77,13 @@ fn list(
 }
 
 /// The names that an entity newly declares.
-fn attributes(
+pub(super) fn attributes<'d>(
     alloc: Global,
-    entity: &EntityDecl,
+    entity: &'d EntityDecl,
     places: &EntityPlaces,
     first: &mut First,
-) -> Result<(), AllocError>
-    ensures { OnOk result (Finds first.old.found first.new.found (AreDistinct (new_names (plain_entity entity.now)))) }
+) -> Result<Met<'d>, AllocError>
+    ensures { IfOk result (λ met. HasMet first.old.found first.new.found met.places (new_names (plain_entity entity.now))) }
 {
     let mut met = Met::new(alloc);
     for (i, attribute) in entity.attributes.iter().enumerate() {
@@ -94,7 +94,22 @@ fn attributes(
         let place = place_at(&places.derived, i);
         met.meet_new(&derived.of, &derived.name, place, first)?;
     }
-    Ok(())
+    Ok(met)
+}
+
+/// The names that an entity newly declares in DERIVE.
+pub(super) fn derived_attributes<'d>(
+    alloc: Global,
+    entity: &'d EntityDecl,
+    first: &mut First,
+) -> Result<Met<'d>, AllocError>
+    ensures { IfOk result (λ met. HasMet first.old.found first.new.found met.places (new_derived (plain_entity entity.now).derived)) }
+{
+    let mut met = Met::new(alloc);
+    for derived in &entity.derived {
+        met.meet_new(&derived.of, &derived.name, 0, first)?;
+    }
+    Ok(met)
 }
 
 /// The names of entities and types.
@@ -118,7 +133,7 @@ fn entities(alloc: Global, checked: Checked, first: &mut First) -> Result<(), Al
     for (i, entity) in checked.declarations.entities.iter().enumerate() {
         let places = checked.entity_places(i);
         list(alloc, &entity.supertypes, &places.supertypes, first)?;
-        attributes(alloc, entity, places, first)?;
+        let _met = attributes(alloc, entity, places, first)?;
     }
     Ok(())
 }
@@ -149,12 +164,12 @@ fn types(alloc: Global, checked: Checked, first: &mut First) -> Result<(), Alloc
 }
 
 /// Refuses where a name is repeated.
-pub(super) fn check(alloc: Global, checked: Checked) -> Result<(), Refusal>
-    ensures { let s = plain_schema checked.entry.declarations.now in MatchResult result (λ _. HasNoRepeated s) (λ r. OnRefused r (¬ (HasNoRepeated s))) }
+pub(super) fn check(alloc: Global, checked: Checked) -> Result<(), Unfit>
+    ensures { let s = plain_schema checked.entry.declarations.now in MatchResult result (λ _. HasNoRepeated s) (λ e. OnUnfit e (Only Repeated (¬ (HasNoRepeated s)))) }
 {
     let mut first = First::new();
     declared(alloc, checked, &mut first)?;
     entities(alloc, checked, &mut first)?;
     types(alloc, checked, &mut first)?;
-    first.refusal()
+    first.refusal(Misfit::Repeated)
 }

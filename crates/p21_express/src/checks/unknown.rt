@@ -1,20 +1,21 @@
 //! Names that are not declared as what they are used for.
 
-ghost use Rattle.std.specs.Prelude.{◌≡◌, ◌⊎◌, MatchResult, map, option_map};
+ghost use Rattle.std.specs.Prelude.{◌≡◌, ◌⊎◌, IsSome, MatchResult, map, option_map};
 ghost use Rattle.std.specs.List.{AllByRecursion};
-ghost use Rattle.p21_express.specs.Answer.{OnRefused};
-ghost use Rattle.p21_express.specs.Checks.{Finds, HasKnownNames, HasKnownUnder, lone_name};
+ghost use Rattle.p21_express.specs.Checks.{Finds, HasKnownNames, HasKnownUnder, HasNoSelectUnder, lone_name};
 ghost use Rattle.p21_express.specs.Index.{IsExactIndex};
+ghost use Rattle.p21_express.specs.Misfit.{OnUnfit, OfNames};
 ghost use Rattle.p21_express.specs.Naming.{texts};
 ghost use Rattle.p21_express.specs.Plain.{plain_schema, plain_attribute, plain_under, plain_expr};
 ghost use Rattle.p21_express.specs.Schema.{Schema};
-ghost use Rattle.p21_express.specs.WellFormed.{HasNoUnknown, IsAllowedAlone, IsEntity, IsKnown, IsKnownUnder, IsSelect, IsType, name_in};
+ghost use Rattle.p21_express.specs.SchemaFault.{AreKnownUnder, AreNamesKnown, HasNoLoneSelect, IsNoEntityAlone, IsNoSelectAlone, IsNoLoneSelect};
+ghost use Rattle.p21_express.specs.WellFormed.{HasNoUnknown, IsEntity, IsKnown, IsSelect, IsType, name_in};
 
 use super::names::{Declared, Index, declared_by};
 use super::{Checked, First, attribute_places_at, place_at};
 use crate::declarations::{AttrDecl, TypeExpr, Under};
+use crate::misfit::{Misfit, Unfit};
 use crate::places::AttrPlaces;
-use crate::refusal::{Kind, Refusal};
 
 /// The name in a type, below its aggregates.
 fn name_in(texpr: &TypeExpr) -> Option<&Vec<u8>>
@@ -36,7 +37,7 @@ fn known(index: &Index, name: &[u8], left: usize, first: &mut First)
 {
     match declared_by(index, name) {
         Some(_) => {}
-        None => first.meet(Kind::UnknownName, left),
+        None => first.meet(left),
     }
 }
 
@@ -46,9 +47,9 @@ fn supertype(index: &Index, name: &[u8], left: usize, first: &mut First)
 {
     match declared_by(index, name) {
         Some(Declared::Entity(_)) => {}
-        Some(Declared::Select(_)) => first.meet(Kind::UnknownName, left),
-        Some(Declared::Type(_)) => first.meet(Kind::UnknownName, left),
-        None => first.meet(Kind::UnknownName, left),
+        Some(Declared::Select(_)) => first.meet(left),
+        Some(Declared::Type(_)) => first.meet(left),
+        None => first.meet(left),
     }
 }
 
@@ -75,25 +76,46 @@ pub(super) fn lone_name(texpr: &TypeExpr) -> Option<&Vec<u8>>
     }
 }
 
-/// A name that may stand alone under a TYPE.
-fn alone(index: &Index, name: &[u8], left: usize, first: &mut First)
-    ensures { (s : Schema) → IsExactIndex s index.now → Finds first.old.found first.new.found (¬ (IsEntity s name.now) × ¬ (IsSelect s name.now)) }
+/// A name that no entity declares.
+fn no_entity(index: &Index, name: &[u8], left: usize, first: &mut First)
+    ensures { (s : Schema) → IsExactIndex s index.now → Finds first.old.found first.new.found (¬ (IsEntity s name.now)) }
 {
     match declared_by(index, name) {
-        Some(Declared::Entity(_)) => first.meet(Kind::UnknownName, left),
-        Some(Declared::Select(_)) => first.meet(Kind::NotSupported, left),
+        Some(Declared::Entity(_)) => first.meet(left),
+        Some(Declared::Select(_)) => {}
         Some(Declared::Type(_)) => {}
         None => {}
     }
 }
 
-/// A type that is all that stands under a TYPE.
+/// A name that no SELECT declares.
+fn no_select(index: &Index, name: &[u8], left: usize, first: &mut First)
+    ensures { (s : Schema) → IsExactIndex s index.now → Finds first.old.found first.new.found (¬ (IsSelect s name.now)) }
+{
+    match declared_by(index, name) {
+        Some(Declared::Entity(_)) => {}
+        Some(Declared::Select(_)) => first.meet(left),
+        Some(Declared::Type(_)) => {}
+        None => {}
+    }
+}
+
+/// A type that is all that stands under a TYPE, and no entity.
 fn plain(index: &Index, texpr: &TypeExpr, left: usize, first: &mut First)
-    ensures { (s : Schema) → IsExactIndex s index.now → Finds first.old.found first.new.found (IsKnown s (plain_expr texpr.now) × IsAllowedAlone s (plain_expr texpr.now)) }
+    ensures { (s : Schema) → IsExactIndex s index.now → Finds first.old.found first.new.found (IsKnown s (plain_expr texpr.now) × IsNoEntityAlone s (plain_expr texpr.now)) }
 {
     known_in(index, texpr, left, first);
     if let Some(name) = lone_name(texpr) {
-        alone(index, name, left, first);
+        no_entity(index, name, left, first);
+    }
+}
+
+/// A type that is all that stands under a TYPE, and no SELECT.
+fn plain_select(index: &Index, texpr: &TypeExpr, left: usize, first: &mut First)
+    ensures { (s : Schema) → IsExactIndex s index.now → Finds first.old.found first.new.found (IsNoSelectAlone s (plain_expr texpr.now)) }
+{
+    if let Some(name) = lone_name(texpr) {
+        no_select(index, name, left, first);
     }
 }
 
@@ -127,12 +149,23 @@ fn selected(index: &Index, names: &[Vec<u8>], places: &[usize], first: &mut Firs
 
 /// What stands under a TYPE.
 fn under(index: &Index, under: &Under, places: &[usize], first: &mut First)
-    ensures { (s : Schema) → IsExactIndex s index.now → Finds first.old.found first.new.found (IsKnownUnder s (plain_under under.now)) }
+    ensures { (s : Schema) → IsExactIndex s index.now → Finds first.old.found first.new.found (AreKnownUnder s (plain_under under.now)) }
 {
     match under {
         Under::Items(_) => {}
         Under::Select(names) => selected(index, names, places, first),
         Under::Plain(texpr) => plain(index, texpr, place_at(places, 0), first),
+    }
+}
+
+/// What stands under a TYPE, where no SELECT stands alone.
+fn select_under(index: &Index, under: &Under, places: &[usize], first: &mut First)
+    ensures { (s : Schema) → IsExactIndex s index.now → Finds first.old.found first.new.found (IsNoLoneSelect s (plain_under under.now)) }
+{
+    match under {
+        Under::Items(_) => {}
+        Under::Select(_) => {}
+        Under::Plain(texpr) => plain_select(index, texpr, place_at(places, 0), first),
     }
 }
 
@@ -156,13 +189,37 @@ fn types(checked: Checked, index: &Index, first: &mut First)
     }
 }
 
-/// Refuses where a name is not declared as what it is used for.
-pub(super) fn check(checked: Checked, index: &Index) -> Result<(), Refusal>
-    requires { IsExactIndex (plain_schema checked.declarations.now) index.now }
-    ensures { let s = plain_schema checked.entry.declarations.now in MatchResult result (λ _. HasNoUnknown s) (λ r. OnRefused r (¬ (HasNoUnknown s))) }
+/// The SELECTs that stand alone under types.
+fn lone_selects(checked: Checked, index: &Index, first: &mut First)
+    ensures { let s = plain_schema checked.entry.declarations.now in IsExactIndex s index.now → Finds first.old.found first.new.found (AllByRecursion (HasNoSelectUnder s) s.types) }
 {
-    let mut first = First::new();
-    entities(checked, index, &mut first);
-    types(checked, index, &mut first);
-    first.refusal()
+    for (i, decl) in checked.declarations.types.iter().enumerate() {
+        select_under(index, &decl.under, &checked.type_places(i).under, first);
+    }
+}
+
+/// Refuses where a name is unknown or a SELECT stands alone, for the one that comes first in the text.
+fn first_refusal(unknown: First, selects: First) -> Result<(), Unfit>
+    ensures { MatchResult result (λ _. (unknown.found ≡ None) × (selects.found ≡ None)) (λ e. OnUnfit e (OfNames (IsSome unknown.found) (IsSome selects.found))) }
+{
+    let Some(select) = selects.found else {
+        return unknown.refusal(Misfit::UnknownName);
+    };
+    match unknown.found {
+        Some(name) if name > select => unknown.refusal(Misfit::UnknownName),
+        _ => selects.refusal(Misfit::LoneSelect),
+    }
+}
+
+/// Refuses where a name is not declared as what it is used for.
+pub(super) fn check(checked: Checked, index: &Index) -> Result<(), Unfit>
+    requires { IsExactIndex (plain_schema checked.declarations.now) index.now }
+    ensures { let s = plain_schema checked.entry.declarations.now in MatchResult result (λ _. HasNoUnknown s) (λ e. OnUnfit e (OfNames (¬ (AreNamesKnown s)) (¬ (HasNoLoneSelect s)))) }
+{
+    let mut unknown = First::new();
+    entities(checked, index, &mut unknown);
+    types(checked, index, &mut unknown);
+    let mut selects = First::new();
+    lone_selects(checked, index, &mut selects);
+    first_refusal(unknown, selects)
 }

@@ -1,7 +1,8 @@
 use Rattle.std.proofs.lemmas.Result.{err_from_is_err_and}
 use Rattle.p21_express.specs.Plain.{plain_schema}
-use Rattle.p21_express.specs.WellFormed.{HasNoRepeated, HasNoUnknown, HasNoCycles, IsWellFormed}
-use Rattle.p21_express.proofs.WellFormedLemmas.{refused, checked}
+use Rattle.p21_express.specs.WellFormed.{HasNoRepeated, HasNoCycles}
+use Rattle.p21_express.specs.declared.misfit.Misfit.TheVariants as misfit
+use Rattle.p21_express.proofs.WellFormedLemmas.{only_misfit, unknown_misfit, checked}
 use Rattle.p21_express.proofs.checks.check.Goals as goal
 
 pub check-requires-2 : goal.check-requires-2
@@ -20,19 +21,19 @@ pub returns-in_err-check : goal.returns-in_err-check
 returns-in_err-check c =
     let s = plain_schema c.args.declarations.now in
     let p = err_from_is_err_and c.from_residual.result c.from_residual.ensures.1 in
-    rw (p.1, p.2) (refused (HasNoRepeated s) (IsWellFormed s) c.in_err-check.field-0.0 (λ w. w.repeated) c.in_err-check.ensures)
+    rw (p.1, p.2) (only_misfit s misfit.Repeated (¬ (HasNoRepeated s)) c.in_err-check.field-0.0 (λ h. h) c.in_err-check.ensures)
 
 pub returns-in_err-check-2 : goal.returns-in_err-check-2
 returns-in_err-check-2 c =
     let s = plain_schema c.args.declarations.now in
     let p = err_from_is_err_and c.from_residual-in_err-check-2.result c.from_residual-in_err-check-2.ensures.1 in
-    rw (p.1, p.2) (refused (HasNoUnknown s) (IsWellFormed s) c.in_err-check-2.field-0.0 (λ w. w.unknown) c.in_err-check-2.ensures)
+    rw (p.1, p.2) (unknown_misfit s c.in_err-check-2.field-0.0 c.in_ok-check.ensures c.in_err-check-2.ensures)
 
 pub returns-in_err-check-3 : goal.returns-in_err-check-3
 returns-in_err-check-3 c =
     let s = plain_schema c.args.declarations.now in
     let p = err_from_is_err_and c.from_residual-in_err-check-3.result c.from_residual-in_err-check-3.ensures.1 in
-    rw (p.1, p.2) (refused (HasNoCycles s) (IsWellFormed s) c.in_err-check-3.field-0.0 (λ w. w.cycles) c.in_err-check-3.ensures)
+    rw (p.1, p.2) (only_misfit s misfit.Cycle (¬ (HasNoCycles s)) c.in_err-check-3.field-0.0 (λ h. (c.in_ok-check.ensures, c.in_ok-check-2.ensures, h)) c.in_err-check-3.ensures)
 
 pub returns-in_err-index : goal.returns-in_err-index
 returns-in_err-index c =

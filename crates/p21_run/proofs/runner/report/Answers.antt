@@ -1,5 +1,6 @@
 use Rattle.std.proofs.Common.{◌≡◌, subst, ◌∙◌}
 use Rattle.p21_express.specs.Answer.{OnRefusal, HasNoReading}
+use Rattle.p21_express.specs.SchemaFault.{IsSchemaFault}
 use Rattle.p21_express.specs.Plain.{plain_schema}
 use Rattle.p21_express.specs.Reading.{IsReading}
 use Rattle.p21_schema.specs.Rules.{with_rules}
@@ -18,4 +19,4 @@ pub returns-clause-due : goal.returns-clause-due
 returns-clause-due g c schema_text file s f =
     let items = of_some (g.S.Source.remaining c.args.schema_in.now) schema_text (λ all. c.in_ok-schema_text.schema_text.items ≡ all) c.in_ok-schema_text.ensures.whole s in
     let r = c.in_ok-report_of_refusal-in-Err in
-    refusal_due c.args.by.now.all c.args.rules c.in-Err.error r.field-0.outcome schema_text file r.field-0.text.items (subst (λ t. OnRefusal c.in-Err.error (HasNoReading t)) (c.as_slice.ensures.value ∙ items) c.in-Err.ensures.err) r.ensures.text r.ensures.outcome
+    refusal_due c.args.by.now.all c.args.rules c.in-Err.error r.field-0.outcome schema_text file r.field-0.text.items (subst (λ t. OnRefusal c.in-Err.error (HasNoReading t)) (c.as_slice.ensures.value ∙ items) c.in-Err.ensures.err) (subst (λ t. IsSchemaFault t c.in-Err.error) (c.as_slice.ensures.value ∙ items) c.in-Err.ensures.fault) r.ensures.text r.ensures.outcome

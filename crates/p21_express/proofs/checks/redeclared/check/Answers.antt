@@ -1,11 +1,12 @@
 use Rattle.std.proofs.Common.{map}
 use Rattle.std.specs.List.{AllByRecursion}
 use Rattle.std.proofs.lemmas.Result.{err_from_is_err_and}
+use Rattle.p21_express.specs.declared.misfit.Misfit.TheVariants as misfit
 use Rattle.p21_express.specs.Graph.{lists}
 use Rattle.p21_express.specs.Plain.{plain_schema, plain_entity}
 use Rattle.p21_express.specs.WellFormed.{IsRedeclaring}
 use Rattle.p21_express.proofs.CycleLemmas.{entities_to_graph}
-use Rattle.p21_express.proofs.RedeclarationLemmas.{entity_there_at, all_step, all_refused, refused_to}
+use Rattle.p21_express.proofs.RedeclarationLemmas.{entity_there_at, all_step, all_refused, unfit_to}
 use Rattle.p21_express.proofs.checks.redeclared.check.Goals as goal
 
 pub entity-requires-clause-known : goal.entity-requires-clause-known
@@ -13,6 +14,7 @@ entity-requires-clause-known c = record {
   unknown = c.requires.unknown;
   supertypes = c.in_ok-supertypes.ensures;
   acyclic = entities_to_graph (plain_schema c.args.checked.declarations.now) (lists c.in_ok-supertypes.field-0.items) c.in_ok-supertypes.ensures c.requires.cycles.entities;
+  names = c.in_ok-all_new_names.ensures;
 }
 
 pub entity-requires-clause-decl : goal.entity-requires-clause-decl
@@ -27,4 +29,4 @@ returns-in_err-entity c =
     let wrong : ¬ (IsRedeclaring (plain_schema c.args.checked.declarations.now) (plain_entity c.decl-item.result)) → ¬ (AllByRecursion (IsRedeclaring (plain_schema c.args.checked.declarations.now)) (map plain_entity c.args.checked.declarations.now.entities.items)) = all_refused (IsRedeclaring s) c.args.checked.declarations.now.entities.items c.loop-position.position c.decl-item.result (rw c.deref-decl-items.ensures.value at c.loop-position-test.true) (rw c.deref-decl-items.ensures.value at c.decl-item.is) in
     let p = err_from_is_err_and c.from_residual-in_err-entity.result c.from_residual-in_err-entity.ensures.1 in
     rw (p.1, p.2)
-    (refused_to c.in_err-entity.field-0.0 (¬ (IsRedeclaring (plain_schema c.args.checked.declarations.now) (plain_entity c.decl-item.result))) (¬ (AllByRecursion (IsRedeclaring (plain_schema c.args.checked.declarations.now)) (map plain_entity c.args.checked.declarations.now.entities.items))) wrong c.in_err-entity.ensures.redeclared)
+    (unfit_to c.in_err-entity.field-0.0 misfit.BadRedeclaration (¬ (IsRedeclaring (plain_schema c.args.checked.declarations.now) (plain_entity c.decl-item.result))) (¬ (AllByRecursion (IsRedeclaring (plain_schema c.args.checked.declarations.now)) (map plain_entity c.args.checked.declarations.now.entities.items))) wrong c.in_err-entity.ensures.redeclared)

@@ -1,9 +1,10 @@
-use Rattle.std.proofs.Common.{map, take}
-use Rattle.p21_express.specs.Again.{plain_again, plain_origin, Origins}
+use Rattle.std.proofs.Common.{List, map, take}
+use Rattle.p21_express.specs.Again.{plain_again, HasOrigins, Origins}
 use Rattle.p21_express.specs.Graph.{lists}
 use Rattle.p21_express.specs.Plain.{plain_schema}
 use Rattle.p21_express.specs.Search.{IsBlank, state_of}
+use Rattle.p21_express.specs.WellFormed.{Origin}
 use Rattle.p21_express.proofs.checks.redeclared.entity.Given as goal
 
 abbrev pub invariant-loop-again : goal.invariant-loop-again
-invariant-loop-again l = IsBlank (lists l.known.supertypes.items) (state_of l.search) × Origins (plain_schema l.known.declarations.now) l.decl.name.items (map plain_again (take l.again-index l.again-items)) (map plain_origin l.origins.items)
+invariant-loop-again l = IsBlank (lists l.known.supertypes.items) (state_of l.search) × ((os : List Origin) × Origins (plain_schema l.known.declarations.now) l.decl.name.items (map plain_again (take l.again-index l.again-items)) os × HasOrigins l.origins os)
