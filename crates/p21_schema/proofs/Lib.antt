@@ -12,3 +12,4 @@ pub mod DeclarationLemmas
 pub mod SelectLemmas
 pub mod Examples
 pub mod AdmitLemmas
+pub mod WalkLemmas
