@@ -13,3 +13,5 @@ pub mod SelectLemmas
 pub mod Examples
 pub mod AdmitLemmas
 pub mod WalkLemmas
+pub mod RangeLemmas
+pub mod WithinLemmas

@@ -22,7 +22,7 @@ fn unmarked(alloc: Global, count: usize) -> Result<Vec<bool>, AllocError>
 }
 
 /// As many zeros.
-fn zeros(alloc: Global, count: usize) -> Result<Vec<usize>, AllocError>
+pub(crate) fn zeros(alloc: Global, count: usize) -> Result<Vec<usize>, AllocError>
     ensures { IfOk result (λ row. row.items ≡ replicate count 0) }
 {
     let mut row = Vec::with_capacity(alloc, count)?;
