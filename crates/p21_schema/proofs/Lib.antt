@@ -15,3 +15,4 @@ pub mod AdmitLemmas
 pub mod WalkLemmas
 pub mod RangeLemmas
 pub mod WithinLemmas
+pub mod SharedLemmas

@@ -24,7 +24,7 @@ pub record AreTables (a : Inside) : Type 0 where
   pub supertypes : IsSupertypeTable (schema_of a) (rows_of a.supertypes)
   pub descents : IsDescentTable (schema_of a) a.descents
   pub own : IsOwnTable (schema_of a) a.own.items
-  pub rows : IsRowTable (schema_of a) (rows_of a.rows)
+  pub rows : IsRowTable (schema_of a) a.rows
   pub attributes : IsDeclarationTable (schema_of a) (written (schema_of a).entities) (rows_of a.attributes)
   pub ends : AreEnds (schema_of a) a.ends.items
   pub resolved : AreResolved (map (λ e. e.name) (schema_of a).entities) (map (λ t. t.name) (schema_of a).types) a.unders.items (schema_of a).types

@@ -134,6 +134,7 @@ pub(crate) fn order(alloc: Global, graph: &Graph) -> Result<Vec<usize>, AllocErr
     requires edges { AreEdgesBelow (plain_graph graph.now) (length (plain_graph graph.now)) }
     requires cycles { HasNoCycle (HasEdge (plain_graph graph.now)) }
     ensures order { IfOk result (λ order. IsOrder (plain_graph graph.now) order.items) }
+    ensures distinct { IfOk result (λ order. AreDistinct order.items) }
     ensures all { IfOk result (λ order. (v : ℕ) → v < length (plain_graph graph.now) → IsIn order.items v) }
 {
     let mut starts = Vec::with_capacity(alloc, graph.len())?;

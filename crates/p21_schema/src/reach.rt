@@ -64,7 +64,7 @@ pub(crate) fn turned(alloc: Global, graph: &Graph) -> Result<Graph, AllocError>
 }
 
 /// The place of each vertex in an order.
-fn places(alloc: Global, order: &[usize], count: usize) -> Result<Vec<usize>, AllocError>
+pub(crate) fn places(alloc: Global, order: &[usize], count: usize) -> Result<Vec<usize>, AllocError>
     requires below { (v : ℕ) → IsIn order.now v → v < count }
     requires distinct { AreDistinct order.now }
     ensures count { IfOk result (λ places. length places.items ≡ count) }

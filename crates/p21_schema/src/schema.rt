@@ -9,7 +9,7 @@ use crate::ids::{AttrId, EntityId, TypeId};
 use crate::names::{Names, entity_names, type_names};
 use crate::reach::Reach;
 use crate::resolved::Resolved;
-use crate::rows::{Own, own_attributes, rows};
+use crate::rows::{Own, Rows, own_attributes};
 use crate::rules::Rules;
 use crate::selects::{Selects, admitting, select_tables};
 use crate::under::{resolved, type_ends};
@@ -27,7 +27,7 @@ pub struct Schema {
     /// For each entity which entities descend from it.
     descents: Reach,
     own: Vec<Own>,
-    rows: Vec<Vec<AttrId>>,
+    rows: Rows,
     /// For each attribute its declarations.
     attributes: Vec<Vec<Declaration>>,
     /// The place of the type at which the way from each type ends, by the names that alone stand under types.
@@ -104,7 +104,7 @@ impl Schema {
         let order = order(alloc, &graph)?;
         let descents = descents(alloc, &graph)?;
         let (own, lists) = own_attributes(alloc, &declarations)?;
-        let rows = rows(alloc, &graph, &own, &order)?;
+        let rows = Rows::new(alloc, &graph, &own, &order)?;
         let supertypes = supertype_ids(alloc, &graph)?;
         let type_names = type_names(alloc, &declarations.types)?;
         let ends = type_ends(alloc, &type_names, &declarations.types)?;
@@ -213,7 +213,7 @@ impl Schema {
         requires { IsEntityOf self.now entity }
         ensures { (row : List Origin) × (IsRow self.now (entity_name self.now entity) row × (length row ≡ result)) }
     {
-        self.rows[entity.index].len()
+        self.rows.count(entity.index)
     }
 
     /// An attribute of the entity's row: those of its supertypes' rows in order, then its own, each at its first place.
@@ -223,7 +223,7 @@ impl Schema {
         ensures known { IsAttributeOf self.now result }
         ensures row { (row : List Origin) → IsRow self.now (entity_name self.now entity) row → slice_get row position ≡ Some (attribute_at self.now result) }
     {
-        self.rows[entity.index][position]
+        self.rows.attribute(entity.index, position)
     }
 
     /// The number of explicit attributes that the entity newly declares.
