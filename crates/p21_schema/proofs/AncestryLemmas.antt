@@ -1,17 +1,20 @@
 -- Supertypes and ancestors, by places and by names.
-use Rattle.std.proofs.Common.{◌≡◌, ℕ, ◌+◌, ◌<◌, ◌≤◌, ◌↔◌, Bool, true, false, List, [], ◌∷◌, ◌++◌, length, get_or, take, map, refl, sym, ap, ◌∙◌, subst, inr, ⊎_elim, arith, eqb}
+use Rattle.std.proofs.Common.{◌≡◌, ℕ, ◌+◌, ◌<◌, ◌≤◌, ◌↔◌, ◌⊎◌, List, [], ◌∷◌, ◌++◌, length, get_or, take, map, refl, sym, ap, ◌∙◌, subst, inl, inr, ⊎_elim, arith}
 use Rattle.std.specs.Prelude.{Vec}
-use Rattle.std.proofs.lemmas.Bool.{cases_eq, cases_lt, false≢true, eq-eqb}
+use Rattle.std.proofs.lemmas.Bool.{cases_eq, cases_lt}
 use Rattle.std.proofs.lemmas.List.{map_push, take_more, get_or_append_left, get_or_push, length_push, get_or-take, length-take-le, length-map, get_or-map, get_or_past}
 use Rattle.std.specs.List.{AllByRecursion}
 use Rattle.p21_express.specs.Schema.{Schema, Entity, Defined}
 use Rattle.p21_express.specs.WellFormed.{IsIn, AreDistinct, Leads, one, more, HasNoCycle, IsSupertype, IsAncestor, IsEntity, HasNoRepeated, HasNoUnknown}
 use Rattle.p21_schema.specs.Place.{no_entity, entity_name, IsEntityOf}
-use Rattle.p21_schema.specs.Graph.{HasEdge, AreEdgesBelow, Reaches, here, through, IsReachTable}
-use Rattle.p21_schema.specs.Ancestry.{entity_id, AreNamed, AreSupertypesNamed, NameEntities, IsSupertypeTable, IsAncestorTable, IsA}
+use Rattle.p21_schema.specs.Graph.{HasEdge, AreEdgesBelow, Reaches, here, through}
+use Rattle.p21_schema.specs.Reach.{IsTurned, IsReach, IsWithin, itself, through as inside}
+use Rattle.p21_schema.specs.declared.reach.Reach.{Reach}
+use Rattle.p21_schema.specs.Ancestry.{entity_id, AreNamed, AreSupertypesNamed, NameEntities, IsSupertypeTable, IsDescentTable, IsA}
 use Rattle.p21_schema.specs.Graph.{rows_of, plain_graph}
 use Rattle.p21_schema.specs.declared.ids.EntityId.{EntityId}
 use Rattle.p21_schema.proofs.GraphLemmas.{rows_push, row_is, row_count}
+use Rattle.p21_schema.proofs.WithinLemmas.{leads_behind}
 use Rattle.p21_schema.proofs.Members.{place_of, at_place, in_either, in_map, from_map, same_place, holds_of, distinct_left}
 
 pub named_push : (names ns : List (List ℕ)) (places : List ℕ) (i : ℕ) (n : List ℕ) → AreNamed names places ns → i < length names → get_or names i [] ≡ n → AreNamed names (places ++ i ∷ []) (ns ++ n ∷ [])
@@ -61,6 +64,15 @@ name_at s i = ⊎_elim
 pub same_entity : (s : Schema) → AreDistinct (all_names s) → (a b : ℕ) → a < length s.entities → b < length s.entities → entity_name s (entity_id a) ≡ entity_name s (entity_id b) → a ≡ b
 same_entity s distinct a b la lb e = same_place (all_names s) a b [] distinct (subst (λ u. a < u) (sym (name_count s)) la) (subst (λ u. b < u) (sym (name_count s)) lb) (name_at s a ∙ e ∙ sym (name_at s b))
 
+-- what is reached by edges is reached back by the edges turned round
+within_behind : (graph : List (List ℕ)) {a b c : ℕ} → IsWithin graph a b → HasEdge graph b c → IsWithin graph a c
+within_behind graph {a} {b} {c} (itself e) edge = inside (subst (λ u. HasEdge graph u c) (sym e) edge) (itself refl)
+within_behind graph (inside e r) edge = inside e (within_behind graph r edge)
+
+turned_reach : (graph turned : List (List ℕ)) → IsTurned graph turned → {a b : ℕ} → Reaches graph graph a b → IsWithin turned b a
+turned_reach graph turned t {a} {b} (here e) = inside ((t.edges b a).1 e) (itself refl)
+turned_reach graph turned t {a} {b} (through {b = w} e r) = within_behind turned (turned_reach graph turned t r) ((t.edges w a).1 e)
+
 module _ (s : Schema) (graph : List (List ℕ)) (h : AreSupertypesNamed (map (λ (e : Entity). e.name) s.entities) graph s.entities) where
   abbrev name_of : ℕ → List ℕ
   name_of i = entity_name s (entity_id i)
@@ -92,9 +104,11 @@ module _ (s : Schema) (graph : List (List ℕ)) (h : AreSupertypesNamed (map (λ
   pub no_cycle : HasNoCycle (IsSupertype s) → HasNoCycle (HasEdge graph)
   no_cycle none a l = none (name_of a) (leads_names l)
 
-  reaches_names : {a b : ℕ} → Reaches graph graph a b → IsAncestor s (name_of a) (name_of b)
-  reaches_names {a} {b} (here e) = one (edge_names a b e)
-  reaches_names {a} (through {b = w} e r) = more (edge_names a w e) (reaches_names r)
+  descends : (turned : List (List ℕ)) → IsTurned graph turned → {a b : ℕ} → IsWithin turned b a → IsA s (entity_id a) (entity_id b)
+  descends turned t (itself e) = inl (ap name_of (sym e))
+  descends turned t {a} {b} (inside {b = w} e r) =
+      let step : IsSupertype s (name_of w) (name_of b) = edge_names w b ((t.edges b w).0 e) in
+      ⊎_elim (λ (same : name_of a ≡ name_of w). inr (one (subst (λ u. IsSupertype s u (name_of b)) (sym same) step))) (λ (n : IsAncestor s (name_of a) (name_of w)). inr (leads_behind n step)) (descends turned t r)
 
   module _ (distinct : AreDistinct (all_names s)) where
     -- a supertype by name is one by place
@@ -119,13 +133,12 @@ module _ (s : Schema) (graph : List (List ℕ)) (h : AreSupertypesNamed (map (λ
         let lw : w.0 < length s.entities = subst (λ u. w.0 < u) (name_count s) ((h.rows a la).below w.0 w.1.0) in
         through w.1.0 (names_reach l w.0 b lw lb (sym w.1.1) ey)
 
-    pub ancestor_table : (table : List (List Bool)) → IsReachTable graph graph (length graph) table → IsAncestorTable s table
-    ancestor_table table t = record {
+    pub descent_table : (turned : List (List ℕ)) → IsTurned graph turned → (reach : Reach) → IsReach turned reach → IsDescentTable s reach
+    descent_table turned t reach r = record {
+      graph = turned;
       count = t.count ∙ h.count;
-      columns = λ a la. (t.rows a (subst (λ u. a < u) (sym h.count) la)).count ∙ h.count;
-      ancestors = λ a b la lb.
-          let r = (t.rows a (subst (λ u. a < u) (sym h.count) la)).reached b in
-          (λ m. reaches_names (r.0 m), λ i. r.1 (names_reach i a b la lb refl refl));
+      reaches = r;
+      descents = λ a b la lb. (descends turned t, λ i. ⊎_elim (λ (e : name_of a ≡ name_of b). itself (sym (same_entity s distinct a b la lb e))) (λ (n : IsAncestor s (name_of a) (name_of b)). turned_reach graph turned t (names_reach n a b la lb refl refl)) i);
     }
 
   pub supertype_table : IsSupertypeTable s (map (map entity_id) graph)
@@ -153,6 +166,12 @@ ids_more {A} {B} old new graph row places now k less at is ids pushed h =
     let e : get_or (plain_graph graph) k [] ≡ now = row_is graph k places less at ∙ sym is in
     rows_push old new row pushed ∙ (λ j. h j ++ ids j ∷ []) ∙ sym (map_push (map entity_id) (take k (plain_graph graph)) now) ∙ ap (λ (xs : List (List ℕ)). map (map entity_id) xs) (ap (λ (u : List ℕ). take k (plain_graph graph) ++ u ∷ []) (sym e) ∙ sym (take_more (plain_graph graph) k [] less'))
 
+pub descends_by : (s : Schema) (reach : Reach) (a b : ℕ) → IsDescentTable s reach → (result : Type 0) → ((g : List (List ℕ)) → IsReach g reach → b < length g → a < length g → result ↔ IsWithin g b a) → a < length s.entities → b < length s.entities → result ↔ IsA s (entity_id a) (entity_id b)
+descends_by s reach a b t result h la lb =
+    let w = h t.graph t.reaches (subst (λ u. b < u) (sym t.count) lb) (subst (λ u. a < u) (sym t.count) la) in
+    let d = t.descents a b la lb in
+    (λ r. d.0 (w.0 r), λ i. w.1 (d.1 i))
+
 -- the names of entities differ, and each supertype is an entity
 pub distinct_entities : (s : Schema) → HasNoRepeated s → AreDistinct (map (λ (e : Entity). e.name) s.entities)
 distinct_entities s h = distinct_left (map (λ (e : Entity). e.name) s.entities) (map (λ (t : Defined). t.name) s.types) h.declarations
@@ -162,17 +181,3 @@ supertypes_known s h e n i j = holds_of (IsEntity s) e.supertypes n (holds_of (�
 
 pub named_by : {X : Type 0} (plain : X → Entity) (names graph : List (List ℕ)) (xs ys all : List X) → names ≡ map (λ (e : Entity). e.name) (map plain xs) → xs ≡ all → ys ≡ all → AreSupertypesNamed names graph (map plain ys) → AreSupertypesNamed (map (λ (e : Entity). e.name) (map plain all)) graph (map plain all)
 named_by {X} plain names graph xs ys all n x y h = subst (λ (u : List X). AreSupertypesNamed (map (λ (e : Entity). e.name) (map plain all)) graph (map plain u)) y (subst (λ (u : List (List ℕ)). AreSupertypesNamed u graph (map plain ys)) (n ∙ ap (λ (u : List X). map (λ (e : Entity). e.name) (map plain u)) x) h)
-
--- what a row tells of two entities that differ
-pub is_a_by_row : (s : Schema) (table : List (List Bool)) (a b : EntityId) (row : List Bool) → AreDistinct (all_names s) → IsAncestorTable s table → IsEntityOf s a → IsEntityOf s b → eqb a.index b.index ≡ false → get_or table a.index [] ≡ row → (get_or row b.index false ≡ true) ↔ IsA s a b
-is_a_by_row s table a b row distinct t la lb differ is =
-    let h = t.ancestors a.index b.index la lb in (
-      λ m. inr (h.0 (ap (λ (r : List Bool). get_or r b.index false) is ∙ m)),
-      λ i. ⊎_elim
-          (λ (e : entity_name s a ≡ entity_name s b). absurd (false≢true (sym differ ∙ eq-eqb a.index b.index (same_entity s distinct a.index b.index la lb e))))
-          (λ (n : IsAncestor s (entity_name s a) (entity_name s b)). ap (λ (r : List Bool). get_or r b.index false) (sym is) ∙ h.1 n)
-          i,
-    )
-
-pub columns_of : (s : Schema) (table : List (List Bool)) (a : EntityId) (row : List Bool) → IsAncestorTable s table → IsEntityOf s a → get_or table a.index [] ≡ row → length row ≡ length s.entities
-columns_of s table a row t la is = ap (λ (r : List Bool). length r) (sym is) ∙ t.columns a.index la

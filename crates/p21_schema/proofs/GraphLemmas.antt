@@ -7,7 +7,7 @@ use Rattle.std.proofs.lemmas.Bool.{false≢true, eqb-true, ne_eqb, or_cases, cas
 use Rattle.std.proofs.lemmas.List.{map_push, take-append-le, take_all, get_or_append_left, get_or_push, length_push, get_or-map, length-map, get_or-set_same, get_or-set_other}
 use Rattle.std.proofs.lemmas.Map.Steps.{length-le_from_distinct_below}
 use Rattle.p21_express.specs.WellFormed.{IsIn, AreDistinct, Leads, one, more, HasNoCycle}
-use Rattle.p21_schema.specs.Graph.{rows_of, HasEdge, AreEdgesBelow, IsOrder, IsPlacedIn, IsMarked, AreMarked}
+use Rattle.p21_schema.specs.Graph.{rows_of, HasEdge, AreEdgesBelow, IsOrder, IsPlacedIn, IsMarked, AreMarked, waiting}
 use Rattle.p21_schema.proofs.Members.{in_right, in_left, front_more}
 
 member : (xs : List ℕ) (x : ℕ) → list_any (eqb x) xs ≡ true → IsIn xs x
@@ -72,12 +72,6 @@ module _ (graph : List (List ℕ)) (row : List Bool) (edges : AreEdgesBelow grap
   pub some_ready : (v : ℕ) → v < length graph → get_or row v false ≡ false → (w : ℕ) × IsReady graph row w
   some_ready v less waits = walk (length graph) v [] (omega arith) ((λ i. i), tt) (λ x i. ⊎_elim (λ (e : v ≡ x). subst (λ u. u < length graph) e less) (λ (j : ⊥). absurd j) i) (λ x i. absurd i) waits
 
--- how many are not marked
-abbrev pub waiting : List Bool → ℕ
-waiting [] = 0
-waiting (true ∷ row) = waiting row
-waiting (false ∷ row) = suc (waiting row)
-
 -- where marks are only added, there are no more that wait, and fewer where one is added
 pub no_more_waiting : (old new : List Bool) → length old ≡ length new → ((v : ℕ) → IsMarked old v → IsMarked new v) → waiting new ≤ waiting old
 no_more_waiting [] [] e grows = omega arith
@@ -139,46 +133,3 @@ placed_push row order i less p v m = ⊎_elim (λ (k : IsMarked row v). in_left 
 
 pub marks_more : (row : List Bool) (vs : List ℕ) (i : ℕ) → i < length vs → AreMarked row (take i vs) → IsMarked row (get_or vs i 0) → AreMarked row (take (i + 1) vs)
 marks_more row vs i less h here v m = ⊎_elim (λ (f : IsIn (take i vs) v). h v f) (λ (e : get_or vs i 0 ≡ v). subst (λ u. IsMarked row u) e here) (front_more vs i 0 v less m)
-
--- a round has gone over the vertices below k: `old` was marked as it began, and `row` is by now
-pub record Turn (graph : List (List ℕ)) (old row : List Bool) (so_far : List ℕ) (k : ℕ) : Type 0 where
-  pub order : IsOrder graph so_far
-  pub placed : IsPlacedIn row so_far
-  pub grows : (v : ℕ) → IsMarked old v → IsMarked row v
-  pub ready : (v : ℕ) → v < k → AreMarked old (get_or graph v []) → IsMarked row v
-
-module _ (graph : List (List ℕ)) (old row : List Bool) (order : List ℕ) (k : ℕ) (t : Turn graph old row order k) where
-  pub turn_marks : k < length graph → k < length row → AreMarked row (get_or graph k []) → Turn graph old (set row k true) (order ++ k ∷ []) (k + 1)
-  turn_marks less less' all = record {
-    order = placed_more graph row order k t.order t.placed less all;
-    placed = placed_push row order k less' t.placed;
-    grows = λ v m. mark_stays row k v less' (t.grows v m);
-    ready = λ v h r. ⊎_elim (λ (e : v ≡ k). rw e (get_or-set_same row k true false less')) (λ (ne : (v ≡ k) → ⊥). mark_stays row k v less' (t.ready v (omega arith) r)) (cases_eq v k);
-  }
-
-  passes : (AreMarked old (get_or graph k []) → IsMarked row k) → Turn graph old row order (k + 1)
-  passes here = record {
-    order = t.order;
-    placed = t.placed;
-    grows = t.grows;
-    ready = λ v h r. ⊎_elim (λ (e : v ≡ k). rw e (here (rw e at r))) (λ (ne : (v ≡ k) → ⊥). t.ready v (omega arith) r) (cases_eq v k);
-  }
-
-  pub turn_marked : IsMarked row k → Turn graph old row order (k + 1)
-  turn_marked m = passes (λ r. m)
-
-  pub turn_waits : ¬ (AreMarked row (get_or graph k [])) → Turn graph old row order (k + 1)
-  turn_waits not = passes (λ r. absurd (not (λ v i. t.grows v (r v i))))
-
-pub is_waiting : (b : Bool) → beq b false ≡ true → b ≡ false
-is_waiting true h = absurd (false≢true h)
-is_waiting false h = refl
-
--- a round leaves fewer that wait
-pub round_smaller : (graph : List (List ℕ)) (old new : List Bool) (x : ℕ) → AreEdgesBelow graph (length graph) → HasNoCycle (HasEdge graph) → length old ≡ length graph → length new ≡ length old → x < length old → get_or old x false ≡ false
-    → ((v : ℕ) → IsMarked old v → IsMarked new v) → ((v : ℕ) → v < length old → AreMarked old (get_or graph v []) → IsMarked new v) → waiting new < waiting old
-round_smaller graph old new x edges cycles count same less waits grows ready =
-    let r = some_ready graph old edges cycles x (omega arith) waits in
-    let h = r.1 in
-    let below : r.0 < length old = subst (λ n. r.0 < n) (sym count) h.below in
-    fewer_waiting old new r.0 (sym same) grows below h.waits (ready r.0 below h.ready)

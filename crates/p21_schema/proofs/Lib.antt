@@ -12,3 +12,7 @@ pub mod DeclarationLemmas
 pub mod SelectLemmas
 pub mod Examples
 pub mod AdmitLemmas
+pub mod WalkLemmas
+pub mod RangeLemmas
+pub mod WithinLemmas
+pub mod SharedLemmas

@@ -1,23 +1,25 @@
 -- Rows of attributes.
-use Rattle.std.proofs.Common.{◌≡◌, ℕ, zero, suc, ◌+◌, ◌-◌, ◌<◌, ◌≤◌, Bool, true, false, not, cond, ◌||◌, List, [], ◌∷◌, ◌++◌, Option, Some, None, is_some, option_map, length, get_or, set, take, drop, replicate, map, refl, sym, ap, ◌∙◌, subst, inl, inr, ⊎_elim, arith, append_assoc, add-zero}
+use Rattle.std.proofs.Common.{◌≡◌, ℕ, zero, suc, ◌+◌, ◌-◌, ◌<◌, ◌≤◌, Bool, true, false, not, cond, ◌||◌, List, [], ◌∷◌, ◌++◌, Option, Some, None, is_some, option_map, length, get_or, take, drop, replicate, map, refl, sym, ap, ◌∙◌, subst, inl, inr, ⊎_elim, arith, append_assoc, add-zero, ◌⊎◌}
 use Rattle.std.specs.Prelude.{slice_get}
 use Rattle.std.specs.List.{list_any, filter, AllByRecursion}
 use Rattle.std.specs.Cmp.Lexicographic.{bytes_decides}
 use Rattle.std.specs.Str.{bytes_eq}
 use Rattle.std.proofs.lemmas.Bool.{cases_eq, cases_Bool, false≢true, eqb-true, eq-eqb, ne_eqb, and_parts, and_from}
-use Rattle.std.proofs.lemmas.List.{map-append, take_more, drop_more, drop_all, append-nil, length-append, length-map, get_or_append_left, get_or-append-add, get_or-map, get_or_push, get_or-set_same, get_or-set_other, take-append-drop, replicate-append-replicate}
+use Rattle.std.proofs.lemmas.List.{map-append, take_more, drop_more, drop_all, append-nil, length-append, length-map, get_or_append_left, get_or-append-add, get_or-map, get_or_push, take-append-drop, replicate-append-replicate}
 use Rattle.std.proofs.Math.Seq.{get_or-append_seam}
+use Rattle.std.proofs.lemmas.Option.{get_or_from_slice_get}
 use Rattle.p21_express.specs.Schema.{Schema, Entity, Attribute}
-use Rattle.p21_express.specs.WellFormed.{IsIn, AreDistinct, Origin, new_explicit, new_derived, new_names, with_new}
+use Rattle.p21_express.specs.WellFormed.{IsIn, AreDistinct, Origin, IsWellFormed, IsSupertype, IsAncestor, new_explicit, new_derived, new_names, with_new}
+use Rattle.p21_express.specs.WellFormed as way
 use Rattle.p21_schema.specs.declared.ids.AttrId.{AttrId}
 use Rattle.p21_schema.specs.declared.ids.EntityId.{EntityId}
 use Rattle.p21_schema.specs.Place.{no_entity, entity_at, entity_name, IsEntityOf}
 use Rattle.p21_schema.specs.Ancestry.{entity_id, AreNamed}
 use Rattle.p21_schema.specs.Row.{own_attributes, attributes_of, no_attribute, attribute_at, IsAttributeOf, same_origin, first_places, IsRow, AreRows, row, none, more}
-use Rattle.p21_schema.specs.RowTable.{same_id, kept, all_kept, ids_from, joined, IsOwn, IsOwnTable, IsRowAt, IsRowTable, no_own}
+use Rattle.p21_schema.specs.RowTable.{same_id, kept, all_kept, ids_from, joined, IsOwn, IsOwnTable, IsRowAt, no_own}
 use Rattle.p21_schema.specs.declared.rows.Own.{Own}
 use Rattle.p21_schema.proofs.AncestryLemmas.{all_names, name_at}
-use Rattle.p21_schema.proofs.Members.{in_either, from_map, distinct_left, same_place, place_of, at_place, front_more}
+use Rattle.p21_schema.proofs.Members.{in_either, from_map, distinct_left, same_place, place_of, at_place, holds_of}
 
 -- ---- what is kept
 
@@ -42,13 +44,20 @@ own_more r now new from i le h e =
     let c : ids_from from (i + 1 - from) ≡ ids_from from (i - from) ++ record { index = i } ∷ [] = ap (λ (u : ℕ). ids_from from u) b ∙ ids_push from (i - from) ∙ ap (λ (u : ℕ). ids_from from (i - from) ++ record { index = u } ∷ []) a in
     e ∙ ap (λ (u : List AttrId). kept u (record { index = i })) h ∙ sym (all_kept_append r (ids_from from (i - from)) (record { index = i } ∷ [])) ∙ ap (λ (u : List AttrId). all_kept r u) (sym c)
 
-pub joined_push : (table : List (List AttrId)) (es : List ℕ) (e : ℕ) → joined table (es ++ e ∷ []) ≡ joined table es ++ get_or table e []
-joined_push table [] e = append-nil (get_or table e [])
-joined_push table (x ∷ xs) e = ap (λ (u : List AttrId). get_or table x [] ++ u) (joined_push table xs e) ∙ sym (append_assoc (get_or table x []) (joined table xs) (get_or table e []))
+pub own_behind : (r now new : List AttrId) (from i : ℕ) → from ≤ i → now ≡ r ++ ids_from from (i - from) → new ≡ now ++ record { index = i } ∷ [] → new ≡ r ++ ids_from from (i + 1 - from)
+own_behind r now new from i le h e =
+    let a : from + (i - from) ≡ i = omega arith in
+    let b : i + 1 - from ≡ suc (i - from) = omega arith in
+    let c : ids_from from (i + 1 - from) ≡ ids_from from (i - from) ++ record { index = i } ∷ [] = ap (λ (u : ℕ). ids_from from u) b ∙ ids_push from (i - from) ∙ ap (λ (u : ℕ). ids_from from (i - from) ++ record { index = u } ∷ []) a in
+    e ∙ ap (λ (u : List AttrId). u ++ record { index = i } ∷ []) h ∙ append_assoc r (ids_from from (i - from)) (record { index = i } ∷ []) ∙ ap (λ (u : List AttrId). r ++ u) (sym c)
 
-pub joined_more : (table : List (List AttrId)) (es : List ℕ) (i : ℕ) (d : ℕ) (now new one : List AttrId) → i < length es → get_or table (get_or es i d) [] ≡ one → now ≡ all_kept [] (joined table (take i es)) → new ≡ all_kept now one → new ≡ all_kept [] (joined table (take (i + 1) es))
+pub joined_push : (table : ℕ → List AttrId) (es : List ℕ) (e : ℕ) → joined table (es ++ e ∷ []) ≡ joined table es ++ table e
+joined_push table [] e = append-nil (table e)
+joined_push table (x ∷ xs) e = ap (λ (u : List AttrId). table x ++ u) (joined_push table xs e) ∙ sym (append_assoc (table x) (joined table xs) (table e))
+
+pub joined_more : (table : ℕ → List AttrId) (es : List ℕ) (i : ℕ) (d : ℕ) (now new one : List AttrId) → i < length es → table (get_or es i d) ≡ one → now ≡ all_kept [] (joined table (take i es)) → new ≡ all_kept now one → new ≡ all_kept [] (joined table (take (i + 1) es))
 joined_more table es i d now new one less at h e =
-    e ∙ (λ j. all_kept (h j) (sym at j)) ∙ sym (all_kept_append [] (joined table (take i es)) (get_or table (get_or es i d) [])) ∙ ap (λ (u : List AttrId). all_kept [] u) (sym (joined_push table (take i es) (get_or es i d)) ∙ ap (λ (u : List ℕ). joined table u) (sym (take_more es i d less)))
+    e ∙ (λ j. all_kept (h j) (sym at j)) ∙ sym (all_kept_append [] (joined table (take i es)) (table (get_or es i d))) ∙ ap (λ (u : List AttrId). all_kept [] u) (sym (joined_push table (take i es) (get_or es i d)) ∙ ap (λ (u : List ℕ). joined table u) (sym (take_more es i d less)))
 
 -- ---- each at its first place
 
@@ -279,22 +288,22 @@ ids_below i zero m h a in' = absurd in'
 ids_below i (suc n) m h a (inl e) = let f : i ≡ a.index = ap (λ (u : AttrId). u.index) e in omega (arith, f)
 ids_below i (suc n) m h a (inr r) = ids_below (suc i) n m (omega arith) a r
 
-pub rows_joined : (s : Schema) (table : List (List AttrId)) (es : List ℕ) → ((e : ℕ) → IsIn es e → IsRowAt s e (get_or table e [])) → AreRows s (map (λ i. entity_name s (entity_id i)) es) (map (attribute_at s) (joined table es))
+pub rows_joined : (s : Schema) (table : ℕ → List AttrId) (es : List ℕ) → ((e : ℕ) → IsIn es e → IsRowAt s e (table e)) → AreRows s (map (λ i. entity_name s (entity_id i)) es) (map (attribute_at s) (joined table es))
 rows_joined s table [] h = none refl
 rows_joined s table (e ∷ es) h =
     let all = joined table es in
-    more (h e (inl refl)).is (rows_joined s table es (λ x i. h x (inr i))) (map-append (attribute_at s) (get_or table e []) all)
+    more (h e (inl refl)).is (rows_joined s table es (λ x i. h x (inr i))) (map-append (attribute_at s) (table e) all)
 
-joined_known : (s : Schema) (table : List (List AttrId)) (es : List ℕ) → ((e : ℕ) → IsIn es e → IsRowAt s e (get_or table e [])) → (a : AttrId) → IsIn (joined table es) a → IsAttributeOf s a
+joined_known : (s : Schema) (table : ℕ → List AttrId) (es : List ℕ) → ((e : ℕ) → IsIn es e → IsRowAt s e (table e)) → (a : AttrId) → IsIn (joined table es) a → IsAttributeOf s a
 joined_known s table [] h a i = absurd i
-joined_known s table (e ∷ es) h a i = ⊎_elim (λ (l : IsIn (get_or table e []) a). (h e (inl refl)).known a l) (λ (r : IsIn (joined table es) a). joined_known s table es (λ x j. h x (inr j)) a r) (in_either (get_or table e []) (joined table es) a i)
+joined_known s table (e ∷ es) h a i = ⊎_elim (λ (l : IsIn (table e) a). (h e (inl refl)).known a l) (λ (r : IsIn (joined table es) a). joined_known s table es (λ x j. h x (inr j)) a r) (in_either (table e) (joined table es) a i)
 
 names_map : (s : Schema) (es : List ℕ) → map (λ i. entity_name s (entity_id i)) es ≡ map (λ i. get_or (all_names s) i []) es
 names_map s [] = refl
 names_map s (i ∷ is) = let first = name_at s i in let rest = names_map s is in λ j. sym first j ∷ rest j
 
-pub row_at : (s : Schema) (i : ℕ) (table : List (List AttrId)) (sups : List ℕ) (own : Own) (ids : List AttrId) → AreDistinct (attributes_of s.entities) → i < length s.entities → IsOwn s i own → AreNamed (all_names s) sups (get_or s.entities i no_entity).supertypes
-    → ((e : ℕ) → IsIn sups e → IsRowAt s e (get_or table e [])) → ids ≡ all_kept [] (joined table sups ++ ids_from own.from (own.to - own.from)) → IsRowAt s i ids
+pub row_at : (s : Schema) (i : ℕ) (table : ℕ → List AttrId) (sups : List ℕ) (own : Own) (ids : List AttrId) → AreDistinct (attributes_of s.entities) → i < length s.entities → IsOwn s i own → AreNamed (all_names s) sups (get_or s.entities i no_entity).supertypes
+    → ((e : ℕ) → IsIn sups e → IsRowAt s e (table e)) → ids ≡ all_kept [] (joined table sups ++ ids_from own.from (own.to - own.from)) → IsRowAt s i ids
 row_at s i table sups own ids distinct less is named rows e =
     let entity = get_or s.entities i no_entity in
     let n : own.to - own.from ≡ length (own_attributes entity) = omega (arith, is.count) in
@@ -316,6 +325,78 @@ row_at s i table sups own ids distinct less is named rows e =
     own_end : (s : Schema) (i : ℕ) (own : Own) → i < length s.entities → IsOwn s i own → own.from + (own.to - own.from) ≤ length (attributes_of s.entities)
     own_end s i own less is = let m = attributes_le s.entities i less in omega (arith, m, is.count, is.from)
 
+-- ---- the row of an entity with one supertype
+
+-- where nothing stands twice, each stands at its first place
+first_distinct : (exact : (a b : Origin) → same_origin a b ≡ true → a ≡ b) (xs : List Origin) → AreDistinct xs → first_places same_origin xs ≡ xs
+first_distinct exact [] h = refl
+first_distinct exact (x ∷ xs) h = ap (λ (u : List Origin). x ∷ filter (λ y. not (same_origin x y)) u) (first_distinct exact xs h.1) ∙ ap (λ (u : List Origin). x ∷ u) (nothing_dropped exact x xs h.0)
+  where
+    nothing_dropped : (exact : (a b : Origin) → same_origin a b ≡ true → a ≡ b) (x : Origin) (ys : List Origin) → ¬ (IsIn ys x) → filter (λ y. not (same_origin x y)) ys ≡ ys
+    nothing_dropped exact x [] n = refl
+    nothing_dropped exact x (y ∷ ys) n = ⊎_elim (λ (t : same_origin x y ≡ true). absurd (n (inl (sym (exact x y t))))) (λ (f : same_origin x y ≡ false). rw f (ap (λ (u : List Origin). y ∷ u) (nothing_dropped exact x ys (λ i. n (inr i))))) (cases_Bool (same_origin x y))
+
+filter_distinct : (p : Origin → Bool) (xs : List Origin) → AreDistinct xs → AreDistinct (filter p xs)
+filter_distinct p [] h = tt
+filter_distinct p (x ∷ xs) h = ⊎_elim (λ (t : p x ≡ true). rw t ((λ i. h.0 (in_without p xs x i)), filter_distinct p xs h.1)) (λ (f : p x ≡ false). rw f (filter_distinct p xs h.1)) (cases_Bool (p x))
+
+places_distinct : (xs : List Origin) → AreDistinct (first_places same_origin xs)
+places_distinct [] = tt
+places_distinct (x ∷ xs) = ((λ i. dropped x (first_places same_origin xs) i), filter_distinct (λ y. not (same_origin x y)) (first_places same_origin xs) (places_distinct xs))
+  where
+    dropped : (x : Origin) (ys : List Origin) → ¬ (IsIn (filter (λ y. not (same_origin x y)) ys) x)
+    dropped x [] i = i
+    dropped x (y ∷ ys) i = ⊎_elim
+        (λ (t : same_origin x y ≡ true). dropped x ys (rw t at i))
+        (λ (f : same_origin x y ≡ false). ⊎_elim (λ (e : y ≡ x). false≢true (sym f ∙ (origin_tells x y).1 (sym e))) (λ (j : IsIn (filter (λ y. not (same_origin x y)) ys) x). dropped x ys j) (rw f at i))
+        (cases_Bool (same_origin x y))
+
+-- what stands in a row is an entity's own or an ancestor's
+mutual
+  row_origins : (s : Schema) {n : List ℕ} {all : List Origin} → IsRow s n all → (o : Origin) → IsIn all o → (o.entity ≡ n) ⊎ IsAncestor s n o.entity
+  row_origins s {n} {all} (row {above = above} e i m rows h) o j =
+      ⊎_elim
+      (λ (l : IsIn above o). let r = rows_origins s rows o l in let step : (b : List ℕ) → IsIn e.supertypes b → IsSupertype s n b = λ b k. record { entity = e; declared = i; name_is = m; named = k } in
+      ⊎_elim (λ (x : o.entity ≡ r.0). inr (way.one (subst (λ u. IsSupertype s n u) (sym x) (step r.0 r.1.0)))) (λ (x : IsAncestor s r.0 o.entity). inr (way.more (step r.0 r.1.0) x)) r.1.1)
+      (λ (r : IsIn (own_attributes e) o). inl (own_entity e o r ∙ m))
+      (in_either above (own_attributes e) o (in_first same_origin (above ++ own_attributes e) o (subst (λ (u : List Origin). IsIn u o) h j)))
+
+  rows_origins : (s : Schema) {ns : List (List ℕ)} {all : List Origin} → AreRows s ns all → (o : Origin) → IsIn all o → (n : List ℕ) × (IsIn ns n × ((o.entity ≡ n) ⊎ IsAncestor s n o.entity))
+  rows_origins s (none h) o j = absurd (subst (λ (u : List Origin). IsIn u o) h j)
+  rows_origins s (more {n = n} {one = one} {rest = rest} x y h) o j =
+      ⊎_elim
+      (λ (l : IsIn one o). (n, (inl refl, row_origins s x o l)))
+      (λ (r : IsIn rest o). let w = rows_origins s y o r in (w.0, (inr w.1.0, w.1.1)))
+      (in_either one rest o (subst (λ (u : List Origin). IsIn u o) h j))
+
+row_distinct : (s : Schema) {n : List ℕ} {all : List Origin} → IsRow s n all → AreDistinct all
+row_distinct s (row {above = above} e i m rows h) = subst (λ (u : List Origin). AreDistinct u) (sym h) (places_distinct (above ++ own_attributes e))
+
+pub row_below : (s : Schema) → IsWellFormed s → (i sup : ℕ) (own : Own) (up ids : List AttrId) → i < length s.entities → IsOwn s i own → AreNamed (all_names s) (sup ∷ []) (get_or s.entities i no_entity).supertypes → IsRowAt s sup up
+    → ids ≡ up ++ ids_from own.from (own.to - own.from) → IsRowAt s i ids
+row_below s formed i sup own up ids less is named above e =
+    let entity = get_or s.entities i no_entity in
+    let n : own.to - own.from ≡ length (own_attributes entity) = omega (arith, is.count) in
+    let owns : map (attribute_at s) (ids_from own.from (own.to - own.from)) ≡ own_attributes entity = (λ j. map (attribute_at s) (ids_from (is.from j) (n j))) ∙ own_is s i less in
+    let aboves = map (attribute_at s) up in
+    let all : map (attribute_at s) ids ≡ aboves ++ own_attributes entity = ap (λ (u : List AttrId). map (attribute_at s) u) e ∙ map-append (attribute_at s) up (ids_from own.from (own.to - own.from)) ∙ ap (λ (u : List Origin). aboves ++ u) owns in
+    let name = entity_name s (entity_id sup) in
+    let here : IsIn s.entities entity = at_place s.entities i no_entity less in
+    let listed : IsIn entity.supertypes name = subst (λ (u : List (List ℕ)). IsIn u name) named.named (inl (name_at s sup)) in
+    let step : IsSupertype s entity.name name = record { entity = entity; declared = here; name_is = refl; named = listed } in
+    let apart : (o : Origin) → IsIn aboves o → ¬ (IsIn (own_attributes entity) o) = λ o l r.
+    let mine : o.entity ≡ entity.name = own_entity entity o r in
+    ⊎_elim (λ (x : o.entity ≡ name). formed.cycles.entities entity.name (way.one (subst (λ u. IsSupertype s entity.name u) (sym x ∙ mine) step))) (λ (x : IsAncestor s name o.entity). formed.cycles.entities entity.name (way.more step (subst (λ u. IsAncestor s name u) mine x))) (row_origins s above.is o l) in
+    let own_apart : AreDistinct (own_attributes entity) = own_distinct entity.name (new_explicit entity.attributes) (distinct_left (new_explicit entity.attributes) (new_derived entity.derived) (holds_of (λ (e : Entity). AreDistinct (new_names e)) s.entities entity formed.repeated.attributes here)) in
+    let distinct : AreDistinct (aboves ++ own_attributes entity) = distinct_join aboves (own_attributes entity) (row_distinct s above.is) own_apart apart in
+    record {
+      is = row entity here refl (subst (λ (u : List (List ℕ)). AreRows s u aboves) (names_map s (sup ∷ []) ∙ named.named) (more above.is (none refl) (sym (append-nil aboves)))) (all ∙ sym (first_distinct (λ a b. (origin_tells a b).0) (aboves ++ own_attributes entity) distinct));
+      known = λ a j. ⊎_elim
+          (λ (l : IsIn up a). above.known a l)
+          (λ (r : IsIn (ids_from own.from (own.to - own.from)) a). ids_below own.from (own.to - own.from) (length (attributes_of s.entities)) (let m = attributes_le s.entities i less in omega (arith, m, is.count, is.from)) a r)
+          (in_either up (ids_from own.from (own.to - own.from)) a (subst (λ (u : List AttrId). IsIn u a) e j));
+    }
+
 -- ---- what the code knows of them
 
 pub is_new : {X Y : Type 0} (f : X → Y) (o : Option X) (b : Bool) → is_some o ≡ not b → b ≡ true → option_map f o ≡ None
@@ -332,17 +413,6 @@ own_push s table own k long rows this i less =
     (λ (e : i ≡ k). rw (e, get_or_push table own no_own k long) this)
     (λ (ne : (i ≡ k) → ⊥). let before : i < k = omega arith in rw (get_or_append_left table (own ∷ []) no_own i (omega arith)) (rows i before))
     (cases_eq i k)
-
--- the row of one entity more
-pub row_table_more : (s : Schema) (table : List (List AttrId)) (ids : List AttrId) (order : List ℕ) (i : ℕ) → i < length order → get_or order i 0 < length table
-    → ((v : ℕ) → IsIn (take i order) v → IsRowAt s v (get_or table v [])) → IsRowAt s (get_or order i 0) ids
-    → (v : ℕ) → IsIn (take (i + 1) order) v → IsRowAt s v (get_or (set table (get_or order i 0) ids) v [])
-row_table_more s table ids order i less below rows this v h =
-    let k = get_or order i 0 in
-    ⊎_elim
-    (λ (e : v ≡ k). subst (λ u. IsRowAt s u (get_or (set table k ids) u [])) (sym e) (rw (get_or-set_same table k ids [] below) this))
-    (λ (ne : (v ≡ k) → ⊥). rw (get_or-set_other table k v ids [] ne) (rows v (⊎_elim (λ (f : IsIn (take i order) v). f) (λ (e : k ≡ v). absurd (ne (sym e))) (front_more order i 0 v less h))))
-    (cases_eq v k)
 
 entity_is : (s : Schema) → AreDistinct (map (λ (e : Entity). e.name) s.entities) → (e f : Entity) → IsIn s.entities e → IsIn s.entities f → e.name ≡ f.name → e ≡ f
 entity_is s distinct e f i j h =
@@ -384,29 +454,24 @@ slice_at [] k d h = absurd (omega arith)
 slice_at (x ∷ xs) zero d h = refl
 slice_at (x ∷ xs) (suc k) d h = slice_at xs k d (omega arith)
 
-pub row_length : (s : Schema) (table : List (List AttrId)) (e : EntityId) (ids : List AttrId) → IsRowTable s table → IsEntityOf s e → get_or table e.index [] ≡ ids → (all : List Origin) × (IsRow s (entity_name s e) all × (length all ≡ length ids))
-row_length s table e ids t l is =
-    let r : IsRowAt s e.index ids = subst (λ (u : List AttrId). IsRowAt s e.index u) is (t.rows e.index l) in
-    (map (attribute_at s) ids, (r.is, length-map ids (attribute_at s)))
+-- the row of an entity, as ids
+module _ (s : Schema) (distinct : AreDistinct (map (λ (e : Entity). e.name) s.entities)) (e : EntityId) (ids : List AttrId) (h : IsRowAt s e.index ids) where
+  pub row_length : (all : List Origin) × (IsRow s (entity_name s e) all × (length all ≡ length ids))
+  row_length = (map (attribute_at s) ids, (h.is, length-map ids (attribute_at s)))
 
-module _ (s : Schema) (distinct : AreDistinct (map (λ (e : Entity). e.name) s.entities)) (table : List (List AttrId)) (e : EntityId) (ids : List AttrId) (k : ℕ) (t : IsRowTable s table) (l : IsEntityOf s e) (is : get_or table e.index [] ≡ ids) where
-  pub row_within : (all : List Origin) × (IsRow s (entity_name s e) all × (k < length all)) → k < length ids
-  row_within r =
-      let h : IsRowAt s e.index ids = subst (λ (u : List AttrId). IsRowAt s e.index u) is (t.rows e.index l) in
+  pub row_within : (k : ℕ) → (all : List Origin) × (IsRow s (entity_name s e) all × (k < length all)) → k < length ids
+  row_within k r =
       let same : r.0 ≡ map (attribute_at s) ids = one_row s distinct r.1.0 h.is in
       subst (λ u. k < u) (ap (λ (u : List Origin). length u) same ∙ length-map ids (attribute_at s)) r.1.1
 
-  pub row_known : (d : AttrId) → k < length ids → IsAttributeOf s (get_or ids k d)
-  row_known d less =
-      let h : IsRowAt s e.index ids = subst (λ (u : List AttrId). IsRowAt s e.index u) is (t.rows e.index l) in
-      h.known (get_or ids k d) (at_place ids k d less)
+  pub row_known : (k : ℕ) (a : AttrId) → k < length ids → slice_get ids k ≡ Some a → IsAttributeOf s a
+  row_known k a less is = h.known a (subst (λ u. IsIn ids u) (get_or_from_slice_get ids k a a is) (at_place ids k a less))
 
-  pub row_item : (d : AttrId) → k < length ids → (all : List Origin) → IsRow s (entity_name s e) all → slice_get all k ≡ Some (attribute_at s (get_or ids k d))
-  row_item d less all r =
-      let h : IsRowAt s e.index ids = subst (λ (u : List AttrId). IsRowAt s e.index u) is (t.rows e.index l) in
+  pub row_item : (k : ℕ) (a : AttrId) → k < length ids → slice_get ids k ≡ Some a → (all : List Origin) → IsRow s (entity_name s e) all → slice_get all k ≡ Some (attribute_at s a)
+  row_item k a less is all r =
       let same : all ≡ map (attribute_at s) ids = one_row s distinct r h.is in
       let less' : k < length (map (attribute_at s) ids) = rw (length-map ids (attribute_at s)) less in
-      ap (λ (u : List Origin). slice_get u k) same ∙ slice_at (map (attribute_at s) ids) k no_attribute less' ∙ ap (λ (u : Origin). Some u) (get_or-map (attribute_at s) ids k d no_attribute less)
+      ap (λ (u : List Origin). slice_get u k) same ∙ slice_at (map (attribute_at s) ids) k no_attribute less' ∙ ap (λ (u : Origin). Some u) (get_or-map (attribute_at s) ids k a no_attribute less ∙ ap (attribute_at s) (get_or_from_slice_get ids k a a is))
 
 module _ (s : Schema) (table : List Own) (e : EntityId) (own : Own) (t : IsOwnTable s table) (l : IsEntityOf s e) (is : get_or table e.index no_own ≡ own) where
   own_of : IsOwn s e.index own

@@ -1,8 +1,10 @@
 -- Supertypes and ancestors by their places.
-use Rattle.std.specs.Prelude.{◌≡◌, ◌<◌, ◌↔◌, ◌⊎◌, ℕ, Bool, true, false, List, [], map, length, get_or}
+use Rattle.std.specs.Prelude.{◌≡◌, ◌<◌, ◌↔◌, ◌⊎◌, ℕ, List, [], map, length, get_or}
 use Rattle.p21_express.specs.Schema.{Schema, Entity}
 use Rattle.p21_express.specs.WellFormed.{IsIn, IsAncestor}
 use Rattle.p21_schema.specs.declared.ids.EntityId.{EntityId}
+use Rattle.p21_schema.specs.declared.reach.Reach.{Reach}
+use Rattle.p21_schema.specs.Reach.{IsReach, IsWithin}
 use Rattle.p21_schema.specs.Place.{no_entity, entity_name, IsEntityOf}
 
 abbrev pub entity_id : ℕ → EntityId
@@ -32,8 +34,9 @@ pub record IsSupertypeTable (s : Schema) (table : List (List EntityId)) : Type 0
 abbrev pub IsA : Schema → EntityId → EntityId → Type 0
 IsA s a b = (entity_name s a ≡ entity_name s b) ⊎ IsAncestor s (entity_name s a) (entity_name s b)
 
--- a row for each entity, which marks its ancestors
-pub record IsAncestorTable (s : Schema) (table : List (List Bool)) : Type 0 where
-  pub count : length table ≡ length s.entities
-  pub columns : (a : ℕ) → a < length s.entities → length (get_or table a []) ≡ length s.entities
-  pub ancestors : (a b : ℕ) → a < length s.entities → b < length s.entities → (get_or (get_or table a []) b false ≡ true) ↔ IsAncestor s (entity_name s (entity_id a)) (entity_name s (entity_id b))
+-- what the entities reach downwards: themselves, and those whose ancestors they are
+pub record IsDescentTable (s : Schema) (reach : Reach) : Type 0 where
+  pub graph : List (List ℕ)
+  pub count : length graph ≡ length s.entities
+  pub reaches : IsReach graph reach
+  pub descents : (a b : ℕ) → a < length s.entities → b < length s.entities → IsWithin graph b a ↔ IsA s (entity_id a) (entity_id b)

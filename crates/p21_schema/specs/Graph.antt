@@ -1,6 +1,6 @@
 -- Graphs by lists of neighbors.
-use Rattle.std.specs.Prelude.{◌≡◌, ◌<◌, ◌↔◌, ℕ, Bool, true, false, List, [], map, length, get_or, take, Vec}
-use Rattle.p21_express.specs.WellFormed.{IsIn}
+use Rattle.std.specs.Prelude.{◌∷◌, ◌≡◌, ◌<◌, ◌≤◌, ◌+◌, ◌-◌, ◌*◌, ◌↔◌, ℕ, suc, Bool, true, false, List, [], map, length, get_or, take, Vec}
+use Rattle.p21_express.specs.WellFormed.{IsIn, AreDistinct}
 
 -- the rows of a table of the code as lists
 abbrev pub rows_of : {A X : Type 0} → Vec (Vec X A) A → List (List X)
@@ -31,6 +31,35 @@ AreMarked row vs = (v : ℕ) → IsIn vs v → IsMarked row v
 -- each that is marked stands in the order
 abbrev pub IsPlacedIn : List Bool → List ℕ → Type 0
 IsPlacedIn row order = (v : ℕ) → IsMarked row v → IsIn order v
+
+-- a way: from each vertex of it an edge leads to the next
+abbrev pub IsWay : List (List ℕ) → List ℕ → Type 0
+IsWay graph way = (k : ℕ) → k + 1 < length way → HasEdge graph (get_or way k 0) (get_or way (k + 1) 0)
+
+-- A walk that places vertices: those of the order are marked, and no others; of each vertex so many neighbors were looked at, which
+-- are placed; those on the way wait for the next one to be placed.
+pub record IsWalk (graph : List (List ℕ)) (row : List Bool) (looked way so_far : List ℕ) : Type 0 where
+  pub order : IsOrder graph so_far
+  pub distinct : AreDistinct so_far
+  pub placed : IsPlacedIn row so_far
+  pub marked : (v : ℕ) → IsIn so_far v → IsMarked row v
+  pub marks : length row ≡ length graph
+  pub counts : length looked ≡ length graph
+  pub seen : (v k : ℕ) → k < get_or looked v 0 → IsMarked row (get_or (get_or graph v []) k 0)
+  pub within : (v : ℕ) → get_or looked v 0 ≤ length (get_or graph v [])
+  pub below : (v : ℕ) → IsIn way v → v < length graph
+  pub waits : (v : ℕ) → IsIn way v → get_or row v false ≡ false
+  pub edges : IsWay graph way
+
+-- how many are not marked
+abbrev pub waiting : List Bool → ℕ
+waiting [] = 0
+waiting (true ∷ row) = waiting row
+waiting (false ∷ row) = suc (waiting row)
+
+-- how many steps a walk has still to take at most
+abbrev pub steps_left : List (List ℕ) → List Bool → List ℕ → ℕ
+steps_left graph placed way = waiting placed * (length graph + 2) + (length graph + 1 - length way)
 
 -- From a vertex its direct ones are reached, and what its neighbors reach.
 pub data Reaches (direct graph : List (List ℕ)) : ℕ → ℕ → Type 0 where

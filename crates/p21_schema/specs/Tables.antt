@@ -8,7 +8,7 @@ use Rattle.p21_schema.specs.Graph.{rows_of}
 use Rattle.p21_schema.specs.Rules.{with_rules}
 use Rattle.p21_schema.specs.RowTable.{IsOwnTable, IsRowTable}
 use Rattle.p21_schema.specs.Under.{AreEnds, AreResolved}
-use Rattle.p21_schema.specs.Ancestry.{IsSupertypeTable, IsAncestorTable}
+use Rattle.p21_schema.specs.Ancestry.{IsSupertypeTable, IsDescentTable}
 use Rattle.p21_schema.specs.Declaration.{written}
 use Rattle.p21_schema.specs.DeclarationTable.{IsDeclarationTable}
 use Rattle.p21_schema.specs.SelectTable.{AreSelectTables, IsAdmitTable}
@@ -22,9 +22,9 @@ pub record AreTables (a : Inside) : Type 0 where
   pub names : a.entity_names ≡ map (λ e. e.name) (schema_of a).entities
   pub types : a.type_names ≡ map (λ t. t.name) (schema_of a).types
   pub supertypes : IsSupertypeTable (schema_of a) (rows_of a.supertypes)
-  pub ancestors : IsAncestorTable (schema_of a) (rows_of a.ancestors)
+  pub descents : IsDescentTable (schema_of a) a.descents
   pub own : IsOwnTable (schema_of a) a.own.items
-  pub rows : IsRowTable (schema_of a) (rows_of a.rows)
+  pub rows : IsRowTable (schema_of a) a.rows
   pub attributes : IsDeclarationTable (schema_of a) (written (schema_of a).entities) (rows_of a.attributes)
   pub ends : AreEnds (schema_of a) a.ends.items
   pub resolved : AreResolved (map (λ e. e.name) (schema_of a).entities) (map (λ t. t.name) (schema_of a).types) a.unders.items (schema_of a).types

@@ -1,15 +1,16 @@
-//! The supertypes of each entity, by their places, and all ancestors.
+//! The supertypes of each entity, by their places, and all descendants.
 
 ghost use Rattle.std.specs.Prelude.{◌≡◌, ◌<◌, ℕ, List, [], length, get_or, map, IfOk};
-ghost use Rattle.p21_express.specs.Schema.{Entity};
+ghost use Rattle.p21_express.specs.Schema.{Schema, Entity};
 ghost use Rattle.p21_express.specs.Plain.{plain_entity};
-ghost use Rattle.p21_express.specs.WellFormed.{IsIn};
-ghost use Rattle.p21_schema.specs.Graph.{rows_of, plain_graph};
-ghost use Rattle.p21_schema.specs.Ancestry.{AreNamed, AreSupertypesNamed, entity_id};
+ghost use Rattle.p21_express.specs.WellFormed.{IsIn, IsWellFormed, HasNoCycle};
+ghost use Rattle.p21_schema.specs.Graph.{rows_of, plain_graph, HasEdge, AreEdgesBelow};
+ghost use Rattle.p21_schema.specs.Ancestry.{AreNamed, AreSupertypesNamed, IsDescentTable, entity_id};
 
 use crate::graph::Graph;
 use crate::ids::EntityId;
 use crate::names::Names;
+use crate::reach::{Reach, turned};
 use p21_express::EntityDecl;
 use std::alloc::{AllocError, Global};
 
@@ -64,4 +65,14 @@ pub(crate) fn supertype_ids(alloc: Global, graph: &Graph) -> Result<Vec<Vec<Enti
         table.push(ids(alloc, places)?)?;
     }
     Ok(table)
+}
+
+/// For each entity which entities descend from it.
+pub(crate) fn descents(alloc: Global, supertypes: &Graph) -> Result<Reach, AllocError>
+    requires edges { AreEdgesBelow (plain_graph supertypes.now) (length (plain_graph supertypes.now)) }
+    requires cycles { HasNoCycle (HasEdge (plain_graph supertypes.now)) }
+    ensures { IfOk result (λ reach. (s : Schema) → IsWellFormed s → AreSupertypesNamed (map (λ e. e.name) s.entities) (plain_graph supertypes.now) s.entities → IsDescentTable s reach) }
+{
+    let subtypes = turned(alloc, supertypes)?;
+    Reach::new(alloc, &subtypes)
 }

@@ -12,6 +12,7 @@ ghost use Rattle.p21_schema.specs.Row.{attributes_of};
 
 use crate::ids::EntityId;
 use crate::names::Names;
+use crate::reach::Reach;
 use crate::resolved::{ResolvedExpr, resolve};
 use crate::rows::Own;
 use crate::rules::Rules;
@@ -46,7 +47,7 @@ pub(crate) struct Known<'a> {
     pub(crate) rules: Rules,
     pub(crate) entities: &'a Names,
     pub(crate) types: &'a Names,
-    pub(crate) ancestors: &'a Vec<Vec<bool>>,
+    pub(crate) descents: &'a Reach,
     pub(crate) own: &'a [Own],
 }
 
@@ -84,7 +85,7 @@ fn is_over(known: &Known, entity: usize, other: usize) -> bool
     requires other { other < length (known_schema known.now).entities }
     ensures { IsTrue result ↔ IsA (known_schema known.now) (entity_id entity) (entity_id other) }
 {
-    entity == other || known.ancestors[entity][other]
+    known.descents.has(other, entity)
 }
 
 /// The attribute of this name that an entity or an ancestor of it newly declares as an explicit one.

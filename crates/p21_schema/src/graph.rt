@@ -2,8 +2,8 @@
 //! and the marks of a table transposed into edges.
 
 ghost use Rattle.std.specs.Prelude.{◌≡◌, ◌<◌, ◌≤◌, ◌↔◌, ◌⊎◌, true, false, ℕ, [], length, get_or, replicate, OnOk, IfOk, IsTrue, slice_index};
-ghost use Rattle.p21_express.specs.WellFormed.{IsIn, HasNoCycle};
-ghost use Rattle.p21_schema.specs.Graph.{plain_graph, HasEdge, AreEdgesBelow, IsOrder, IsPlacedIn, IsMarked, AreMarked, rows_of, IsReachTable, AreMarking, IsTransposed};
+ghost use Rattle.p21_express.specs.WellFormed.{IsIn, AreDistinct, HasNoCycle};
+ghost use Rattle.p21_schema.specs.Graph.{plain_graph, HasEdge, AreEdgesBelow, IsOrder, IsMarked, IsWalk, steps_left, rows_of, IsReachTable, AreMarking, IsTransposed};
 
 use std::alloc::{AllocError, Global};
 
@@ -21,36 +21,112 @@ fn unmarked(alloc: Global, count: usize) -> Result<Vec<bool>, AllocError>
     Ok(row)
 }
 
-fn are_marked(vertices: &[usize], row: &[bool]) -> bool
-    requires { (v : ℕ) → IsIn vertices.now v → v < length row.now }
-    ensures { IsTrue result ↔ AreMarked row.now vertices.now }
+/// As many zeros.
+pub(crate) fn zeros(alloc: Global, count: usize) -> Result<Vec<usize>, AllocError>
+    ensures { IfOk result (λ row. row.items ≡ replicate count 0) }
 {
-    for vertex in vertices {
-        if !row[*vertex] {
-            return false;
-        }
+    let mut row = Vec::with_capacity(alloc, count)?;
+    for _ in 0..count {
+        row.push(0)?;
     }
-    true
+    Ok(row)
 }
 
-/// Places each vertex whose neighbors are placed.
-fn round(graph: &Graph, placed: &mut [bool], order: &mut Vec<usize>) -> Result<(), AllocError>
-    requires edges { AreEdgesBelow (plain_graph graph.now) (length (plain_graph graph.now)) }
-    requires count { length placed.old ≡ length (plain_graph graph.now) }
-    requires order { IsOrder (plain_graph graph.now) order.old.items }
-    requires placed { IsPlacedIn placed.old order.old.items }
-    ensures order { OnOk result (IsOrder (plain_graph graph.now) order.new.items) }
-    ensures placed { OnOk result (IsPlacedIn placed.new order.new.items) }
-    ensures grows { OnOk result ((v : ℕ) → IsMarked placed.old v → IsMarked placed.new v) }
-    ensures ready { OnOk result ((v : ℕ) → v < length placed.old → AreMarked placed.old (get_or (plain_graph graph.now) v []) → IsMarked placed.new v) }
+/// The first place, from one on, of a vertex that is not placed, or the number of vertices.
+fn first_waiting(vertices: &[usize], placed: &[bool], from: usize) -> usize
+    requires vertices { (v : ℕ) → IsIn vertices.now v → v < length placed.now }
+    requires from { from ≤ length vertices.now }
+    ensures within { result ≤ length vertices.now }
+    ensures before { (k : ℕ) → from ≤ k → k < result → IsMarked placed.now (get_or vertices.now k 0) }
+    ensures waits { result < length vertices.now → get_or placed.now (get_or vertices.now result 0) false ≡ false }
 {
-    for vertex in 0..graph.len() {
-        if !placed[vertex] && are_marked(&graph[vertex], placed) {
-            placed[vertex] = true;
-            order.push(vertex)?;
+    for place in from..vertices.len() {
+        if !placed[vertices[place]] {
+            return place;
         }
     }
+    vertices.len()
+}
+
+/// Goes on from the vertex at which the way ends: to a neighbor that is not placed, or, where there is none, places it. Of each
+/// vertex so many neighbors were looked at.
+fn step(
+    graph: &Graph,
+    placed: &mut [bool],
+    looked: &mut [usize],
+    way: &mut Vec<usize>,
+    order: &mut Vec<usize>,
+) -> Result<(), AllocError>
+    requires edges { AreEdgesBelow (plain_graph graph.now) (length (plain_graph graph.now)) }
+    requires cycles { HasNoCycle (HasEdge (plain_graph graph.now)) }
+    requires walk { IsWalk (plain_graph graph.now) placed.old looked.old way.old.items order.old.items }
+    requires way { 0 < length way.old.items }
+    ensures walk { OnOk result (IsWalk (plain_graph graph.now) placed.new looked.new way.new.items order.new.items) }
+    ensures fewer { OnOk result (steps_left (plain_graph graph.now) placed.new way.new.items < steps_left (plain_graph graph.now) placed.old way.old.items) }
+    ensures grows { OnOk result ((v : ℕ) → IsMarked placed.old v → IsMarked placed.new v) }
+    ensures keeps { OnOk result ((v : ℕ) → IsIn way.old.items v → IsMarked placed.new v ⊎ IsIn way.new.items v) }
+{
+    let vertex = way[way.len() - 1];
+    let neighbors = &graph[vertex];
+    let next = first_waiting(neighbors, placed, looked[vertex]);
+    looked[vertex] = next;
+    if next < neighbors.len() {
+        way.push(neighbors[next])?;
+    } else {
+        way.pop();
+        placed[vertex] = true;
+        order.push(vertex)?;
+    }
     Ok(())
+}
+
+/// Places a vertex, and before it what it reaches.
+fn place(
+    alloc: Global,
+    graph: &Graph,
+    start: usize,
+    placed: &mut [bool],
+    looked: &mut [usize],
+    order: &mut Vec<usize>,
+) -> Result<(), AllocError>
+    requires edges { AreEdgesBelow (plain_graph graph.now) (length (plain_graph graph.now)) }
+    requires cycles { HasNoCycle (HasEdge (plain_graph graph.now)) }
+    requires start { start < length (plain_graph graph.now) }
+    requires walk { IsWalk (plain_graph graph.now) placed.old looked.old [] order.old.items }
+    ensures walk { OnOk result (IsWalk (plain_graph graph.now) placed.new looked.new [] order.new.items) }
+    ensures placed { OnOk result (IsMarked placed.new start) }
+    ensures grows { OnOk result ((v : ℕ) → IsMarked placed.old v → IsMarked placed.new v) }
+{
+    let mut way = Vec::new(alloc);
+    if !placed[start] {
+        way.push(start)?;
+    }
+    while !way.is_empty() {
+        step(graph, placed, looked, &mut way, order)?;
+    }
+    Ok(())
+}
+
+/// All vertices, each behind its neighbors, and before what stands behind it among these starts where nothing else keeps it.
+pub(crate) fn order_from(
+    alloc: Global,
+    graph: &Graph,
+    starts: &[usize],
+) -> Result<Vec<usize>, AllocError>
+    requires edges { AreEdgesBelow (plain_graph graph.now) (length (plain_graph graph.now)) }
+    requires cycles { HasNoCycle (HasEdge (plain_graph graph.now)) }
+    requires starts { (v : ℕ) → IsIn starts.now v → v < length (plain_graph graph.now) }
+    ensures order { IfOk result (λ order. IsOrder (plain_graph graph.now) order.items) }
+    ensures distinct { IfOk result (λ order. AreDistinct order.items) }
+    ensures all { IfOk result (λ order. (v : ℕ) → IsIn starts.now v → IsIn order.items v) }
+{
+    let mut placed = unmarked(alloc, graph.len())?;
+    let mut looked = zeros(alloc, graph.len())?;
+    let mut order = Vec::with_capacity(alloc, graph.len())?;
+    for start in starts {
+        place(alloc, graph, *start, &mut placed, &mut looked, &mut order)?;
+    }
+    Ok(order)
 }
 
 /// All vertices, each behind its neighbors.
@@ -58,14 +134,14 @@ pub(crate) fn order(alloc: Global, graph: &Graph) -> Result<Vec<usize>, AllocErr
     requires edges { AreEdgesBelow (plain_graph graph.now) (length (plain_graph graph.now)) }
     requires cycles { HasNoCycle (HasEdge (plain_graph graph.now)) }
     ensures order { IfOk result (λ order. IsOrder (plain_graph graph.now) order.items) }
+    ensures distinct { IfOk result (λ order. AreDistinct order.items) }
     ensures all { IfOk result (λ order. (v : ℕ) → v < length (plain_graph graph.now) → IsIn order.items v) }
 {
-    let mut placed = unmarked(alloc, graph.len())?;
-    let mut order = Vec::with_capacity(alloc, graph.len())?;
-    while placed.contains(&false) {
-        round(graph, &mut placed, &mut order)?;
+    let mut starts = Vec::with_capacity(alloc, graph.len())?;
+    for vertex in 0..graph.len() {
+        starts.push(vertex)?;
     }
-    Ok(order)
+    order_from(alloc, graph, &starts)
 }
 
 /// Marks these vertices too.

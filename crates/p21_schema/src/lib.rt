@@ -6,6 +6,8 @@ mod declarations;
 mod graph;
 mod ids;
 mod names;
+mod ranges;
+mod reach;
 mod resolved;
 mod rows;
 mod rules;

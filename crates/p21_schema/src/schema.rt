@@ -2,13 +2,14 @@
 
 ghost use Rattle.std.specs.Prelude.{◌≡◌, ◌<◌, ◌↔◌, List, Some, length, slice_get, IfOk, IsTrue, MatchOption};
 
-use crate::ancestry::{supertype_ids, supertypes};
+use crate::ancestry::{descents, supertype_ids, supertypes};
 use crate::declarations::{Declaration, Known, all_declarations};
-use crate::graph::{order, reached};
+use crate::graph::order;
 use crate::ids::{AttrId, EntityId, TypeId};
 use crate::names::{Names, entity_names, type_names};
+use crate::reach::Reach;
 use crate::resolved::Resolved;
-use crate::rows::{Own, own_attributes, rows};
+use crate::rows::{Own, Rows, own_attributes};
 use crate::rules::Rules;
 use crate::selects::{Selects, admitting, select_tables};
 use crate::under::{resolved, type_ends};
@@ -23,10 +24,10 @@ pub struct Schema {
     entity_names: Names,
     type_names: Names,
     supertypes: Vec<Vec<EntityId>>,
-    /// For each entity which entities are its ancestors.
-    ancestors: Vec<Vec<bool>>,
+    /// For each entity which entities descend from it.
+    descents: Reach,
     own: Vec<Own>,
-    rows: Vec<Vec<AttrId>>,
+    rows: Rows,
     /// For each attribute its declarations.
     attributes: Vec<Vec<Declaration>>,
     /// The place of the type at which the way from each type ends, by the names that alone stand under types.
@@ -62,7 +63,7 @@ impl Drop for Schema {
             entity_names: _,
             type_names: _,
             supertypes: _,
-            ancestors: _,
+            descents: _,
             own: _,
             rows: _,
             attributes: _,
@@ -101,9 +102,9 @@ impl Schema {
         let entity_names = entity_names(alloc, &declarations.entities)?;
         let graph = supertypes(alloc, &entity_names, &declarations.entities)?;
         let order = order(alloc, &graph)?;
-        let ancestors = reached(alloc, &graph, &graph, &order, graph.len())?;
+        let descents = descents(alloc, &graph)?;
         let (own, lists) = own_attributes(alloc, &declarations)?;
-        let rows = rows(alloc, &graph, &own, &order)?;
+        let rows = Rows::new(alloc, &graph, &own, &order)?;
         let supertypes = supertype_ids(alloc, &graph)?;
         let type_names = type_names(alloc, &declarations.types)?;
         let ends = type_ends(alloc, &type_names, &declarations.types)?;
@@ -113,7 +114,7 @@ impl Schema {
             rules,
             entities: &entity_names,
             types: &type_names,
-            ancestors: &ancestors,
+            descents: &descents,
             own: &own,
         };
         let attributes = all_declarations(alloc, &known, lists)?;
@@ -125,7 +126,7 @@ impl Schema {
             entity_names,
             type_names,
             supertypes,
-            ancestors,
+            descents,
             own,
             rows,
             attributes,
@@ -204,7 +205,7 @@ impl Schema {
         requires other { IsEntityOf self.now other }
         ensures { IsTrue result ↔ IsA self.now entity other }
     {
-        entity == other || self.ancestors[entity.index][other.index]
+        self.descents.has(other.index, entity.index)
     }
 
     /// The number of attributes in the entity's row.
@@ -212,7 +213,7 @@ impl Schema {
         requires { IsEntityOf self.now entity }
         ensures { (row : List Origin) × (IsRow self.now (entity_name self.now entity) row × (length row ≡ result)) }
     {
-        self.rows[entity.index].len()
+        self.rows.count(entity.index)
     }
 
     /// An attribute of the entity's row: those of its supertypes' rows in order, then its own, each at its first place.
@@ -222,7 +223,7 @@ impl Schema {
         ensures known { IsAttributeOf self.now result }
         ensures row { (row : List Origin) → IsRow self.now (entity_name self.now entity) row → slice_get row position ≡ Some (attribute_at self.now result) }
     {
-        self.rows[entity.index][position]
+        self.rows.attribute(entity.index, position)
     }
 
     /// The number of explicit attributes that the entity newly declares.

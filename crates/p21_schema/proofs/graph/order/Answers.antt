@@ -1,17 +1,22 @@
-use Rattle.std.proofs.Common.{◌≡◌, ◌<◌, false, length, get_or, sym, ◌∙◌, ap}
-use Rattle.std.proofs.lemmas.List.{with_items_is}
+use Rattle.std.proofs.Common.{◌≡◌, ℕ, ◌<◌, ◌≤◌, ◌+◌, [], ◌∷◌, length, sym, ⊎_elim, inl, arith, subst}
+use Rattle.std.proofs.lemmas.Bool.{cases_eq}
+use Rattle.std.proofs.lemmas.Result.{IfOk-weaker}
+use Rattle.p21_express.specs.WellFormed.{IsIn}
 use Rattle.p21_schema.specs.Graph.{plain_graph}
-use Rattle.p21_schema.proofs.GraphLemmas.{round_smaller, is_waiting, waiting}
+use Rattle.p21_schema.proofs.Members.{in_left, in_right, in_either}
+use Rattle.p21_schema.proofs.GraphLemmas.{row_count}
 use Rattle.p21_schema.proofs.graph.order.Goals as goal
 
-pub loop-placed-smaller : goal.loop-placed-smaller
-loop-placed-smaller c =
-    let b = c.loop-placed-test.ensures.cases in
-    let old = c.loop-placed.placed.items in
-    let new = c.round.new.placed in
-    let e = c.deref.ensures.value in
-    let less : b.0 < length old = rw (← e) b.1 in
-    let waits : get_or old b.0 false ≡ false = is_waiting (get_or old b.0 false) (rw (← e) (b.2 false)) in
-    let long : length new ≡ length old = c.round.auto.placed ∙ ap length c.deref_mut.ensures.value in
-    let smaller : waiting new < waiting old = round_smaller (plain_graph c.args.graph.now) old new b.0 c.requires.edges c.requires.cycles c.loop-placed.invariant.count long less waits (λ v m. c.in_ok-round.ensures.grows v (rw c.deref_mut.ensures.value m)) (λ v below ready. c.in_ok-round.ensures.ready v (rw c.deref_mut.ensures.value below) (rw c.deref_mut.ensures.value ready)) in
-    rw (with_items_is c.loop-placed.placed new (long ∙ sym c.loop-placed.placed.ok.0)) smaller
+pub loop-vertex-preserved : goal.loop-vertex-preserved
+loop-vertex-preserved c =
+    let k = c.loop-vertex.vertex in
+    let xs = c.loop-vertex.starts.items in
+    λ v. rw c.in_ok-push.ensures.items (
+      λ i. ⊎_elim (λ (l : IsIn xs v). let b : v < k = (c.loop-vertex.invariant v).0 l in omega arith) (λ (r : IsIn (k ∷ []) v). ⊎_elim (λ (e : k ≡ v). omega arith) (λ (n : ⊥). absurd n) r) (in_either xs (k ∷ []) v i),
+      λ less. ⊎_elim (λ (e : k ≡ v). in_right xs (k ∷ []) v (inl e)) (λ (ne : (k ≡ v) → ⊥). in_left xs (k ∷ []) v ((c.loop-vertex.invariant v).1 (omega arith))) (cases_eq k v),
+    )
+
+pub returns-clause-all : goal.returns-clause-all
+returns-clause-all c = IfOk-weaker c.order_from.result (λ order. (v : ℕ) → IsIn c.deref.result.now v → IsIn order.items v) (λ order. (v : ℕ) → v < length (plain_graph c.args.graph.now) → IsIn order.items v) (λ order h v less.
+    let end : length (plain_graph c.args.graph.now) ≤ c.loop-vertex.vertex = rw (row_count c.args.graph.now, ← c.len-vertex-end.ensures) c.loop-vertex-test.false in
+    h v (rw c.deref.ensures.value ((c.loop-vertex.invariant v).1 (omega (arith, end, less))))) c.order_from.ensures.all

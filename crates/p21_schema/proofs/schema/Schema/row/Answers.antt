@@ -1,53 +1,43 @@
-use Rattle.std.proofs.Common.{◌≡◌, ◌<◌, List, [], length, get_or, sym, subst, ◌∙◌}
+use Rattle.std.proofs.Common.{◌<◌, List, length, sym, subst}
 use Rattle.p21_express.specs.Schema.{Schema}
-use Rattle.p21_schema.specs.Tables.{schema_of}
 use Rattle.p21_express.specs.WellFormed.{Origin}
-use Rattle.p21_schema.specs.Graph.{rows_of}
-use Rattle.p21_schema.specs.Place.{IsEntityOf, entity_name}
+use Rattle.p21_schema.specs.Tables.{schema_of}
+use Rattle.p21_schema.specs.Place.{entity_name, IsEntityOf}
 use Rattle.p21_schema.specs.Row.{IsRow}
-use Rattle.p21_schema.proofs.GraphLemmas.{row_is, row_count}
+use Rattle.p21_schema.specs.RowTable.{row_in}
 use Rattle.p21_schema.proofs.AncestryLemmas.{distinct_entities}
 use Rattle.p21_schema.proofs.RowLemmas.{row_within, row_known, row_item}
 use Rattle.p21_schema.proofs.schema.Schema.row.Goals as goal
 
-pub index-requires-2 : goal.index-requires-2
-index-requires-2 c =
+pub attribute-requires : goal.attribute-requires
+attribute-requires c =
     let s = schema_of c.self.inside in
     let e = c.args.entity in
+    let t = c.self.invariant.rows in
     let le : IsEntityOf s e = subst (λ (u : Schema). IsEntityOf u e) (sym c.self.view_is) c.requires.entity in
-    let t = c.self.inside.rows in
-    let less : e.index < length t.items = subst (λ u. e.index < u) (sym c.self.invariant.rows.count ∙ row_count t ∙ t.ok.0) le in
-    let ids = c.index.result.now.items in
-    let is : get_or (rows_of t) e.index [] ≡ ids = row_is t e.index c.index.result.now less c.index.ensures in
-    let distinct = distinct_entities s c.self.invariant.well_formed.repeated in
     let at : (all : List Origin) × (IsRow s (entity_name s e) all × (c.args.position < length all)) = rw c.self.view_is c.requires.position in
-    let inside : c.args.position < length ids = row_within s distinct (rows_of t) e ids c.args.position c.self.invariant.rows le is at in
-    subst (λ u. c.args.position < u) (sym c.index.result.now.ok.0) inside
+    (s, (t, (le, row_within s (distinct_entities s c.self.invariant.well_formed.repeated) e (row_in t.all c.self.inside.rows.places.items e.index) (t.rows e.index le) c.args.position at)))
 
 pub returns-clause-known : goal.returns-clause-known
 returns-clause-known c =
     let s = schema_of c.self.inside in
     let e = c.args.entity in
+    let t = c.self.invariant.rows in
     let le : IsEntityOf s e = subst (λ (u : Schema). IsEntityOf u e) (sym c.self.view_is) c.requires.entity in
-    let t = c.self.inside.rows in
-    let less : e.index < length t.items = subst (λ u. e.index < u) (sym c.self.invariant.rows.count ∙ row_count t ∙ t.ok.0) le in
-    let ids = c.index.result.now.items in
-    let is : get_or (rows_of t) e.index [] ≡ ids = row_is t e.index c.index.result.now less c.index.ensures in
-    let distinct = distinct_entities s c.self.invariant.well_formed.repeated in
     let at : (all : List Origin) × (IsRow s (entity_name s e) all × (c.args.position < length all)) = rw c.self.view_is c.requires.position in
-    let inside : c.args.position < length ids = row_within s distinct (rows_of t) e ids c.args.position c.self.invariant.rows le is at in
-    rw (← c.self.view_is, c.index-2.ensures) (row_known s distinct (rows_of t) e ids c.args.position c.self.invariant.rows le is c.index-2.result.now inside)
+    let distinct = distinct_entities s c.self.invariant.well_formed.repeated in
+    let ids = row_in t.all c.self.inside.rows.places.items e.index in
+    let inside = row_within s distinct e ids (t.rows e.index le) c.args.position at in
+    rw (← c.self.view_is) (row_known s distinct e ids (t.rows e.index le) c.args.position c.attribute.result inside (c.attribute.ensures s t le inside))
 
 pub returns-clause-row : goal.returns-clause-row
 returns-clause-row c =
     let s = schema_of c.self.inside in
     let e = c.args.entity in
+    let t = c.self.invariant.rows in
     let le : IsEntityOf s e = subst (λ (u : Schema). IsEntityOf u e) (sym c.self.view_is) c.requires.entity in
-    let t = c.self.inside.rows in
-    let less : e.index < length t.items = subst (λ u. e.index < u) (sym c.self.invariant.rows.count ∙ row_count t ∙ t.ok.0) le in
-    let ids = c.index.result.now.items in
-    let is : get_or (rows_of t) e.index [] ≡ ids = row_is t e.index c.index.result.now less c.index.ensures in
-    let distinct = distinct_entities s c.self.invariant.well_formed.repeated in
     let at : (all : List Origin) × (IsRow s (entity_name s e) all × (c.args.position < length all)) = rw c.self.view_is c.requires.position in
-    let inside : c.args.position < length ids = row_within s distinct (rows_of t) e ids c.args.position c.self.invariant.rows le is at in
-    rw (← c.self.view_is, c.index-2.ensures) (row_item s distinct (rows_of t) e ids c.args.position c.self.invariant.rows le is c.index-2.result.now inside)
+    let distinct = distinct_entities s c.self.invariant.well_formed.repeated in
+    let ids = row_in t.all c.self.inside.rows.places.items e.index in
+    let inside = row_within s distinct e ids (t.rows e.index le) c.args.position at in
+    rw (← c.self.view_is) (row_item s distinct e ids (t.rows e.index le) c.args.position c.attribute.result inside (c.attribute.ensures s t le inside))

@@ -1,0 +1,86 @@
+-- Sets of places as ranges.
+use Rattle.std.proofs.Common.{◌≡◌, ℕ, zero, suc, ◌+◌, ◌-◌, ◌<◌, ◌≤◌, ◌↔◌, List, [], ◌∷◌, ◌++◌, ◌⊎◌, length, get_or, take, refl, sym, ap, ◌∙◌, subst, inl, inr, ⊎_elim, arith}
+use Rattle.std.specs.List.{Contains}
+use Rattle.std.specs.List.Sorted.{IsPermutation}
+use Rattle.std.proofs.lemmas.List.Sorted.{Contains-permutation, IsPermutation-sym}
+use Rattle.std.proofs.lemmas.List.{take_more}
+use Rattle.p21_express.specs.WellFormed.{IsIn}
+use Rattle.p21_schema.specs.declared.ranges.Range.{Range}
+use Rattle.p21_schema.specs.Ranges.{IsInRange, Covers, SomeCovers}
+use Rattle.p21_schema.proofs.Members.{place_of, at_place, in_left, in_right, in_either, front_more, front_in, last_in}
+
+-- a permutation has the same members
+pub in_permuted : {X : Type 0} (xs ys : List X) → IsPermutation xs ys → (x : X) → IsIn xs x → IsIn ys x
+in_permuted xs ys h x i =
+    let p = place_of xs x i in
+    let q = Contains-permutation xs ys x h (p.0, p.1.0, p.1.1 x) in
+    subst (λ u. IsIn ys u) q.2 (at_place ys q.0 x q.1)
+
+pub covers_permuted : (xs ys : List Range) → IsPermutation xs ys → (k : ℕ) → Covers xs k ↔ Covers ys k
+covers_permuted xs ys h k = (λ c. (c.0, (in_permuted xs ys h c.0 c.1.0, c.1.1)), λ c. (c.0, (in_permuted ys xs (IsPermutation-sym xs ys h) c.0 c.1.0, c.1.1)))
+
+pub covers_append : (xs ys : List Range) (k : ℕ) → Covers (xs ++ ys) k ↔ (Covers xs k ⊎ Covers ys k)
+covers_append xs ys k = (
+  λ c. ⊎_elim (λ (l : IsIn xs c.0). inl (c.0, (l, c.1.1))) (λ (r : IsIn ys c.0). inr (c.0, (r, c.1.1))) (in_either xs ys c.0 c.1.0),
+  λ s. ⊎_elim (λ (l : Covers xs k). (l.0, (in_left xs ys l.0 l.1.0, l.1.1))) (λ (r : Covers ys k). (r.0, (in_right xs ys r.0 r.1.0, r.1.1))) s,
+)
+
+pub covers_one : (r : Range) (k : ℕ) → Covers (r ∷ []) k ↔ IsInRange r k
+covers_one r k = (λ c. ⊎_elim (λ (e : r ≡ c.0). subst (λ u. IsInRange u k) (sym e) c.1.1) (λ (n : ⊥). absurd n) c.1.0, λ h. (r, (inl refl, h)))
+
+pub covers_push : (xs : List Range) (r : Range) (k : ℕ) → Covers (xs ++ r ∷ []) k ↔ (Covers xs k ⊎ IsInRange r k)
+covers_push xs r k =
+    let a = covers_append xs (r ∷ []) k in
+    let o = covers_one r k in (
+      λ c. ⊎_elim (λ (l : Covers xs k). inl l) (λ (m : Covers (r ∷ []) k). inr (o.0 m)) (a.0 c),
+      λ s. ⊎_elim (λ (l : Covers xs k). a.1 (inl l)) (λ (m : IsInRange r k). a.1 (inr (o.1 m))) s,
+    )
+
+-- the rows of the vertices up to one more
+pub some_covers_more : (D : Type 0) (table : List (List Range)) (all new row : List Range) (vs : List ℕ) (i k : ℕ) → i < length vs → get_or table (get_or vs i 0) [] ≡ row → new ≡ all ++ row → (Covers all k ↔ (D ⊎ SomeCovers table (take i vs) k)) → Covers new k ↔ (D ⊎ SomeCovers table (take (i + 1) vs) k)
+some_covers_more D table all new row vs i k less is e h =
+    let v = get_or vs i 0 in
+    let a = covers_append all row k in (
+      λ c. ⊎_elim
+          (λ (l : Covers all k). ⊎_elim (λ (d : D). inl d) (λ (s : SomeCovers table (take i vs) k). inr (s.0, (front_in vs i 0 s.0 less s.1.0, s.1.1))) (h.0 l))
+          (λ (r : Covers row k). inr (v, (last_in vs i 0 less, subst (λ u. Covers u k) (sym is) r)))
+          (a.0 (subst (λ u. Covers u k) e c)),
+      λ s. subst (λ u. Covers u k) (sym e) (⊎_elim
+          (λ (d : D). a.1 (inl (h.1 (inl d))))
+          (λ (s : SomeCovers table (take (i + 1) vs) k). ⊎_elim
+          (λ (f : IsIn (take i vs) s.0). a.1 (inl (h.1 (inr (s.0, (f, s.1.1))))))
+          (λ (l : v ≡ s.0). a.1 (inr (subst (λ u. Covers u k) is (subst (λ u. Covers (get_or table u []) k) (sym l) s.1.1))))
+          (front_more vs i 0 s.0 less s.1.0))
+          s),
+    )
+
+pub covers_united : (rest old new : List Range) (last range both : Range) → old ≡ rest ++ last ∷ [] → new ≡ rest ++ both ∷ [] → ((k : ℕ) → IsInRange both k ↔ (IsInRange last k ⊎ IsInRange range k)) → (k : ℕ) → Covers new k ↔ (Covers old k ⊎ IsInRange range k)
+covers_united rest old new last range both o n h k =
+    let a = covers_push rest last k in
+    let b = covers_push rest both k in (
+      λ c. ⊎_elim
+          (λ (l : Covers rest k). inl (subst (λ u. Covers u k) (sym o) (a.1 (inl l))))
+          (λ (r : IsInRange both k). ⊎_elim (λ (x : IsInRange last k). inl (subst (λ u. Covers u k) (sym o) (a.1 (inr x)))) (λ (y : IsInRange range k). inr y) ((h k).0 r))
+          (b.0 (subst (λ u. Covers u k) n c)),
+      λ s. subst (λ u. Covers u k) (sym n) (⊎_elim
+          (λ (c : Covers old k). ⊎_elim (λ (l : Covers rest k). b.1 (inl l)) (λ (x : IsInRange last k). b.1 (inr ((h k).1 (inl x)))) (a.0 (subst (λ u. Covers u k) o c)))
+          (λ (y : IsInRange range k). b.1 (inr ((h k).1 (inr y))))
+          s),
+    )
+
+pub covers_behind : (rest old between new : List Range) (last range : Range) → old ≡ rest ++ last ∷ [] → between ≡ rest ++ last ∷ [] → new ≡ between ++ range ∷ [] → (k : ℕ) → Covers new k ↔ (Covers old k ⊎ IsInRange range k)
+covers_behind rest old between new last range o b n k =
+    let e : new ≡ old ++ range ∷ [] = n ∙ ap (λ u. u ++ range ∷ []) (b ∙ sym o) in
+    rw e (covers_push old range k)
+
+pub covers_take : (rs : List Range) (i k : ℕ) (d : Range) → i < length rs → Covers (take (i + 1) rs) k ↔ (Covers (take i rs) k ⊎ IsInRange (get_or rs i d) k)
+covers_take rs i k d less = rw (take_more rs i d less) (covers_push (take i rs) (get_or rs i d) k)
+
+pub ↔_back : {A B : Type 0} → A ↔ B → B ↔ A
+↔_back f = (f.1, f.0)
+
+pub ↔_left : {A B C : Type 0} → A ↔ B → (A ⊎ C) ↔ (B ⊎ C)
+↔_left {A} {B} {C} f = (λ s. ⊎_elim (λ (a : A). inl (f.0 a)) (λ (c : C). inr c) s, λ s. ⊎_elim (λ (b : B). inl (f.1 b)) (λ (c : C). inr c) s)
+
+pub ↔_through : {A B C : Type 0} → A ↔ B → B ↔ C → A ↔ C
+↔_through f g = (λ a. g.0 (f.0 a), λ c. f.1 (g.1 c))

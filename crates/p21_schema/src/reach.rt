@@ -1,0 +1,123 @@
+//! What each vertex of a graph reaches, by ranges of places in an order in which what a vertex reaches mostly stands together.
+
+ghost use Rattle.std.specs.Prelude.{◌≡◌, ◌<◌, ◌++◌, ◌∷◌, ◌↔◌, ◌⊎◌, ℕ, List, [], length, get_or, set, IfOk, OnOk, IsTrue};
+ghost use Rattle.p21_express.specs.WellFormed.{IsIn, AreDistinct, HasNoCycle};
+ghost use Rattle.p21_schema.specs.Graph.{plain_graph, rows_of, HasEdge, AreEdgesBelow, IsOrder};
+ghost use Rattle.p21_schema.specs.Reach.{IsTurned, ArePlaces, IsPlaceRow, IsReach, IsWithin};
+
+use crate::graph::{Graph, order, order_from, zeros};
+use crate::ranges::{Range, covers, row};
+use std::alloc::{AllocError, Global};
+
+/// What each vertex of a graph reaches, itself among it.
+#[derive(Drop)]
+pub(crate) struct Reach {
+    /// The place of each vertex.
+    places: Vec<usize>,
+    /// For each vertex the places of what it reaches.
+    rows: Vec<Vec<Range>>,
+}
+
+/// A graph of so many vertices without edges.
+fn without_edges(alloc: Global, count: usize) -> Result<Graph, AllocError>
+    ensures count { IfOk result (λ graph. length (plain_graph graph) ≡ count) }
+    ensures empty { IfOk result (λ graph. (v : ℕ) → get_or (plain_graph graph) v [] ≡ []) }
+{
+    let mut graph = Vec::with_capacity(alloc, count)?;
+    for _ in 0..count {
+        graph.push(Vec::new(alloc))?;
+    }
+    Ok(graph)
+}
+
+/// An edge more.
+fn add_edge(graph: &mut Graph, from: usize, to: usize) -> Result<(), AllocError>
+    requires { from < length (plain_graph graph.old) }
+    ensures { OnOk result (plain_graph graph.new ≡ set (plain_graph graph.old) from (get_or (plain_graph graph.old) from [] ++ to ∷ [])) }
+{
+    graph[from].push(to)?;
+    Ok(())
+}
+
+/// An edge more to a vertex from each of these.
+fn add_edges(graph: &mut Graph, from: &[usize], to: usize) -> Result<(), AllocError>
+    requires { (v : ℕ) → IsIn from.now v → v < length (plain_graph graph.old) }
+    ensures count { OnOk result (length (plain_graph graph.new) ≡ length (plain_graph graph.old)) }
+    ensures edges { OnOk result ((a b : ℕ) → HasEdge (plain_graph graph.new) a b ↔ (HasEdge (plain_graph graph.old) a b ⊎ ((b ≡ to) × IsIn from.now a))) }
+{
+    for vertex in from {
+        add_edge(graph, *vertex, to)?;
+    }
+    Ok(())
+}
+
+/// The graph with each edge turned round.
+pub(crate) fn turned(alloc: Global, graph: &Graph) -> Result<Graph, AllocError>
+    requires { AreEdgesBelow (plain_graph graph.now) (length (plain_graph graph.now)) }
+    ensures { IfOk result (λ turned. IsTurned (plain_graph graph.now) (plain_graph turned)) }
+{
+    let mut turned = without_edges(alloc, graph.len())?;
+    for vertex in 0..graph.len() {
+        add_edges(&mut turned, &graph[vertex], vertex)?;
+    }
+    Ok(turned)
+}
+
+/// The place of each vertex in an order.
+pub(crate) fn places(alloc: Global, order: &[usize], count: usize) -> Result<Vec<usize>, AllocError>
+    requires below { (v : ℕ) → IsIn order.now v → v < count }
+    requires distinct { AreDistinct order.now }
+    ensures count { IfOk result (λ places. length places.items ≡ count) }
+    ensures places { IfOk result (λ places. ArePlaces order.now places.items) }
+{
+    let mut places = zeros(alloc, count)?;
+    for (place, vertex) in order.iter().enumerate() {
+        places[*vertex] = place;
+    }
+    Ok(places)
+}
+
+/// For each vertex the places of what it reaches, in an order in which its neighbors stand before it.
+fn rows(alloc: Global, graph: &Graph, order: &[usize]) -> Result<Vec<Vec<Range>>, AllocError>
+    requires order { IsOrder (plain_graph graph.now) order.now }
+    requires distinct { AreDistinct order.now }
+    requires all { (v : ℕ) → v < length (plain_graph graph.now) → IsIn order.now v }
+    ensures count { IfOk result (λ rows. length (rows_of rows) ≡ length (plain_graph graph.now)) }
+    ensures rows { IfOk result (λ rows. (v : ℕ) → v < length (plain_graph graph.now) → IsPlaceRow (plain_graph graph.now) order.now v (get_or (rows_of rows) v [])) }
+{
+    let mut rows = Vec::with_capacity(alloc, graph.len())?;
+    for _ in 0..graph.len() {
+        rows.push(Vec::new(alloc))?;
+    }
+    for (place, vertex) in order.iter().enumerate() {
+        let row = row(alloc, place, &graph[*vertex], &rows)?;
+        rows[*vertex] = row;
+    }
+    Ok(rows)
+}
+
+impl Reach {
+    /// What the vertices of a graph reach. What nothing leads to is gone down first, so that what a vertex reaches by one way alone
+    /// is one range.
+    pub(crate) fn new(alloc: Global, graph: &Graph) -> Result<Reach, AllocError>
+        requires edges { AreEdgesBelow (plain_graph graph.now) (length (plain_graph graph.now)) }
+        requires cycles { HasNoCycle (HasEdge (plain_graph graph.now)) }
+        ensures { IfOk result (λ reach. IsReach (plain_graph graph.now) reach) }
+    {
+        let mut starts = order(alloc, graph)?;
+        starts.reverse();
+        let order = order_from(alloc, graph, &starts)?;
+        Ok(Reach {
+            places: places(alloc, &order, graph.len())?,
+            rows: rows(alloc, graph, &order)?,
+        })
+    }
+
+    /// Whether a vertex reaches another.
+    pub(crate) fn has(&self, from: usize, to: usize) -> bool
+        requires { (g : List (List ℕ)) × (IsReach g self.now × ((from < length g) × (to < length g))) }
+        ensures { (g : List (List ℕ)) → IsReach g self.now → from < length g → to < length g → IsTrue result ↔ IsWithin g from to }
+    {
+        covers(&self.rows[from], self.places[to])
+    }
+}
