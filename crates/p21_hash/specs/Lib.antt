@@ -1,2 +1,3 @@
 pub mod InstanceNames
 pub mod Keywords
+pub mod Keys

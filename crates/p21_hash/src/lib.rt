@@ -1,10 +1,13 @@
 //! Hashers for the two kinds of keys that files are full of: instance names and keywords.
 //!
-//! They are quick. Whoever picks the keys can make them collide.
+//! They are quick, and made of a `HashKey`. Whoever writes a file and knows its key can make names and keywords collide; whoever does
+//! not cannot, but by luck. So where files come from strangers the key is to be a number that is drawn for each run.
 #![tactic(auto)]
 
 mod instance_names;
+mod key;
 mod keywords;
 
-pub use instance_names::InstanceNameHasher;
-pub use keywords::KeywordHasher;
+pub use instance_names::{InstanceNameHasher, InstanceNameHashing};
+pub use key::HashKey;
+pub use keywords::{KeywordHasher, KeywordHashing};

@@ -5,8 +5,8 @@ ghost use Rattle.p21_join.specs.Joined.{joined};
 
 use crate::joiner::Joiner;
 use crate::names::NameSet;
+use p21_hash::HashKey;
 use std::alloc::{AllocError, Global};
-use std::hash::BuildHasherDefault;
 
 /// The names of some instances, each once.
 #[derive(Drop)]
@@ -17,12 +17,20 @@ pub struct InstanceNames {
 impl InstanceNames {
     ghost use Rattle.p21_join.specs.InstanceNames.{names_in, AddsName};
 
-    /// No name yet. This takes no memory.
+    /// No name yet. This takes no memory. Names are hashed by a key that is always the same: whoever knows it can choose names that take
+    /// long.
     pub fn new(alloc: Global) -> InstanceNames
         ensures { names_in result ≡ [] }
     {
+        InstanceNames::with_key(alloc, HashKey::default())
+    }
+
+    /// The same, where names are hashed by this key.
+    pub fn with_key(alloc: Global, key: HashKey) -> InstanceNames
+        ensures { names_in result ≡ [] }
+    {
         InstanceNames {
-            names: NameSet::with_hasher(alloc, BuildHasherDefault::new()),
+            names: NameSet::with_hasher(alloc, key.instance_names()),
         }
     }
 

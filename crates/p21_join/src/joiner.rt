@@ -5,9 +5,9 @@ ghost use Rattle.p21_join.specs.Names.{AreNamesOf, HaveOwnNames};
 
 use crate::model::Model;
 use crate::names::NameSet;
+use p21_hash::HashKey;
 use p21_tree::RawInstance;
 use std::alloc::Global;
-use std::hash::BuildHasherDefault;
 
 /// Instances that are joined one by one.
 #[derive(Drop)]
@@ -32,13 +32,21 @@ impl<'a> Joiner<'a> {
     ghost use Rattle.p21_join.specs.Joined.{joined, Joins};
     ghost use Rattle.p21_join.specs.Model.{instances_of};
 
-    /// Nothing is joined yet. This takes no memory.
+    /// Nothing is joined yet. This takes no memory. Names are hashed by a key that is always the same: whoever knows it can choose
+    /// names that take long.
     pub fn new(alloc: Global) -> Joiner<'a>
+        ensures { joined result ≡ [] }
+    {
+        Joiner::with_key(alloc, HashKey::default())
+    }
+
+    /// The same, where names are hashed by this key.
+    pub fn with_key(alloc: Global, key: HashKey) -> Joiner<'a>
         ensures { joined result ≡ [] }
     {
         Joiner {
             instances: Vec::new(alloc),
-            names: NameSet::with_hasher(alloc, BuildHasherDefault::new()),
+            names: NameSet::with_hasher(alloc, key.instance_names()),
         }
     }
 

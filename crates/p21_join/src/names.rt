@@ -1,8 +1,7 @@
 //! Names of instances, each with its place.
 
 use indexmap::IndexSet;
-use p21_hash::InstanceNameHasher;
-use std::hash::BuildHasherDefault;
+use p21_hash::InstanceNameHashing;
 
 /// Names of instances in the order of the instances: each name's place is that of its instance.
-pub(crate) type NameSet = IndexSet<u64, BuildHasherDefault<InstanceNameHasher>>;
+pub(crate) type NameSet = IndexSet<u64, InstanceNameHashing>;

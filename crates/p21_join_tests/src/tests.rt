@@ -5,6 +5,7 @@ ghost use Rattle.p21_join.specs.Entities.{model_of};
 
 use p21_check::{EntityOf, Named};
 use p21_express::read_declarations;
+use p21_hash::HashKey;
 use p21_join::{JoinError, Joiner, Model, ModelEntities};
 use p21_schema::{EntityId, Rules, Schema};
 use p21_tree::{Piece, RawInstance, TreeError, read_piece};
@@ -44,7 +45,16 @@ type Row = (&'static [u8], Answer);
 
 /// The model of some instances, each of which is answered as its row says.
 fn model_of_rows(rt: &impl Abort, alloc: Global, rows: &[Row]) -> Result<Model<'static>, Fail> {
-    let mut joiner = Joiner::new(alloc);
+    joined_rows(rt, alloc, Joiner::new(alloc), rows)
+}
+
+/// The model of what was joined and of some more instances, each of which is answered as its row says.
+fn joined_rows(
+    rt: &impl Abort,
+    alloc: Global,
+    mut joiner: Joiner<'static>,
+    rows: &[Row],
+) -> Result<Model<'static>, Fail> {
     for (text, want) in rows {
         let instance = instance_of(alloc, text)?;
         assert_eq!(rt; add(&mut joiner, instance), *want, "{text:?}");
@@ -74,6 +84,25 @@ fn joins_each_name_once(rt: HostRuntime) -> Result<(), Fail> {
     ];
     let model = model_of_rows(&rt, rt.alloc(), &rows)?;
     check_names(&rt, &model);
+    Ok(())
+}
+
+#[test]
+fn joins_each_name_once_by_any_key(rt: HostRuntime) -> Result<(), Fail> {
+    let alloc = rt.alloc();
+    let rows: [Row; 5] = [
+        (b"#18446744073709551615=MARK('a');", Answer::Joined),
+        (b"#7=MARK('b');", Answer::Joined),
+        (b"#67108871=MARK('c');", Answer::Joined),
+        (b"#134217735=MARK('d');", Answer::Joined),
+        (b"#67108871=MARK('e');", Answer::Duplicate(67_108_871)),
+    ];
+    for seed in [0, 1, u64::MAX] {
+        let joiner = Joiner::with_key(alloc, HashKey::new(seed));
+        let model = joined_rows(&rt, alloc, joiner, &rows)?;
+        assert_eq!(rt; model.position(134_217_735), Some(3), "by {seed}");
+        assert_eq!(rt; model.position(8), None, "by {seed}");
+    }
     Ok(())
 }
 

@@ -81,7 +81,7 @@ pub fn read_all_faults<'a, G: Gate + Sync, R: Threads + Wait + Sync>(
         judge: &judge,
         schema,
     };
-    let gathering = FaultGathering::new(alloc);
+    let gathering = FaultGathering::new(alloc, schema);
     let Ok(run) = judge_pieces(rt, alloc, &work, gate, pieces, gathering, lanes, capacity) else {
         return Err(ReadError::Memory);
     };

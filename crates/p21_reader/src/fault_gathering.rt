@@ -18,7 +18,7 @@ use crate::gathering::join_whole;
 use crate::judged::{Judged, Judgement};
 use p21_crew::Gathers;
 use p21_join::{InstanceNames, Joiner, Model};
-use p21_schema::EntityId;
+use p21_schema::{EntityId, Schema};
 use p21_tree::{Fault, FaultKind, RawInstance, read_tail};
 use std::alloc::{AllocError, Global};
 use std::mem;
@@ -44,15 +44,16 @@ pub(crate) struct FaultGathering<'a> {
 pub(crate) type Gathered<'a> = Result<(Model<'a>, Vec<Option<EntityId>>), Vec<Fault>>;
 
 impl<'a> FaultGathering<'a> {
-    /// Nothing is gathered yet. This takes no memory.
-    pub(crate) fn new(alloc: Global) -> FaultGathering<'a>
+    /// Nothing is gathered yet. Names are hashed by the key of the schema. This takes no memory.
+    pub(crate) fn new(alloc: Global, schema: &Schema) -> FaultGathering<'a>
         ensures { AreFaultsGathered result [] }
     {
+        let key = schema.hash_key();
         FaultGathering {
             alloc,
-            joiner: Joiner::new(alloc),
+            joiner: Joiner::with_key(alloc, key),
             entities: Vec::new(alloc),
-            names: InstanceNames::new(alloc),
+            names: InstanceNames::with_key(alloc, key),
             faults: Vec::new(alloc),
             ended: false,
         }

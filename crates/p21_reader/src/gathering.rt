@@ -16,7 +16,7 @@ use crate::judged::{Judged, Judgement};
 use crate::stop::Stop;
 use p21_crew::Gathers;
 use p21_join::{JoinError, Joiner, Model};
-use p21_schema::EntityId;
+use p21_schema::{EntityId, Schema};
 use p21_tree::{Fault, FaultKind, RawInstance, read_tail};
 use std::alloc::{AllocError, Global};
 
@@ -33,12 +33,12 @@ pub(crate) struct Gathering<'a> {
 impl<'a> Gathering<'a> {
     ghost use Rattle.p21_reader.specs.Gathering.{IsGathered, fault_of};
 
-    /// Nothing is gathered yet. This takes no memory.
-    pub(crate) fn new(alloc: Global) -> Gathering<'a>
+    /// Nothing is gathered yet. Names are hashed by the key of the schema. This takes no memory.
+    pub(crate) fn new(alloc: Global, schema: &Schema) -> Gathering<'a>
         ensures { IsGathered result [] }
     {
         Gathering {
-            joiner: Joiner::new(alloc),
+            joiner: Joiner::with_key(alloc, schema.hash_key()),
             entities: Vec::new(alloc),
             fault: None,
         }

@@ -90,7 +90,7 @@ pub fn read_lanes_by<'a, J: Judge + Sync, G: Gate + Sync, R: Threads + Wait + Sy
         cutter: Cutter::new(file, preface.data_at as usize),
     };
     let work = Judging { judge, schema };
-    let gathering = Gathering::new(alloc);
+    let gathering = Gathering::new(alloc, schema);
     let Ok(run) = run_crew(rt, alloc, &work, gate, pieces, gathering, lanes, capacity) else {
         return Err(ReadError::Memory);
     };

@@ -78,7 +78,7 @@ fn join_pieces<'a>(
     parts_up_to_fault();
     let mut cutter = Cutter::new(file, preface.data_at as usize);
     let mut reader = InstanceReader::new(alloc);
-    let mut joiner = Joiner::new(alloc);
+    let mut joiner = Joiner::with_key(alloc, schema.hash_key());
     let mut entities = Vec::new(alloc);
     loop {
         match cutter.next() {

@@ -8,16 +8,29 @@ ghost use Rattle.p21_tree.specs.Views.{plain_instance};
 
 use crate::tally::{Keywords, Tally, add_instance, empty_tally};
 use crate::text::{push, push_number};
+use p21_hash::HashKey;
 use p21_tree::RawInstance;
 use std::alloc::{AllocError, Global};
 
 /// The counts of some instances, a line each: how many there are, how many are complex, how many instance names are
 /// written as parameters, and how many records have each keyword, in byte order. A number above 2^64 - 1 is written as
-/// 2^64 - 1. Memory alone can fail.
+/// 2^64 - 1. Memory alone can fail. Keywords are hashed by a key that is always the same: whoever knows it can choose keywords that
+/// take long.
 pub fn counts(alloc: Global, instances: &[RawInstance<'_>]) -> Result<Vec<u8>, AllocError>
     ensures { IfOk result (λ text. IsCounts (map plain_instance instances.now) text.items) }
 {
-    let mut tally = tally_of(alloc, instances)?;
+    counts_with_key(alloc, instances, HashKey::default())
+}
+
+/// The same, where keywords are hashed by this key.
+pub fn counts_with_key(
+    alloc: Global,
+    instances: &[RawInstance<'_>],
+    key: HashKey,
+) -> Result<Vec<u8>, AllocError>
+    ensures { IfOk result (λ text. IsCounts (map plain_instance instances.now) text.items) }
+{
+    let mut tally = tally_of(alloc, instances, key)?;
     tally.keywords.sort_keys()?;
     let mut text = Vec::new(alloc);
     push_count(&mut text, b"instances", instances.len() as u64)?;
@@ -28,10 +41,14 @@ pub fn counts(alloc: Global, instances: &[RawInstance<'_>]) -> Result<Vec<u8>, A
 }
 
 /// What is counted of some instances.
-fn tally_of<'a>(alloc: Global, instances: &[RawInstance<'a>]) -> Result<Tally<'a>, AllocError>
+fn tally_of<'a>(
+    alloc: Global,
+    instances: &[RawInstance<'a>],
+    key: HashKey,
+) -> Result<Tally<'a>, AllocError>
     ensures { IfOk result (λ tally. IsTallyOf tally (map plain_instance instances.now)) }
 {
-    let mut tally = empty_tally(alloc);
+    let mut tally = empty_tally(alloc, key);
     for instance in instances {
         add_instance(&mut tally, instance)?;
     }

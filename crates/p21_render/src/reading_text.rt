@@ -6,7 +6,7 @@ ghost use Rattle.p21_reader.specs.AllAnswer.{plain_all};
 ghost use Rattle.p21_reader.specs.Answer.{plain_answer};
 ghost use Rattle.p21_render.specs.ReadingText.{IsAllText, IsModelText, IsReadingText};
 
-use crate::count_text::counts;
+use crate::count_text::counts_with_key;
 use crate::fault_text::{fault_line, render_faults};
 use crate::text::push;
 use p21_reader::{AllFaults, Reading};
@@ -52,7 +52,7 @@ fn model_text(
     push(&mut text, b"schema ")?;
     push(&mut text, schema.name())?;
     push(&mut text, b"\n")?;
-    let lines = counts(alloc, instances)?;
+    let lines = counts_with_key(alloc, instances, schema.hash_key())?;
     push(&mut text, lines.as_slice())?;
     Ok(text)
 }

@@ -7,13 +7,12 @@ ghost use Rattle.p21_tree.specs.Views.{plain_instance};
 
 use crate::references::in_instance;
 use indexmap::IndexMap;
-use p21_hash::KeywordHasher;
+use p21_hash::{HashKey, KeywordHashing};
 use p21_tree::{RawInstance, Record};
 use std::alloc::{AllocError, Global};
-use std::hash::BuildHasherDefault;
 
 /// How many records have each keyword.
-pub(crate) type Keywords<'a> = IndexMap<&'a [u8], u64, BuildHasherDefault<KeywordHasher>>;
+pub(crate) type Keywords<'a> = IndexMap<&'a [u8], u64, KeywordHashing>;
 
 /// What is counted of some instances: each number is at most 2^64 - 1.
 #[derive(Drop)]
@@ -23,14 +22,14 @@ pub(crate) struct Tally<'a> {
     pub(crate) keywords: Keywords<'a>,
 }
 
-/// Nothing is counted.
-pub(crate) fn empty_tally<'a>(alloc: Global) -> Tally<'a>
+/// Nothing is counted. Keywords are hashed by this key.
+pub(crate) fn empty_tally<'a>(alloc: Global, key: HashKey) -> Tally<'a>
     ensures { IsTallyOf result [] }
 {
     Tally {
         complex: 0,
         references: 0,
-        keywords: IndexMap::with_hasher(alloc, BuildHasherDefault::new()),
+        keywords: IndexMap::with_hasher(alloc, key.keywords()),
     }
 }
 

@@ -4,6 +4,7 @@ ghost use Rattle.std.specs.Prelude.{◌≡◌, Ok, Err};
 ghost use Rattle.p21_run.specs.declared.outcome.Outcome.TheVariants.{Complete, Faulty, SchemaRefused, Device as Failed, Memory as NoMemory};
 ghost use Rattle.p21_report.specs.declared.program_error.ProgramError.TheVariants.{Device, Memory};
 
+use crate::drawn_key::drawn_key;
 use crate::explainer::Explainer;
 use crate::opened::Opened;
 use crate::program_error::ProgramError;
@@ -69,6 +70,7 @@ fn report<R: Files + Threads + Wait + Sync, I: Read, O: Write, E: Write>(
     let mut schema = Opened::new(rt, wanted.schema);
     let mut out = Stream::new(output);
     let (lanes, capacity) = (wanted.lanes, wanted.capacity);
+    let key = drawn_key(rt);
     let mut explainer = Explainer::new(alloc, wanted.schema, wanted.file, wanted.explained);
     let outcome = if wanted.file == "-" {
         let mut file = Stream::new(input);
@@ -83,6 +85,7 @@ fn report<R: Files + Threads + Wait + Sync, I: Read, O: Write, E: Write>(
             capacity,
             wanted.all,
             wanted.rules,
+            key,
             &mut explainer,
         )
     } else {
@@ -98,6 +101,7 @@ fn report<R: Files + Threads + Wait + Sync, I: Read, O: Write, E: Write>(
             capacity,
             wanted.all,
             wanted.rules,
+            key,
             &mut explainer,
         )
     };

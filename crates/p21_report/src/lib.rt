@@ -2,6 +2,7 @@
 #![tactic(auto)]
 
 mod command_line;
+mod drawn_key;
 mod explainer;
 mod opened;
 mod program_error;

@@ -13,6 +13,7 @@ use crate::outcome::Outcome;
 use p21_crew::Gate;
 use p21_desk::LaneCount;
 use p21_express::SchemaError;
+use p21_hash::HashKey;
 use p21_lanes::Capacity;
 use p21_reader::{AllFaults, ReadError, Reading, read_all_faults, read_lanes};
 use p21_render::{render, render_all, schema_fault_line};
@@ -28,14 +29,15 @@ pub(crate) struct Report {
     pub(crate) text: Vec<u8>,
 }
 
-/// By how many lanes a file is read, how many pieces may be out on one, what a worker passes before each, and whether all faults
-/// are told or the first alone.
+/// By how many lanes a file is read, how many pieces may be out on one, what a worker passes before each, whether all faults are told
+/// or the first alone, and by what key names are hashed.
 #[derive(Drop)]
 pub(crate) struct Lanes<'g, G> {
     pub(crate) gate: &'g G,
     pub(crate) lanes: LaneCount,
     pub(crate) capacity: Capacity,
     pub(crate) all: bool,
+    pub(crate) key: HashKey,
 }
 
 /// The report of a file. Memory alone, or a thread, can be refused.

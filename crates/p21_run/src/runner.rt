@@ -19,6 +19,7 @@ use crate::source::{Sink, Source};
 use p21_crew::Gate;
 use p21_desk::LaneCount;
 use p21_express::{Declarations, read_declarations};
+use p21_hash::HashKey;
 use p21_lanes::Capacity;
 use p21_schema::{Rules, Schema};
 use std::alloc::Global;
@@ -35,7 +36,8 @@ use std::thread::Threads;
 ///
 /// The file is read by so many lanes, whose workers pass the gate before each piece; on no lane are more pieces out at a time
 /// than the capacity. What is written hangs on neither. The schema is read under the rules: with `distinct`, no SET and no LIST
-/// OF UNIQUE may name one instance twice.
+/// OF UNIQUE may name one instance twice. Names and keywords are hashed by a key that is always the same: for inputs from strangers,
+/// who may know it and choose names that take long, `run_heard` takes another.
 pub fn run<R: Threads + Wait + Sync, G: Gate + Sync, S: Source, F: Source, K: Sink>(
     rt: &R,
     alloc: Global,
@@ -68,11 +70,13 @@ pub fn run<R: Threads + Wait + Sync, G: Gate + Sync, S: Source, F: Source, K: Si
         capacity,
         all,
         rules,
+        HashKey::default(),
         &mut Silent,
     )
 }
 
-/// The same as `run`, where a listener hears the faults that are found, before the report is written.
+/// The same as `run`, where names and keywords are hashed by this key, and a listener hears the faults that are found, before the report
+/// is written.
 pub fn run_heard<
     R: Threads + Wait + Sync,
     G: Gate + Sync,
@@ -91,6 +95,7 @@ pub fn run_heard<
     capacity: Capacity,
     all: bool,
     rules: Rules,
+    key: HashKey,
     listener: &mut L,
 ) -> Outcome
     ensures written { (schema_text file : List ℕ) → S.remaining schema_in.old ≡ Some schema_text → F.remaining file_in.old ≡ Some file → Writes all rules schema_text file result (K.taken out.old) (K.taken out.new) }
@@ -107,6 +112,7 @@ pub fn run_heard<
         lanes,
         capacity,
         all,
+        key,
     };
     match report(rt, alloc, schema_in, file_in, &by, rules, listener) {
         Ok(report) => match write_bounded(out, report.text.as_slice(), WRITE_CALLS) {
@@ -162,7 +168,7 @@ fn report_against<R: Threads + Wait + Sync, G: Gate + Sync, F: Source, L: Listen
     ensures failed { F.failed file_in.old ≡ false → F.failed file_in.new ≡ true → result ≡ Err Failed }
     ensures cause { result ≡ Err Failed → F.marked file_in.new ≡ false → (file : List ℕ) → F.remaining file_in.old ≡ Some file → most_calls ≤ length file }
 {
-    let schema = Schema::build(alloc, declarations, rules)?;
+    let schema = Schema::build_with_key(alloc, declarations, rules, by.key)?;
     report_of_source(rt, alloc, &schema, file_in, by, listener)
 }
 

@@ -6,19 +6,20 @@ ghost use Rattle.p21_express.specs.WellFormed.{IsIn, AreDistinct};
 
 use indexmap::IndexSet;
 use p21_express::{EntityDecl, TypeDecl};
-use p21_hash::KeywordHasher;
+use p21_hash::{HashKey, KeywordHashing};
 use std::alloc::{AllocError, Global};
-use std::hash::BuildHasherDefault;
 use std::marker::Model;
 
 /// Names that differ from each other, in order.
 pub(crate) struct Names {
-    set: IndexSet<Vec<u8>, BuildHasherDefault<KeywordHasher>>,
+    /// By which they are hashed.
+    key: HashKey,
+    set: IndexSet<Vec<u8>, KeywordHashing>,
 }
 
 impl Drop for Names {
     fn drop(self) {
-        let Self { set: _ } = self;
+        let Self { key: _, set: _ } = self;
     }
 }
 
@@ -31,12 +32,17 @@ impl Model for Names {
 }
 
 impl Names {
-    fn new(alloc: Global) -> Names
+    fn new(alloc: Global, key: HashKey) -> Names
         ensures { result ≡ [] }
     {
         Names {
-            set: IndexSet::with_hasher(alloc, BuildHasherDefault::new()),
+            key,
+            set: IndexSet::with_hasher(alloc, key.keywords()),
         }
+    }
+
+    pub(crate) fn key(&self) -> HashKey {
+        self.key
     }
 
     /// A further name behind the others.
@@ -65,11 +71,15 @@ impl Names {
 }
 
 /// The names of all entities.
-pub(crate) fn entity_names(alloc: Global, entities: &[EntityDecl]) -> Result<Names, AllocError>
+pub(crate) fn entity_names(
+    alloc: Global,
+    key: HashKey,
+    entities: &[EntityDecl],
+) -> Result<Names, AllocError>
     requires { AreDistinct (map (λ e. e.name) (map plain_entity entities.now)) }
     ensures { IfOk result (λ names. names ≡ map (λ e. e.name) (map plain_entity entities.now)) }
 {
-    let mut names = Names::new(alloc);
+    let mut names = Names::new(alloc, key);
     for entity in entities {
         names.push(alloc, &entity.name)?;
     }
@@ -77,11 +87,15 @@ pub(crate) fn entity_names(alloc: Global, entities: &[EntityDecl]) -> Result<Nam
 }
 
 /// The names of all types.
-pub(crate) fn type_names(alloc: Global, types: &[TypeDecl]) -> Result<Names, AllocError>
+pub(crate) fn type_names(
+    alloc: Global,
+    key: HashKey,
+    types: &[TypeDecl],
+) -> Result<Names, AllocError>
     requires { AreDistinct (map (λ t. t.name) (map plain_type types.now)) }
     ensures { IfOk result (λ names. names ≡ map (λ t. t.name) (map plain_type types.now)) }
 {
-    let mut names = Names::new(alloc);
+    let mut names = Names::new(alloc, key);
     for decl in types {
         names.push(alloc, &decl.name)?;
     }

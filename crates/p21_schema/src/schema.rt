@@ -14,6 +14,7 @@ use crate::rules::Rules;
 use crate::selects::{Selects, admitting, select_tables};
 use crate::under::{resolved, type_ends};
 use p21_express::Declarations;
+use p21_hash::HashKey;
 use std::alloc::{AllocError, Global};
 use std::marker::Model;
 
@@ -90,7 +91,8 @@ impl Schema {
     ghost use Rattle.p21_schema.specs.Rules.{with_rules};
     ghost use Rattle.p21_schema.specs.Select.{SelectReaches, ReachesA, ReachesType, ReachesEntity};
 
-    /// The table of declarations that fit together, under these rules. It is refused for want of memory alone.
+    /// The table of declarations that fit together, under these rules. It is refused for want of memory alone. Names are hashed by a
+    /// key that is always the same: whoever knows it can choose names that take long.
     pub fn build(
         alloc: Global,
         declarations: Declarations,
@@ -99,14 +101,27 @@ impl Schema {
         requires { IsWellFormed (plain_schema declarations) }
         ensures { IfOk result (λ schema. schema ≡ with_rules (plain_schema declarations) rules) }
     {
-        let entity_names = entity_names(alloc, &declarations.entities)?;
+        Schema::build_with_key(alloc, declarations, rules, HashKey::default())
+    }
+
+    /// The same, where names are hashed by this key: those of the schema, and those of a file that is read against it.
+    pub fn build_with_key(
+        alloc: Global,
+        declarations: Declarations,
+        rules: Rules,
+        key: HashKey,
+    ) -> Result<Schema, AllocError>
+        requires { IsWellFormed (plain_schema declarations) }
+        ensures { IfOk result (λ schema. schema ≡ with_rules (plain_schema declarations) rules) }
+    {
+        let entity_names = entity_names(alloc, key, &declarations.entities)?;
         let graph = supertypes(alloc, &entity_names, &declarations.entities)?;
         let order = order(alloc, &graph)?;
         let descents = descents(alloc, &graph)?;
         let (own, lists) = own_attributes(alloc, &declarations)?;
         let rows = Rows::new(alloc, &graph, &own, &order)?;
         let supertypes = supertype_ids(alloc, &graph)?;
-        let type_names = type_names(alloc, &declarations.types)?;
+        let type_names = type_names(alloc, key, &declarations.types)?;
         let ends = type_ends(alloc, &type_names, &declarations.types)?;
         let unders = resolved(alloc, &entity_names, &type_names, &declarations.types)?;
         let known = Known {
@@ -172,6 +187,11 @@ impl Schema {
         ensures { result ≡ self.now.distinct }
     {
         self.rules.distinct
+    }
+
+    /// The key by which names are hashed. Nothing else hangs on it.
+    pub fn hash_key(&self) -> HashKey {
+        self.entity_names.key()
     }
 
     /// The entity of this name, or `None` where there is none.

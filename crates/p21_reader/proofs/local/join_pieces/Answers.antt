@@ -21,9 +21,9 @@ loop-piece-init c =
     let there : IsReadUpTo c.args.schema.now file o [] o.data_at = record { begins = begins_opening file o c.requires.begins; faultless = none_faultless c.args.schema.now } in
     let place : o.data_at ≡ place_of c.new-cutter.result = sym c.new-cutter.ensures.place in
     record {
-      read = subst (λ is. IsReadUpTo c.args.schema.now file o (plain_instances is) (place_of c.new-cutter.result)) (sym c.new-joiner.ensures) (subst (IsReadUpTo c.args.schema.now file o []) place there);
+      read = subst (λ is. IsReadUpTo c.args.schema.now file o (plain_instances is) (place_of c.new-cutter.result)) (sym c.with_key-joiner.ensures) (subst (IsReadUpTo c.args.schema.now file o []) place there);
       same = c.new-cutter.ensures.file;
-      known = subst (λ is. AreSimpleEntities c.args.schema.now (plain_instances is) c.new-entities.result.items) (sym c.new-joiner.ensures) (subst (AreSimpleEntities c.args.schema.now []) (sym c.new-entities.ensures.items) tt);
+      known = subst (λ is. AreSimpleEntities c.args.schema.now (plain_instances is) c.new-entities.result.items) (sym c.with_key-joiner.ensures) (subst (AreSimpleEntities c.args.schema.now []) (sym c.new-entities.ensures.items) tt);
     }
 
 pub loop-piece-preserved : goal.loop-piece-preserved

@@ -5,5 +5,5 @@ use Rattle.p21_hash.proofs.InstanceNameLemmas.{all_shifted}
 
 pub returns : goal.returns
 returns c =
-    let hasher : ℕ → InstanceNameHasher = λ n. record { name = n } in
+    let hasher : ℕ → InstanceNameHasher = λ n. record c.args.self.now { name = n } in
     ap hasher (sym (all_shifted c.args.self.now.name c.args.number c.ranges.number.fits))

@@ -12,4 +12,4 @@ nothing : (is : List RawInstance) (es : List (Option EntityId)) (names : List â„
 nothing is es names found a b d = rw (a, b, d) none_gathered
 
 pub returns : goal.returns
-returns c = nothing _ _ _ _ c.new.ensures c.new-2.ensures.items c.new-4.ensures.items
+returns c = nothing _ _ _ _ c.with_key.ensures c.new.ensures.items c.new-2.ensures.items

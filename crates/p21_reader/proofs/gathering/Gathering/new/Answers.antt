@@ -5,4 +5,4 @@ use Rattle.p21_reader.proofs.GatheringLemmas.{none_gathered}
 use Rattle.p21_reader.proofs.gathering.Gathering.new.Goals as goal
 
 pub returns : goal.returns
-returns c = (subst (λ is. HaveInstances [] (plain_instances is)) (sym c.new.ensures) none_gathered.0, c.new-2.ensures.items)
+returns c = (subst (λ is. HaveInstances [] (plain_instances is)) (sym c.with_key.ensures) none_gathered.0, c.new.ensures.items)

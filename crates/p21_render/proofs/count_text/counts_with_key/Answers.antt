@@ -6,7 +6,7 @@ use Rattle.p21_render.specs.Counts.{count_line}
 use Rattle.p21_render.specs.Tally.{IsTallyOf, entry_lines}
 use Rattle.p21_render.specs.declared.tally.Tally.{Tally}
 use Rattle.p21_render.proofs.ReportLemmas.{report_text}
-use Rattle.p21_render.proofs.count_text.counts.Goals as goal
+use Rattle.p21_render.proofs.count_text.counts_with_key.Goals as goal
 
 pub returns : goal.returns
 returns c =

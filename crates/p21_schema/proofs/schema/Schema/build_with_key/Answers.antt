@@ -12,7 +12,7 @@ use Rattle.p21_schema.proofs.RuleLemmas.{fits_with, own_with}
 use Rattle.p21_schema.proofs.AncestryLemmas.{named_by, distinct_entities, supertypes_known, edges_below, no_cycle, supertype_table}
 use Rattle.p21_schema.proofs.DeclarationLemmas.{empty_at}
 use Rattle.p21_schema.proofs.UnderLemmas.{distinct_types, other_known, unders_known}
-use Rattle.p21_schema.proofs.schema.Schema.build.Goals as goal
+use Rattle.p21_schema.proofs.schema.Schema.build_with_key.Goals as goal
 
 pub entity_names-requires : goal.entity_names-requires
 entity_names-requires c = rw c.deref.ensures.value (distinct_entities (with_rules (plain_schema c.args.declarations) c.args.rules) (fits_with (plain_schema c.args.declarations) c.args.rules c.requires).repeated)

@@ -1,0 +1,26 @@
+//! The key of a run, drawn by chance.
+
+use crate::opened::Opened;
+use p21_hash::HashKey;
+use p21_run::{IoFault, Source};
+use std::fs::Files;
+
+/// The file whose bytes nobody knows before.
+const RANDOM: &str = "/dev/urandom";
+
+/// The most calls of `read`, since one may be interrupted.
+const CALLS: u32 = 16;
+
+/// A key that nobody knows before the run; or the one that is always the same, where no bytes for it can be had.
+pub(crate) fn drawn_key<R: Files>(rt: &R) -> HashKey {
+    let mut random = Opened::new(rt, RANDOM);
+    let mut bytes = [0; 8];
+    for _ in 0..CALLS {
+        match random.read(&mut bytes) {
+            Ok(_) => return HashKey::new(u64::from_le_bytes(bytes)),
+            Err(IoFault::Interrupted) => {}
+            Err(IoFault::Failed) => break,
+        }
+    }
+    HashKey::default()
+}
