@@ -20,11 +20,23 @@ entity_names-requires c = rw c.deref.ensures.value (distinct_entities (with_rule
 pub supertypes-requires : goal.supertypes-requires
 supertypes-requires c = rw (c.in_ok-entity_names.ensures, c.deref.ensures.value, c.deref-2.ensures.value) (supertypes_known (with_rules (plain_schema c.args.declarations) c.args.rules) (fits_with (plain_schema c.args.declarations) c.args.rules c.requires).unknown)
 
+pub order-requires-clause-edges : goal.order-requires-clause-edges
+order-requires-clause-edges c =
+    let s = with_rules (plain_schema c.args.declarations) c.args.rules in
+    let h : AreSupertypesNamed (map (λ (e : Entity). e.name) s.entities) (plain_graph c.in_ok-graph.graph) s.entities = named_by plain_entity c.in_ok-entity_names.entity_names (plain_graph c.in_ok-graph.graph) c.deref.result.now c.deref-2.result.now c.args.declarations.entities.items c.in_ok-entity_names.ensures c.deref.ensures.value c.deref-2.ensures.value c.in_ok-graph.ensures in
+    edges_below s (plain_graph c.in_ok-graph.graph) h
+
 pub order-requires-clause-cycles : goal.order-requires-clause-cycles
 order-requires-clause-cycles c =
     let s = with_rules (plain_schema c.args.declarations) c.args.rules in
     let h : AreSupertypesNamed (map (λ (e : Entity). e.name) s.entities) (plain_graph c.in_ok-graph.graph) s.entities = named_by plain_entity c.in_ok-entity_names.entity_names (plain_graph c.in_ok-graph.graph) c.deref.result.now c.deref-2.result.now c.args.declarations.entities.items c.in_ok-entity_names.ensures c.deref.ensures.value c.deref-2.ensures.value c.in_ok-graph.ensures in
     no_cycle s (plain_graph c.in_ok-graph.graph) h (fits_with (plain_schema c.args.declarations) c.args.rules c.requires).cycles.entities
+
+pub descents-requires-clause-edges : goal.descents-requires-clause-edges
+descents-requires-clause-edges c =
+    let s = with_rules (plain_schema c.args.declarations) c.args.rules in
+    let h : AreSupertypesNamed (map (λ (e : Entity). e.name) s.entities) (plain_graph c.in_ok-graph.graph) s.entities = named_by plain_entity c.in_ok-entity_names.entity_names (plain_graph c.in_ok-graph.graph) c.deref.result.now c.deref-2.result.now c.args.declarations.entities.items c.in_ok-entity_names.ensures c.deref.ensures.value c.deref-2.ensures.value c.in_ok-graph.ensures in
+    edges_below s (plain_graph c.in_ok-graph.graph) h
 
 pub descents-requires-clause-cycles : goal.descents-requires-clause-cycles
 descents-requires-clause-cycles c =
