@@ -16,10 +16,10 @@ use Rattle.p21_schema.specs.declared.ids.EntityId.{EntityId}
 use Rattle.p21_schema.specs.Place.{no_entity, entity_at, entity_name, IsEntityOf}
 use Rattle.p21_schema.specs.Ancestry.{entity_id, AreNamed}
 use Rattle.p21_schema.specs.Row.{own_attributes, attributes_of, no_attribute, attribute_at, IsAttributeOf, same_origin, first_places, IsRow, AreRows, row, none, more}
-use Rattle.p21_schema.specs.RowTable.{same_id, kept, all_kept, ids_from, joined, IsOwn, IsOwnTable, IsRowAt, no_own}
+use Rattle.p21_schema.specs.RowTable.{same_id, kept, all_kept, ids_from, joined, first_of, IsOwn, IsOwnTable, IsRowAt, no_own}
 use Rattle.p21_schema.specs.declared.rows.Own.{Own}
 use Rattle.p21_schema.proofs.AncestryLemmas.{all_names, name_at}
-use Rattle.p21_schema.proofs.Members.{in_either, from_map, distinct_left, same_place, place_of, at_place, holds_of}
+use Rattle.p21_schema.proofs.Members.{in_either, from_map, distinct_left, same_place, place_of, at_place, holds_of, in_map, in_front, distinct_apart}
 
 -- ---- what is kept
 
@@ -55,9 +55,9 @@ pub joined_push : (table : ℕ → List AttrId) (es : List ℕ) (e : ℕ) → jo
 joined_push table [] e = append-nil (table e)
 joined_push table (x ∷ xs) e = ap (λ (u : List AttrId). table x ++ u) (joined_push table xs e) ∙ sym (append_assoc (table x) (joined table xs) (table e))
 
-pub joined_more : (table : ℕ → List AttrId) (es : List ℕ) (i : ℕ) (d : ℕ) (now new one : List AttrId) → i < length es → table (get_or es i d) ≡ one → now ≡ all_kept [] (joined table (take i es)) → new ≡ all_kept now one → new ≡ all_kept [] (joined table (take (i + 1) es))
-joined_more table es i d now new one less at h e =
-    e ∙ (λ j. all_kept (h j) (sym at j)) ∙ sym (all_kept_append [] (joined table (take i es)) (table (get_or es i d))) ∙ ap (λ (u : List AttrId). all_kept [] u) (sym (joined_push table (take i es) (get_or es i d)) ∙ ap (λ (u : List ℕ). joined table u) (sym (take_more es i d less)))
+pub joined_more : (r : List AttrId) (table : ℕ → List AttrId) (es : List ℕ) (i : ℕ) (d : ℕ) (now new one : List AttrId) → i < length es → table (get_or es i d) ≡ one → now ≡ all_kept r (joined table (take i es)) → new ≡ all_kept now one → new ≡ all_kept r (joined table (take (i + 1) es))
+joined_more r table es i d now new one less at h e =
+    e ∙ (λ j. all_kept (h j) (sym at j)) ∙ sym (all_kept_append r (joined table (take i es)) (table (get_or es i d))) ∙ ap (λ (u : List AttrId). all_kept r u) (sym (joined_push table (take i es) (get_or es i d)) ∙ ap (λ (u : List ℕ). joined table u) (sym (take_more es i d less)))
 
 -- ---- each at its first place
 
@@ -372,6 +372,105 @@ mutual
 row_distinct : (s : Schema) {n : List ℕ} {all : List Origin} → IsRow s n all → AreDistinct all
 row_distinct s (row {above = above} e i m rows h) = subst (λ (u : List Origin). AreDistinct u) (sym h) (places_distinct (above ++ own_attributes e))
 
+-- where an entity's own attributes are none of a supertype's row
+not_own : (s : Schema) → IsWellFormed s → (i e : ℕ) (sups : List ℕ) (up : List AttrId) → i < length s.entities → AreNamed (all_names s) sups (get_or s.entities i no_entity).supertypes → IsIn sups e → IsRowAt s e up → (o : Origin) → IsIn (map (attribute_at s) up) o → ¬ (IsIn (own_attributes (get_or s.entities i no_entity)) o)
+not_own s formed i e sups up less named there above o l r =
+    let entity = get_or s.entities i no_entity in
+    let name = entity_name s (entity_id e) in
+    let listed : IsIn entity.supertypes name = subst (λ (u : List (List ℕ)). IsIn u name) named.named (subst (λ u. IsIn (map (λ j. get_or (all_names s) j []) sups) u) (name_at s e) (in_map (λ j. get_or (all_names s) j []) sups e there)) in
+    let step : IsSupertype s entity.name name = record { entity = entity; declared = at_place s.entities i no_entity less; name_is = refl; named = listed } in
+    let mine : o.entity ≡ entity.name = own_entity entity o r in
+    ⊎_elim (λ (x : o.entity ≡ name). formed.cycles.entities entity.name (way.one (subst (λ u. IsSupertype s entity.name u) (sym x ∙ mine) step))) (λ (x : IsAncestor s name o.entity). formed.cycles.entities entity.name (way.more step (subst (λ u. IsAncestor s name u) mine x))) (row_origins s above.is o l)
+
+-- ---- what is kept of rows in which nothing stands twice
+
+any_from : (r : List AttrId) (a : AttrId) → IsIn r a → list_any (λ b. same_id b a) r ≡ true
+any_from [] a i = absurd i
+any_from (y ∷ ys) a (inl e) = rw (eq-eqb y.index a.index (ap (λ (u : AttrId). u.index) e)) refl
+any_from (y ∷ ys) a (inr i) = ⊎_elim (λ (t : same_id y a ≡ true). rw t refl) (λ (f : same_id y a ≡ false). rw f (any_from ys a i)) (cases_Bool (same_id y a))
+
+any_in : (r : List AttrId) (a : AttrId) → list_any (λ b. same_id b a) r ≡ true → IsIn r a
+any_in [] a h = absurd (false≢true h)
+any_in (y ∷ ys) a h = ⊎_elim (λ (t : same_id y a ≡ true). inl (exact_id y a t)) (λ (f : same_id y a ≡ false). inr (any_in ys a (rw f at h))) (cases_Bool (same_id y a))
+
+-- what is there is not kept again
+pub kept_known : (r xs : List AttrId) → ((a : AttrId) → IsIn xs a → IsIn r a) → all_kept r xs ≡ r
+kept_known r [] h = refl
+kept_known r (x ∷ xs) h = rw (any_from r x (h x (inl refl))) (kept_known r xs (λ a i. h a (inr i)))
+
+-- what is not there is kept
+kept_new : (r xs : List AttrId) → AreDistinct (r ++ xs) → all_kept r xs ≡ r ++ xs
+kept_new r [] h = sym (append-nil r)
+kept_new r (x ∷ xs) h =
+    ⊎_elim
+    (λ (t : list_any (λ b. same_id b x) r ≡ true). absurd (distinct_apart r (x ∷ xs) x h (any_in r x t) (inl refl)))
+    (λ (f : list_any (λ b. same_id b x) r ≡ false). rw f (kept_new (r ++ x ∷ []) xs (subst (λ (u : List AttrId). AreDistinct u) (sym (append_assoc r (x ∷ []) xs)) h) ∙ append_assoc r (x ∷ []) xs))
+    (cases_Bool (list_any (λ b. same_id b x) r))
+
+kept_distinct : (r xs : List AttrId) → AreDistinct r → AreDistinct (all_kept r xs)
+kept_distinct r [] h = h
+kept_distinct r (x ∷ xs) h =
+    ⊎_elim
+    (λ (t : list_any (λ b. same_id b x) r ≡ true). rw t (kept_distinct r xs h))
+    (λ (f : list_any (λ b. same_id b x) r ≡ false). rw f (kept_distinct (r ++ x ∷ []) xs (distinct_join r (x ∷ []) h ((λ i. i), tt) (λ y i j. ⊎_elim (λ (e : x ≡ y). false≢true (sym f ∙ any_from r x (subst (λ (u : AttrId). IsIn r u) (sym e) i))) (λ (n : ⊥). n) j))))
+    (cases_Bool (list_any (λ b. same_id b x) r))
+
+kept_in : (r xs : List AttrId) (a : AttrId) → IsIn (all_kept r xs) a → IsIn r a ⊎ IsIn xs a
+kept_in r [] a i = inl i
+kept_in r (x ∷ xs) a i =
+    ⊎_elim
+    (λ (l : IsIn (kept r x) a). ⊎_elim
+    (λ (t : list_any (λ b. same_id b x) r ≡ true). inl (rw t at l))
+    (λ (f : list_any (λ b. same_id b x) r ≡ false). ⊎_elim (λ (m : IsIn r a). inl m) (λ (m : IsIn (x ∷ []) a). ⊎_elim (λ (e : x ≡ a). inr (inl e)) (λ (n : ⊥). absurd n) m) (in_either r (x ∷ []) a (rw f at l)))
+    (cases_Bool (list_any (λ b. same_id b x) r)))
+    (λ (r' : IsIn xs a). inr (inr r'))
+    (kept_in (kept r x) xs a i)
+
+joined_in : (table : ℕ → List AttrId) (es : List ℕ) (a : AttrId) → IsIn (joined table es) a → (e : ℕ) × (IsIn es e × IsIn (table e) a)
+joined_in table [] a i = absurd i
+joined_in table (e ∷ es) a i = ⊎_elim (λ (l : IsIn (table e) a). (e, (inl refl, l))) (λ (r : IsIn (joined table es) a). let w = joined_in table es a r in (w.0, (inr w.1.0, w.1.1))) (in_either (table e) (joined table es) a i)
+
+ids_from_on : (i n : ℕ) (a : AttrId) → IsIn (ids_from i n) a → i ≤ a.index
+ids_from_on i zero a m = absurd m
+ids_from_on i (suc n) a (inl e) = let f : i ≡ a.index = ap (λ (u : AttrId). u.index) e in omega (arith, f)
+ids_from_on i (suc n) a (inr m) = let h = ids_from_on (suc i) n a m in omega (arith, h)
+
+ids_distinct : (i n : ℕ) → AreDistinct (ids_from i n)
+ids_distinct i zero = tt
+ids_distinct i (suc n) = ((λ m. let h : suc i ≤ i = ids_from_on (suc i) n (record { index = i }) m in absurd (omega (arith, h))), ids_distinct (suc i) n)
+
+distinct_unmap : (s : Schema) (xs : List AttrId) → AreDistinct (map (attribute_at s) xs) → AreDistinct xs
+distinct_unmap s [] h = tt
+distinct_unmap s (x ∷ xs) h = ((λ i. h.0 (in_map (attribute_at s) xs x i)), distinct_unmap s xs h.1)
+
+first_kept : (s : Schema) (table : ℕ → List AttrId) (sups : List ℕ) → ((e : ℕ) → IsIn sups e → IsRowAt s e (table e)) → all_kept (first_of table sups) (joined table sups) ≡ all_kept [] (joined table sups)
+first_kept s table [] rows = refl
+first_kept s table (e ∷ es) rows =
+    let one = table e in
+    let rest = joined table es in
+    let alone : all_kept [] one ≡ one = kept_new [] one (distinct_unmap s one (row_distinct s (rows e (inl refl)).is)) in
+    all_kept_append one one rest ∙ ap (λ (u : List AttrId). all_kept u rest) (kept_known one one (λ a i. i) ∙ sym alone) ∙ sym (all_kept_append [] one rest)
+
+pub several_is : (s : Schema) → IsWellFormed s → (i : ℕ) (sups : List ℕ) (table : ℕ → List AttrId) (own : Own) → i < length s.entities → IsOwn s i own → AreNamed (all_names s) sups (get_or s.entities i no_entity).supertypes → ((e : ℕ) → IsIn sups e → IsRowAt s e (table e))
+    → all_kept (first_of table sups) (joined table sups) ++ ids_from own.from (own.to - own.from) ≡ all_kept [] (joined table sups ++ ids_from own.from (own.to - own.from))
+several_is s formed i sups table own less is named rows =
+    let entity = get_or s.entities i no_entity in
+    let ids = ids_from own.from (own.to - own.from) in
+    let above = joined table sups in
+    let n : own.to - own.from ≡ length (own_attributes entity) = omega (arith, is.count) in
+    let owns : map (attribute_at s) ids ≡ own_attributes entity = (λ j. map (attribute_at s) (ids_from (is.from j) (n j))) ∙ own_is s i less in
+    let apart : (a : AttrId) → IsIn (all_kept [] above) a → ¬ (IsIn ids a) = λ a l r.
+    ⊎_elim (λ (x : ⊥). x) (λ (m : IsIn above a). let w = joined_in table sups a m in
+    not_own s formed i w.0 sups (table w.0) less named w.1.0 (rows w.0 w.1.0) (attribute_at s a) (in_map (attribute_at s) (table w.0) a w.1.1) (subst (λ (u : List Origin). IsIn u (attribute_at s a)) owns (in_map (attribute_at s) ids a r))) (kept_in [] above a l) in
+    let distinct : AreDistinct (all_kept [] above ++ ids) = distinct_join (all_kept [] above) ids (kept_distinct [] above tt) (ids_distinct own.from (own.to - own.from)) apart in
+    ap (λ (u : List AttrId). u ++ ids) (first_kept s table sups rows) ∙ sym (kept_new (all_kept [] above) ids distinct) ∙ sym (all_kept_append [] above ids)
+
+-- what both rows begin with is passed
+pub passed_over : (r xs : List AttrId) (n : ℕ) → take n xs ≡ take n r → all_kept r (drop n xs) ≡ all_kept r xs
+passed_over r xs n same =
+    let known : all_kept r (take n xs) ≡ r = kept_known r (take n xs) (λ a i. in_front n r a (subst (λ (u : List AttrId). IsIn u a) same i)) in
+    ap (λ (u : List AttrId). all_kept u (drop n xs)) (sym known) ∙ sym (all_kept_append r (take n xs) (drop n xs)) ∙ ap (λ (u : List AttrId). all_kept r u) (take-append-drop n xs)
+
 pub row_below : (s : Schema) → IsWellFormed s → (i sup : ℕ) (own : Own) (up ids : List AttrId) → i < length s.entities → IsOwn s i own → AreNamed (all_names s) (sup ∷ []) (get_or s.entities i no_entity).supertypes → IsRowAt s sup up
     → ids ≡ up ++ ids_from own.from (own.to - own.from) → IsRowAt s i ids
 row_below s formed i sup own up ids less is named above e =
@@ -380,13 +479,8 @@ row_below s formed i sup own up ids less is named above e =
     let owns : map (attribute_at s) (ids_from own.from (own.to - own.from)) ≡ own_attributes entity = (λ j. map (attribute_at s) (ids_from (is.from j) (n j))) ∙ own_is s i less in
     let aboves = map (attribute_at s) up in
     let all : map (attribute_at s) ids ≡ aboves ++ own_attributes entity = ap (λ (u : List AttrId). map (attribute_at s) u) e ∙ map-append (attribute_at s) up (ids_from own.from (own.to - own.from)) ∙ ap (λ (u : List Origin). aboves ++ u) owns in
-    let name = entity_name s (entity_id sup) in
     let here : IsIn s.entities entity = at_place s.entities i no_entity less in
-    let listed : IsIn entity.supertypes name = subst (λ (u : List (List ℕ)). IsIn u name) named.named (inl (name_at s sup)) in
-    let step : IsSupertype s entity.name name = record { entity = entity; declared = here; name_is = refl; named = listed } in
-    let apart : (o : Origin) → IsIn aboves o → ¬ (IsIn (own_attributes entity) o) = λ o l r.
-    let mine : o.entity ≡ entity.name = own_entity entity o r in
-    ⊎_elim (λ (x : o.entity ≡ name). formed.cycles.entities entity.name (way.one (subst (λ u. IsSupertype s entity.name u) (sym x ∙ mine) step))) (λ (x : IsAncestor s name o.entity). formed.cycles.entities entity.name (way.more step (subst (λ u. IsAncestor s name u) mine x))) (row_origins s above.is o l) in
+    let apart = not_own s formed i sup (sup ∷ []) up less named (inl refl) above in
     let own_apart : AreDistinct (own_attributes entity) = own_distinct entity.name (new_explicit entity.attributes) (distinct_left (new_explicit entity.attributes) (new_derived entity.derived) (holds_of (λ (e : Entity). AreDistinct (new_names e)) s.entities entity formed.repeated.attributes here)) in
     let distinct : AreDistinct (aboves ++ own_attributes entity) = distinct_join aboves (own_attributes entity) (row_distinct s above.is) own_apart apart in
     record {

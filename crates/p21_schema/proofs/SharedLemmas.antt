@@ -13,7 +13,7 @@ use Rattle.p21_schema.specs.Place.{no_entity}
 use Rattle.p21_schema.specs.Reach.{ArePlaces}
 use Rattle.p21_schema.proofs.Members.{place_of}
 use Rattle.p21_schema.proofs.AncestryLemmas.{all_names, distinct_entities}
-use Rattle.p21_schema.proofs.RowLemmas.{row_below, row_at, attributes_distinct}
+use Rattle.p21_schema.proofs.RowLemmas.{row_below, row_at, several_is, attributes_distinct}
 use Rattle.p21_schema.specs.RowTable.{ids_from, row_in, IsOwn, IsRowAt, IsNextRow, below, several, Begins, IsSharedRow, AreSharedRows, IsSamePosition}
 
 at_front : {X : Type 0} (xs ys : List X) (k : ℕ) → k < length xs → slice_get (xs ++ ys) k ≡ slice_get xs k
@@ -146,7 +146,7 @@ pub next_at : (s : Schema) → IsWellFormed s → (i : ℕ) (sups : List ℕ) (t
 next_at s formed i sups table own ids less is named rows (below e one eq) =
     row_below s formed i e own (table e) ids less is (subst (λ (u : List ℕ). AreNamed (all_names s) u (get_or s.entities i no_entity).supertypes) one named) (rows e (subst (λ (u : List ℕ). IsIn u e) (sym one) (inl refl))) eq
 next_at s formed i sups table own ids less is named rows (several eq) =
-    row_at s i table sups own ids (attributes_distinct s.entities (distinct_entities s formed.repeated) formed.repeated.attributes) less is named rows eq
+    row_at s i table sups own ids (attributes_distinct s.entities (distinct_entities s formed.repeated) formed.repeated.attributes) less is named rows (eq ∙ several_is s formed i sups table own less is named rows)
 
 -- the row of one entity more
 pub rows_push_at : (P : ℕ → List AttrId → Type 0) (all : List (List AttrId)) (ids : List AttrId) (order : List ℕ) (i : ℕ) → length all ≡ i → ((k : ℕ) → k < i → P (get_or order k 0) (get_or all k [])) → P (get_or order i 0) ids → (k : ℕ) → k < i + 1 → P (get_or order k 0) (get_or (all ++ ids ∷ []) k [])

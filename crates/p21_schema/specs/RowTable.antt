@@ -45,6 +45,11 @@ abbrev pub joined : (ℕ → List AttrId) → List ℕ → List AttrId
 joined row [] = []
 joined row (e ∷ es) = row e ++ joined row es
 
+-- the row of the first one
+abbrev pub first_of : (ℕ → List AttrId) → List ℕ → List AttrId
+first_of row [] = []
+first_of row (e ∷ es) = row e
+
 -- the row of an entity among rows, by its place there
 abbrev pub row_in : List (List AttrId) → List ℕ → ℕ → List AttrId
 row_in all places e = get_or all (get_or places e 0) []
@@ -52,7 +57,7 @@ row_in all places e = get_or all (get_or places e 0) []
 -- the row of an entity by those of its supertypes: where there is one, nothing stands twice
 pub data IsNextRow (row : ℕ → List AttrId) : List ℕ → Own → List AttrId → Type 0 where
   below : {sups : List ℕ} {own : Own} {ids : List AttrId} (e : ℕ) → sups ≡ e ∷ [] → ids ≡ row e ++ ids_from own.from (own.to - own.from) → IsNextRow row sups own ids
-  several : {sups : List ℕ} {own : Own} {ids : List AttrId} → ids ≡ all_kept [] (joined row sups ++ ids_from own.from (own.to - own.from)) → IsNextRow row sups own ids
+  several : {sups : List ℕ} {own : Own} {ids : List AttrId} → ids ≡ all_kept (first_of row sups) (joined row sups) ++ ids_from own.from (own.to - own.from) → IsNextRow row sups own ids
 
 -- the row of the entity at a place
 pub record IsRowAt (s : Schema) (i : ℕ) (ids : List AttrId) : Type 0 where

@@ -1,6 +1,6 @@
 //! The declarations of each attribute.
 
-ghost use Rattle.std.specs.Prelude.{◌≡◌, ◌<◌, ◌↔◌, ◌++◌, ◌∷◌, ℕ, List, [], length, get_or, map, set, IfOk, OnOk, IsTrue, MatchOption};
+ghost use Rattle.std.specs.Prelude.{◌≡◌, ◌<◌, ◌↔◌, ◌++◌, ◌∷◌, ℕ, List, [], length, get_or, map, set, IfOk, OnOk, IsTrue, MatchOption, None};
 ghost use Rattle.p21_express.specs.Plain.{plain_entity, plain_attribute, plain_derived};
 ghost use Rattle.p21_schema.specs.DeclarationTable.{known_schema, IsNotOwn, IsOwnAt, IsOriginAt, IsDeclared, IsDeclarationTable, IsFitting};
 ghost use Rattle.p21_express.specs.WellFormed.{IsIn, IsEntity, IsOrigin, Origin, new_explicit};
@@ -113,15 +113,24 @@ fn again(known: &Known, of: &[u8], name: &[u8]) -> Option<usize>
     attribute_above(known, known.entities.known(of), name)
 }
 
-/// The attribute that an explicit declaration declares.
-fn explicit_attribute(known: &Known, entity: usize, attribute: &AttrDecl) -> Option<usize>
+/// The attribute that an explicit declaration declares. Where it newly declares one, that is the entity's own at this position.
+fn explicit_attribute(
+    known: &Known,
+    entity: usize,
+    attribute: &AttrDecl,
+    position: usize,
+) -> Option<usize>
     requires known { IsFitting known.now }
     requires entity { entity < length (known_schema known.now).entities }
     requires attribute { IsIn (get_or (known_schema known.now).entities entity no_entity).attributes (plain_attribute attribute.now) }
+    requires position { (plain_attribute attribute.now).of ≡ None → (position < length (new_explicit (get_or (known_schema known.now).entities entity no_entity).attributes)) × (get_or (new_explicit (get_or (known_schema known.now).entities entity no_entity).attributes) position [] ≡ (plain_attribute attribute.now).name) }
     ensures { IsDeclared (known_schema known.now) (written_explicit (get_or (known_schema known.now).entities entity no_entity).name (plain_attribute attribute.now)) result }
 {
     match &attribute.of {
-        None => own_attribute(known, entity, &attribute.name),
+        None => {
+            let own = known.own[entity];
+            Some(own.from + position)
+        }
         Some(of) => again(known, of, &attribute.name),
     }
 }
@@ -165,13 +174,17 @@ fn add_explicit(
     ensures table { OnOk result ((ws : List Written) → IsDeclarationTable (known_schema known.now) ws (rows_of lists.old) → IsDeclarationTable (known_schema known.now) (ws ++ explicit_in (get_or (known_schema known.now).entities entity no_entity)) (rows_of lists.new)) }
     ensures count { OnOk result (length (rows_of lists.new) ≡ length (rows_of lists.old)) }
 {
+    let mut position = 0;
     for attribute in &known.declarations.entities[entity].attributes {
-        if let Some(place) = explicit_attribute(known, entity, attribute) {
+        if let Some(place) = explicit_attribute(known, entity, attribute, position) {
             let texpr = resolve(alloc, known.entities, known.types, &attribute.texpr)?;
             let optional = attribute.optional;
             let form = Form::Explicit { optional, texpr };
             let entity = EntityId { index: entity };
             add(lists, place, Declaration { entity, form })?;
+        }
+        if attribute.of.is_none() {
+            position += 1;
         }
     }
     Ok(())

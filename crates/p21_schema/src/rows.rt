@@ -1,13 +1,13 @@
 //! The own attributes and the row of each entity.
 
-ghost use Rattle.std.specs.Prelude.{◌≡◌, ◌<◌, ◌≤◌, ◌+◌, ◌-◌, ◌++◌, ◌∷◌, ℕ, List, [], Some, slice_get, replicate, length, get_or, map, IfOk, OnOk};
+ghost use Rattle.std.specs.Prelude.{◌≡◌, ◌<◌, ◌≤◌, ◌+◌, ◌-◌, ◌++◌, ◌∷◌, ℕ, List, [], Some, slice_get, take, replicate, length, get_or, map, IfOk, OnOk};
 ghost use Rattle.p21_express.specs.Schema.{Schema};
 ghost use Rattle.p21_express.specs.Plain.{plain_entity, plain_schema};
 ghost use Rattle.p21_express.specs.WellFormed.{IsIn, AreDistinct, IsWellFormed, new_explicit};
 ghost use Rattle.p21_schema.specs.Graph.{rows_of, plain_graph, IsOrder};
 ghost use Rattle.p21_schema.specs.Ancestry.{AreSupertypesNamed};
 ghost use Rattle.p21_schema.specs.Row.{attributes_of};
-ghost use Rattle.p21_schema.specs.RowTable.{no_own, IsOwnTable, IsRowTable, kept, all_kept, ids_from, joined, row_in, Begins, IsSharedRow, AreSharedRows, IsSamePosition, IsNextRow};
+ghost use Rattle.p21_schema.specs.RowTable.{no_own, IsOwnTable, IsRowTable, kept, all_kept, ids_from, joined, first_of, row_in, Begins, IsSharedRow, AreSharedRows, IsSamePosition, IsNextRow};
 ghost use Rattle.p21_schema.specs.declared.ids.AttrId.{AttrId};
 ghost use Rattle.p21_schema.specs.declared.rows.Row.{Row};
 
@@ -70,8 +70,21 @@ fn keep(row: &mut Vec<AttrId>, attribute: AttrId) -> Result<(), AllocError>
     Ok(())
 }
 
+/// With how many of the same attributes two rows begin.
+fn common(row: &[AttrId], attributes: &[AttrId]) -> usize
+    ensures within { result ≤ length attributes.now }
+    ensures same { take result attributes.now ≡ take result row.now }
+{
+    for position in 0..attributes.len() {
+        if position >= row.len() || row[position] != attributes[position] {
+            return position;
+        }
+    }
+    attributes.len()
+}
+
 /// Each of these attributes behind the others, where it does not stand among them.
-fn keep_all(row: &mut Vec<AttrId>, attributes: &[AttrId]) -> Result<(), AllocError>
+fn keep_each(row: &mut Vec<AttrId>, attributes: &[AttrId]) -> Result<(), AllocError>
     ensures { OnOk result (row.new.items ≡ all_kept row.old.items attributes.now) }
 {
     for attribute in attributes {
@@ -80,15 +93,12 @@ fn keep_all(row: &mut Vec<AttrId>, attributes: &[AttrId]) -> Result<(), AllocErr
     Ok(())
 }
 
-/// The own attributes behind the others.
-fn keep_own(row: &mut Vec<AttrId>, own: Own) -> Result<(), AllocError>
-    requires { own.from ≤ own.to }
-    ensures { OnOk result (row.new.items ≡ all_kept row.old.items (ids_from own.from (own.to - own.from))) }
+/// The same, where those with which both begin are passed at once.
+fn keep_all(row: &mut Vec<AttrId>, attributes: &[AttrId]) -> Result<(), AllocError>
+    ensures { OnOk result (row.new.items ≡ all_kept row.old.items attributes.now) }
 {
-    for index in own.from..own.to {
-        keep(row, AttrId { index })?;
-    }
-    Ok(())
+    let same = common(row, attributes);
+    keep_each(row, &attributes[same..])
 }
 
 /// The row of an entity: it begins with so many attributes of an earlier row, and then has the rest. So a long row that many
@@ -249,7 +259,24 @@ fn below(alloc: Global, rows: &[Row], above: usize, own: Own) -> Result<Row, All
     copied(alloc, rows, above, own)
 }
 
-/// The row of an entity by those of its supertypes.
+/// The row of the first supertype, where there is one.
+fn first_row(
+    alloc: Global,
+    supertypes: &[usize],
+    places: &[usize],
+    rows: &[Row],
+) -> Result<Vec<AttrId>, AllocError>
+    requires supertypes { (e : ℕ) → IsIn supertypes.now e → (e < length places.now) × (get_or places.now e 0 < length rows.now) }
+    requires rows { (all : List (List AttrId)) × AreSharedRows all rows.now }
+    ensures { IfOk result (λ row. (all : List (List AttrId)) → AreSharedRows all rows.now → row.items ≡ first_of (row_in all places.now) supertypes.now) }
+{
+    if supertypes.is_empty() {
+        return Ok(Vec::new(alloc));
+    }
+    whole(alloc, rows, places[supertypes[0]])
+}
+
+/// The row of an entity by those of its supertypes: the first one's, of the others what does not stand there, and its own attributes.
 fn row_of(
     alloc: Global,
     supertypes: &[usize],
@@ -260,14 +287,14 @@ fn row_of(
     requires supertypes { (e : ℕ) → IsIn supertypes.now e → (e < length places.now) × (get_or places.now e 0 < length rows.now) }
     requires own { own.from ≤ own.to }
     requires rows { (all : List (List AttrId)) × AreSharedRows all rows.now }
-    ensures { IfOk result (λ row. (all : List (List AttrId)) → AreSharedRows all rows.now → IsSharedRow (all ++ all_kept [] (joined (row_in all places.now) supertypes.now ++ ids_from own.from (own.to - own.from)) ∷ []) (length rows.now) row) }
+    ensures { IfOk result (λ row. (all : List (List AttrId)) → AreSharedRows all rows.now → IsSharedRow (all ++ (all_kept (first_of (row_in all places.now) supertypes.now) (joined (row_in all places.now) supertypes.now) ++ ids_from own.from (own.to - own.from)) ∷ []) (length rows.now) row) }
 {
-    let mut row = Vec::new(alloc);
+    let mut row = first_row(alloc, supertypes, places, rows)?;
     for supertype in supertypes {
         let ids = whole(alloc, rows, places[*supertype])?;
         keep_all(&mut row, &ids)?;
     }
-    keep_own(&mut row, own)?;
+    push_own(&mut row, own)?;
     Ok(alone(rows.len(), row))
 }
 

@@ -1,10 +1,11 @@
-use Rattle.std.proofs.Common.{◌≡◌, Some, None, option_map, get_or, ap, subst, ℕ, List, MatchOption}
+use Rattle.std.proofs.Common.{◌≡◌, ◌+◌, Some, None, option_map, get_or, refl, ap, ℕ}
 use Rattle.std.specs.Prelude.{Vec}
 use Rattle.p21_express.specs.Plain.{plain_attribute}
-use Rattle.p21_schema.specs.DeclarationTable.{known_schema, IsNotOwn, IsOwnAt}
+use Rattle.p21_schema.specs.DeclarationTable.{known_schema}
 use Rattle.p21_schema.specs.Declaration.{written_explicit}
 use Rattle.p21_schema.specs.Place.{no_entity}
-use Rattle.p21_schema.proofs.DeclarationLemmas.{explicit_redeclares, ancestor_known, declared_newly, declared_again}
+use Rattle.p21_schema.specs.RowTable.{no_own}
+use Rattle.p21_schema.proofs.DeclarationLemmas.{explicit_redeclares, ancestor_known, declared_newly, declared_again, own_is_at}
 use Rattle.p21_schema.proofs.declarations.explicit_attribute.Goals as goal
 
 pub again-requires-clause-of : goal.again-requires-clause-of
@@ -12,14 +13,17 @@ again-requires-clause-of c =
     let s = known_schema c.args.known.now in
     let of : (plain_attribute c.args.attribute.now).of ≡ Some c.in-Some.of.items = ap (option_map (λ (n : Vec ℕ _). n.items)) c.in-Some.is in
     let r = explicit_redeclares s c.requires.known.well_formed c.args.entity c.requires.entity (plain_attribute c.args.attribute.now) c.in-Some.of.items c.requires.attribute of in
-    rw c.deref-in-Some.ensures.value (ancestor_known s c.requires.known.well_formed r.1.ancestor)
+    rw c.deref.ensures.value (ancestor_known s c.requires.known.well_formed r.1.ancestor)
 
 pub returns-in-None : goal.returns-in-None
 returns-in-None c =
     let s = known_schema c.args.known.now in
-    let of : (plain_attribute c.args.attribute.now).of ≡ None = ap (option_map (λ (n : Vec ℕ _). n.items)) c.in-None.is in
-    declared_newly s c.requires.known.well_formed c.args.entity (plain_attribute c.args.attribute.now) c.own_attribute.result c.requires.attribute of
-    (subst (λ (n : List ℕ). MatchOption c.own_attribute.result (IsNotOwn s c.args.entity n) (λ i. IsOwnAt s c.args.entity n i)) c.deref.ensures.value c.own_attribute.ensures)
+    let a = plain_attribute c.args.attribute.now in
+    let table = c.args.known.now.own.now in
+    let e = c.args.entity in
+    let of : a.of ≡ None = ap (option_map (λ (n : Vec ℕ _). n.items)) c.in-None.is in
+    declared_newly s c.requires.known.well_formed e a (Some ((get_or table e no_own).from + c.args.position)) c.requires.attribute of
+    (own_is_at s table e (get_or table e no_own) a.name c.args.position ((get_or table e no_own).from + c.args.position) c.requires.known.own c.requires.entity refl (c.requires.position of) refl)
 
 pub returns-in-Some : goal.returns-in-Some
 returns-in-Some c =
@@ -28,4 +32,4 @@ returns-in-Some c =
     let of : a.of ≡ Some c.in-Some.of.items = ap (option_map (λ (n : Vec ℕ _). n.items)) c.in-Some.is in
     let r = explicit_redeclares s c.requires.known.well_formed c.args.entity c.requires.entity a c.in-Some.of.items c.requires.attribute of in
     declared_again s c.requires.known.well_formed (written_explicit (get_or s.entities c.args.entity no_entity).name a) c.in-Some.of.items r.0 c.again.result of r.1
-    (rw (c.deref-in-Some.ensures.value, c.deref-in-Some-2.ensures.value) at c.again.ensures)
+    (rw (c.deref.ensures.value, c.deref-in-Some.ensures.value) at c.again.ensures)

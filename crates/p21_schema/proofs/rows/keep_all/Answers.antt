@@ -1,5 +1,14 @@
-use Rattle.p21_schema.proofs.RowLemmas.{kept_more}
+use Rattle.std.proofs.Common.{◌≡◌, List, ap, take, ◌∙◌}
+use Rattle.std.proofs.lemmas.List.{take_rest}
+use Rattle.std.proofs.lemmas.Result.{IfOk-weaker}
+use Rattle.p21_schema.specs.declared.ids.AttrId.{AttrId}
+use Rattle.p21_schema.specs.RowTable.{all_kept}
+use Rattle.p21_schema.proofs.RowLemmas.{passed_over}
 use Rattle.p21_schema.proofs.rows.keep_all.Goals as goal
 
-pub loop-attribute-preserved : goal.loop-attribute-preserved
-loop-attribute-preserved c = kept_more c.args.row.now.items c.loop-attribute.row.items c.keep.new.row.items c.args.attributes.now c.loop-attribute.attribute-index (record { index = 0 }) c.loop-attribute-test.true c.loop-attribute.invariant c.in_ok-keep.ensures
+pub returns : goal.returns
+returns c =
+    let row = c.args.row.now.items in
+    let n = c.common-same.result in
+    let same : take n c.args.attributes.now ≡ take n row = c.common-same.ensures.same ∙ ap (λ (u : List AttrId). take n u) c.deref.ensures.value in
+    IfOk-weaker c.keep_each.result _ _ (λ _ e. e ∙ ap (λ (u : List AttrId). all_kept row u) (take_rest c.args.attributes.now n) ∙ passed_over row c.args.attributes.now n same) c.keep_each.ensures

@@ -1,7 +1,7 @@
 use Rattle.std.proofs.Common.{◌≡◌, ◌<◌, ◌-◌, ◌++◌, ◌∷◌, [], List, length, get_or, refl, sym, arith, rules}
 use Rattle.std.proofs.lemmas.Result.{IfOk-weaker}
 use Rattle.p21_schema.specs.declared.ids.AttrId.{AttrId}
-use Rattle.p21_schema.specs.RowTable.{all_kept, joined, row_in, ids_from, AreSharedRows, IsSharedRow, IsNextRow, below, several}
+use Rattle.p21_schema.specs.RowTable.{all_kept, joined, first_of, row_in, ids_from, AreSharedRows, IsSharedRow, IsNextRow, below, several}
 use Rattle.p21_schema.proofs.Members.{at_place}
 use Rattle.p21_schema.proofs.SharedLemmas.{lone_is}
 use Rattle.p21_schema.proofs.rows.next_row.Goals as goal
@@ -29,4 +29,4 @@ returns-then-supertypes-eq1 c =
 
 pub returns-else-supertypes-eq1 : goal.returns-else-supertypes-eq1
 returns-else-supertypes-eq1 c =
-    IfOk-weaker c.row_of.result _ _ (λ row r all h. (all_kept [] (joined (row_in all c.args.places.now) c.args.supertypes.now ++ ids_from c.args.own.from (c.args.own.to - c.args.own.from)), (several refl, r all h))) c.row_of.ensures
+    IfOk-weaker c.row_of.result _ _ (λ row r all h. (all_kept (first_of (row_in all c.args.places.now) c.args.supertypes.now) (joined (row_in all c.args.places.now) c.args.supertypes.now) ++ ids_from c.args.own.from (c.args.own.to - c.args.own.from), (several refl, r all h))) c.row_of.ensures
