@@ -173,7 +173,7 @@ fn say_duplicate(
         &[Part::Words(" is the name of an earlier instance too")],
     )?;
     if let Some(name) = name_of(piece) {
-        if let Some(earlier) = find(subject.file, name) {
+        if let Some(earlier) = find(subject.file, name, piece.at as usize) {
             say(said, &[Part::Words(", of ")])?;
             say_instance(alloc, said, subject.file, &earlier)?;
         }
