@@ -79,6 +79,7 @@ where
 }
 
 /// By what it is told how far a run is.
+#[derive(Drop)]
 struct Told<C, P> {
     clock: C,
     out: P,

@@ -35,6 +35,7 @@ pub(crate) enum Stage {
 }
 
 /// How far a run is. The workers share it by reference, as the gate that they pass.
+#[derive(Drop)]
 pub(crate) struct Progress<C, P> {
     clock: C,
     is_shown: bool,

@@ -8,6 +8,7 @@ use std::io::Write;
 use std::time::Clock;
 
 /// A source, and the progress that is told how many bytes it gave.
+#[derive(Drop)]
 pub(crate) struct Watched<'p, S, C, P> {
     source: S,
     bytes: u64,
