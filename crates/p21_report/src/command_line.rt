@@ -147,14 +147,38 @@ where
     progress.tell(Stage::Schema);
     let mut schema = Opened::new(rt, wanted.schema);
     let mut out = Stream::new(output);
-    let mut explainer = Explainer::new(alloc, &progress, wanted.schema, wanted.file, wanted.explained);
+    let mut explainer = Explainer::new(
+        alloc,
+        &progress,
+        wanted.schema,
+        wanted.file,
+        wanted.explained,
+    );
     let (outcome, error) = if wanted.file == "-" {
         let mut file = Watched::new(Stream::new(input), &progress);
-        let outcome = run_wanted(rt, alloc, &wanted, &progress, &mut schema, &mut file, &mut out, &mut explainer);
+        let outcome = run_wanted(
+            rt,
+            alloc,
+            &wanted,
+            &progress,
+            &mut schema,
+            &mut file,
+            &mut out,
+            &mut explainer,
+        );
         (outcome, file.source().error())
     } else {
         let mut file = Watched::new(Opened::new(rt, wanted.file), &progress);
-        let outcome = run_wanted(rt, alloc, &wanted, &progress, &mut schema, &mut file, &mut out, &mut explainer);
+        let outcome = run_wanted(
+            rt,
+            alloc,
+            &wanted,
+            &progress,
+            &mut schema,
+            &mut file,
+            &mut out,
+            &mut explainer,
+        );
         (outcome, file.source().error())
     };
     progress.remove();

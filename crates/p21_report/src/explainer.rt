@@ -14,8 +14,7 @@ use std::time::Clock;
 const COLUMNS: usize = 120;
 
 /// What is said of an input that is too long.
-const TOO_LONG: &str =
-    "a bound was passed: a schema has at most 16777216 bytes, a file 4294967296";
+const TOO_LONG: &str = "a bound was passed: a schema has at most 16777216 bytes, a file 4294967296";
 
 /// Hears how far a run is, and its faults, and keeps what is to be said of these until the report is written. Where there is no memory
 /// for it, less is said.
@@ -66,7 +65,11 @@ impl<'a, C: Clock, P: Write> Explainer<'a, C, P> {
     /// Adds which device failed: the last that answered an error.
     fn add_failure(&mut self, errors: [Option<io::Error>; 3]) -> Result<(), AllocError> {
         let [schema, file, output] = errors;
-        let input = if self.file == "-" { "standard input" } else { self.file };
+        let input = if self.file == "-" {
+            "standard input"
+        } else {
+            self.file
+        };
         match (schema, file, output) {
             (_, _, Some(error)) => self.add_error("standard output", error),
             (_, Some(error), None) => self.add_error(input, error),

@@ -14,6 +14,7 @@ const EVERY: u64 = 256;
 
 /// Of each so many bytes of a file the first few are looked at, to tell about how many pieces it has.
 const STRIDE: usize = 16384;
+
 const SAMPLE: usize = 256;
 
 const MEGABYTE: u64 = 1_000_000;
@@ -138,9 +139,7 @@ impl<P: Write> Line<P> {
     fn write(&mut self, stage: Stage) -> io::Result<()> {
         match stage {
             Stage::Schema => write!(self.out, "p21check: schema"),
-            Stage::File { bytes } => {
-                write!(self.out, "p21check: file, {} MB", bytes / MEGABYTE)
-            }
+            Stage::File { bytes } => { write!(self.out, "p21check: file, {} MB", bytes / MEGABYTE) }
             Stage::Instances { share, bytes } => write!(
                 self.out,
                 "p21check: instances, about {share} % of {} MB",
