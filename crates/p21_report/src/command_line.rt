@@ -21,7 +21,7 @@ use std::time::Clock;
 /// The program `p21check SCHEMA FILE [--lanes N] [--capacity N] [--all] [--distinct] [--explain[=N]] [--progress]`: reads the schema,
 /// checks the file against it by so many lanes (4, if not said) of this capacity (256), and writes the report to `output`, by `--all`
 /// with all faults of the file. With `--distinct` a SET or a LIST OF UNIQUE that names one instance twice is a fault. Where it is asked
-/// for, at most N faults (20) are then explained on `errors`, or what a device failed of.
+/// for, at most N faults (20) are then explained on `errors`, and a device that failed, where there is memory.
 /// `words` are the words of the command line, the program's own name first; FILE `-` is `input`, and `rt` opens the others,
 /// FILE only where the schema was read. The answer is the status to end with: 0 where the file was read, 1 where it has a
 /// fault, 2 where the words were refused (clap's text goes to `errors`), 3 where the schema was refused, 4 where a path cannot
@@ -182,9 +182,7 @@ where
         (outcome, file.source().error())
     };
     progress.remove();
-    if outcome == Outcome::Device {
-        explainer.hear_failure([schema.error(), error, out.error()]);
-    }
+    explainer.hear_end(outcome, [schema.error(), error, out.error()]);
     *said = explainer.into_said();
     status_of(outcome)
 }

@@ -3,7 +3,7 @@
 use crate::progress::{Progress, Stage};
 use p21_explain::{explain_device, explain_fault, explain_schema_fault, summary};
 use p21_express::SchemaError;
-use p21_run::Listener;
+use p21_run::{Listener, Outcome};
 use p21_schema::Schema;
 use p21_tree::Fault;
 use std::alloc::{AllocError, Global};
@@ -55,8 +55,17 @@ impl<'a, C: Clock, P: Write> Explainer<'a, C, P> {
         self.said
     }
 
-    /// Hears that a device failed, and the last errors of the schema, of the file and of the output.
-    pub(crate) fn hear_failure(&mut self, errors: [Option<io::Error>; 3]) {
+    /// Hears how the run ended, with the last errors of the schema, of the file and of the output. Where there was no memory nothing is said.
+    pub(crate) fn hear_end(&mut self, outcome: Outcome, errors: [Option<io::Error>; 3]) {
+        match outcome {
+            Outcome::Complete | Outcome::Faulty | Outcome::SchemaRefused => {}
+            Outcome::Device => self.hear_failure(errors),
+            Outcome::Memory => self.said.clear(),
+        }
+    }
+
+    /// Hears that a device failed.
+    fn hear_failure(&mut self, errors: [Option<io::Error>; 3]) {
         if self.most > 0 {
             let _ = self.add_failure(errors);
         }
