@@ -6,7 +6,7 @@ _p21check() {
     --capacity) mapfile -t COMPREPLY < <(compgen -W '1 16 64 256 1024 4096' -- "$word") && return ;;
     esac
     if [[ $word == -* ]]; then
-        mapfile -t COMPREPLY < <(compgen -W '--lanes --capacity --all --distinct --explain --help --version' -- "$word")
+        mapfile -t COMPREPLY < <(compgen -W '--lanes --capacity --all --distinct --explain --progress --help --version' -- "$word")
         return
     fi
     # The first word that is no option and no value of one is the schema, the second the file.

@@ -11,9 +11,9 @@ use crate::records::{is_complex, keyword, keywords};
 use crate::redeclared::{Kinds, say_declared};
 use crate::references::{say_instance, say_kind, say_named};
 use crate::said::{Part, article, say, say_front};
-use crate::spots::{Spot, parameter_count, reference_at, token_at};
+use crate::spots::{Spot, integer_in, parameter_count, reference_at, repeated_in, token_at};
 use crate::subject::Subject;
-use crate::types::{is_select, type_named};
+use crate::types::{is_of_reals, is_select, type_named};
 use crate::values::say_value;
 use p21_schema::EntityId;
 use p21_text::Token;
@@ -49,13 +49,7 @@ pub(crate) fn say_instance_fault(
         }
         FaultKind::RepeatedReference { rec, attr } => {
             say_attribute(said, subject, piece, rec, attr)?;
-            say(
-                said,
-                &[Part::Words(
-                    ". In its place a SET or a LIST OF UNIQUE names one instance twice.",
-                )],
-            )?;
-            Ok(place_in(bytes, Spot::Parameter { rec, attr }))
+            say_repeated(said, bytes, rec, attr)
         }
         FaultKind::MissingReference { rec, attr, name } => {
             say_attribute(said, subject, piece, rec, attr)?;
@@ -83,6 +77,30 @@ fn say_name(said: &mut Vec<u8>, before: &str, name: u64) -> Result<(), AllocErro
     say(said, &[Part::Words(before), Part::Number(name)])
 }
 
+/// Adds which instance a list names twice.
+fn say_repeated(
+    said: &mut Vec<u8>,
+    bytes: &[u8],
+    rec: u64,
+    attr: u64,
+) -> Result<usize, AllocError> {
+    say(
+        said,
+        &[Part::Words(". In its place a SET or a LIST OF UNIQUE names ")],
+    )?;
+    match repeated_in(bytes, rec, attr) {
+        Some((name, at)) => {
+            say_name(said, "#", name)?;
+            say(said, &[Part::Words(" twice.")])?;
+            Ok(at)
+        }
+        None => {
+            say(said, &[Part::Words("one instance twice.")])?;
+            Ok(place_in(bytes, Spot::Parameter { rec, attr }))
+        }
+    }
+}
+
 /// Adds how an attribute's place is filled, where the parameter in it shows what was overlooked.
 fn say_advice(
     said: &mut Vec<u8>,
@@ -103,6 +121,9 @@ fn say_advice(
             said,
             &[Part::Words(" `*` may stand where the attribute is derived.")],
         ),
+        Token::Int(_) | Token::LParen if is_of_reals_in(subject, bytes, rec, attr) => {
+            say_point(said, integer_in(bytes, rec, attr))
+        }
         Token::LParen | Token::Name(_) | Token::Keyword(_) | Token::UserKeyword(_) => Ok(()),
         _ if is_of_select(subject, bytes, rec, attr) => say(
             said,
@@ -111,6 +132,27 @@ fn say_advice(
             )],
         ),
         _ => Ok(()),
+    }
+}
+
+/// Adds that a REAL has a point, where an integer stands for it.
+fn say_point(said: &mut Vec<u8>, integer: Option<&[u8]>) -> Result<(), AllocError> {
+    let Some(digits) = integer else {
+        return Ok(());
+    };
+    say(
+        said,
+        &[Part::Words(" A REAL is written with a point, as `")],
+    )?;
+    say_front(said, digits)?;
+    say(said, &[Part::Words(".`: without it, it is an INTEGER.")])
+}
+
+/// Whether the attribute of a place is a REAL, or an aggregate of it.
+fn is_of_reals_in(subject: Subject<'_>, bytes: &[u8], rec: u64, attr: u64) -> bool {
+    match attribute_in(subject, bytes, rec, attr) {
+        Some(found) => is_of_reals(subject.schema.declared(), &found.declared.texpr),
+        None => false,
     }
 }
 
@@ -173,7 +215,7 @@ fn say_duplicate(
         &[Part::Words(" is the name of an earlier instance too")],
     )?;
     if let Some(name) = name_of(piece) {
-        if let Some(earlier) = find(subject.file, name) {
+        if let Some(earlier) = find(subject.file, name, piece.at as usize) {
             say(said, &[Part::Words(", of ")])?;
             say_instance(alloc, said, subject.file, &earlier)?;
         }

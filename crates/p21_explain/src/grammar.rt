@@ -32,14 +32,21 @@ pub(crate) fn say_bad_token(said: &mut Vec<u8>, file: &[u8], at: usize) -> Resul
         &[
             Part::Words("No token begins with the byte "),
             Part::Number(u64::from(byte)),
-            Part::Words(" here"),
         ],
     )?;
+    if byte.is_ascii_graphic() {
+        say(
+            said,
+            &[Part::Words(", `"), Part::Bytes(&[byte]), Part::Words("`,")],
+        )?;
+    }
+    say(said, &[Part::Words(" here")])?;
     say(
         said,
         &[Part::Words(hint(byte)), Part::Words("; wanted is ")],
     )?;
-    say(said, &[Part::Words(wanted(file, at)), Part::Words(".")])
+    let words = wanted(file, at).words;
+    say(said, &[Part::Words(words), Part::Words(".")])
 }
 
 /// What the byte may have been meant to begin.
@@ -62,13 +69,20 @@ pub(crate) fn say_unexpected(said: &mut Vec<u8>, file: &[u8], at: usize) -> Resu
     requires { at ≤ length file.now }
 {
     let lexed = next_token(file, at);
-    say(said, &[Part::Words("Here stands `")])?;
+    let wanted = wanted(file, at);
+    if let Token::Str(body) = wanted.behind {
+        say(said, &[Part::Words("Behind the string '")])?;
+        say_front(said, body)?;
+        say(said, &[Part::Words("' stands `")])?;
+    } else {
+        say(said, &[Part::Words("Here stands `")])?;
+    }
     say_front(said, &file[lexed.start..lexed.after])?;
     say(
         said,
         &[
             Part::Words("`; wanted is "),
-            Part::Words(wanted(file, at)),
+            Part::Words(wanted.words),
             Part::Words("."),
         ],
     )
@@ -82,7 +96,7 @@ pub(crate) fn say_truncated(said: &mut Vec<u8>, file: &[u8], at: usize) -> Resul
         said,
         &[
             Part::Words("The file ends here; wanted is "),
-            Part::Words(wanted(file, at)),
+            Part::Words(wanted(file, at).words),
             Part::Words("."),
         ],
     )
@@ -96,21 +110,34 @@ pub(crate) fn say_too_deep(said: &mut Vec<u8>) -> Result<(), AllocError> {
     )
 }
 
+/// What could stand at a place, and the token before it.
+#[derive(Clone, Copy)]
+struct Continuation<'a> {
+    words: &'static str,
+    behind: Token<'a>,
+}
+
 /// What could stand at a place, by the tokens before it.
-fn wanted(file: &[u8], at: usize) -> &'static str
+fn wanted(file: &[u8], at: usize) -> Continuation<'_>
     requires { at ≤ length file.now }
 {
     match last_before(file, at) {
         Some(start) if start < at => wanted_behind(file, start, at, Section::Data),
-        Some(_) => "an instance or ENDSEC",
+        Some(_) => Continuation {
+            words: "an instance or ENDSEC",
+            behind: Token::Semi,
+        },
         None => wanted_behind(file, 0, at, Section::Header),
     }
 }
 
 /// The same, by the tokens from a place on, which is one of this section.
-fn wanted_behind(file: &[u8], start: usize, at: usize, section: Section) -> &'static str {
+fn wanted_behind(file: &[u8], start: usize, at: usize, section: Section) -> Continuation<'_> {
     if start > file.len() {
-        return "another token";
+        return Continuation {
+            words: "another token",
+            behind: Token::End,
+        };
     }
     let mut walk = Walk::new(file, start);
     let mut section = section;
@@ -129,7 +156,10 @@ fn wanted_behind(file: &[u8], start: usize, at: usize, section: Section) -> &'st
         section = section_behind(section, &walk, lexed.token);
         walk = next;
     }
-    wanted_next(&walk, section, is_complex)
+    Continuation {
+        words: wanted_next(&walk, section, is_complex),
+        behind: walk.last(),
+    }
 }
 
 /// The section of what stands behind a token.

@@ -64,14 +64,8 @@ fn push_group(alloc: Global, text: &mut String, group: &Group<'_>) -> Result<(),
     ensures { OnOk result (IsPrinted (string_bytes text.new)) }
 {
     let mut line = Vec::new(alloc);
-    say(
-        &mut line,
-        &[
-            Part::Number(group.count),
-            Part::Words(" "),
-            Part::Words(group.words),
-        ],
-    )?;
+    say_times(&mut line, group.count)?;
+    say(&mut line, &[Part::Words(" "), Part::Words(group.words)])?;
     if !group.keyword.is_empty() {
         say(&mut line, &[Part::Words(": ")])?;
         say_front(&mut line, group.keyword)?;
@@ -89,6 +83,15 @@ fn push_group(alloc: Global, text: &mut String, group: &Group<'_>) -> Result<(),
         )?;
     }
     push_line(text, &line)
+}
+
+/// Adds how often there is something.
+fn say_times(said: &mut Vec<u8>, count: u64) -> Result<(), AllocError> {
+    if count == 1 {
+        say(said, &[Part::Words("once")])
+    } else {
+        say(said, &[Part::Number(count), Part::Words(" times")])
+    }
 }
 
 /// Counts a fault with those that it is like.
@@ -176,19 +179,19 @@ fn attribute_name<'a>(
 fn words_of(kind: FaultKind) -> &'static str {
     match kind {
         FaultKind::BadToken => "no token",
-        FaultKind::Unexpected => "token that does not fit",
-        FaultKind::Truncated => "end too early",
-        FaultKind::TooDeep => "parenthesis too many",
-        FaultKind::HeaderEntities => "header that is not as wanted",
+        FaultKind::Unexpected => "a token that does not fit",
+        FaultKind::Truncated => "an end too early",
+        FaultKind::TooDeep => "a parenthesis too many",
+        FaultKind::HeaderEntities => "a header that is not as wanted",
         FaultKind::WrongSchema => "another schema",
-        FaultKind::DuplicateName => "name of an earlier instance",
-        FaultKind::UnknownEntity => "unknown entity",
-        FaultKind::AbstractEntity => "abstract entity",
-        FaultKind::BadComplex => "complex instance that is not whole",
-        FaultKind::WrongCount { .. } => "wrong number of values",
-        FaultKind::BadAttribute { .. } => "value that does not conform",
-        FaultKind::MissingReference { .. } => "name of no instance",
-        FaultKind::WrongReference { .. } => "reference to another entity",
-        FaultKind::RepeatedReference { .. } => "instance named twice",
+        FaultKind::DuplicateName => "the name of an earlier instance",
+        FaultKind::UnknownEntity => "an unknown entity",
+        FaultKind::AbstractEntity => "an abstract entity",
+        FaultKind::BadComplex => "a complex instance that is not whole",
+        FaultKind::WrongCount { .. } => "a wrong number of values",
+        FaultKind::BadAttribute { .. } => "a value that does not conform",
+        FaultKind::MissingReference { .. } => "the name of no instance",
+        FaultKind::WrongReference { .. } => "a reference to another entity",
+        FaultKind::RepeatedReference { .. } => "an instance named twice",
     }
 }

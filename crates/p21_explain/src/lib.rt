@@ -3,6 +3,7 @@
 
 mod attributes;
 mod complex;
+mod device;
 mod excerpt;
 mod explained;
 mod faults;
@@ -24,6 +25,7 @@ mod types;
 mod values;
 mod walk;
 
+pub use device::explain_device;
 pub use explained::explain_fault;
 pub use groups::summary;
 pub use place::{Place, place_of};

@@ -27,8 +27,9 @@ pub fn place_of(text: &[u8], at: usize) -> Place
 {
     let before = &text[..at];
     let start = line_start(before);
+    // The iterator's own `count` looks at each byte; to go from line end to line end is quicker.
     Place {
-        line: memchr_iter(b'\n', before).count() + 1,
+        line: Iterator::count(memchr_iter(b'\n', before)) + 1,
         column: char_count(&before[start..]) + 1,
         start,
     }

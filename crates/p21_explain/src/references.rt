@@ -14,7 +14,7 @@ pub(crate) fn say_named(
     file: &[u8],
     name: u64,
 ) -> Result<(), AllocError> {
-    match find(file, name) {
+    match find(file, name, file.len()) {
         Some(piece) => say_instance(alloc, said, file, &piece),
         None => say(said, &[Part::Words("no instance")]),
     }

@@ -20,6 +20,16 @@ pub(crate) enum Spot {
     Close { rec: u64 },
 }
 
+/// The most instance names of a parameter that are looked through for one that is repeated.
+const MOST_NAMES: usize = 1024;
+
+impl Spot {
+    /// Whether it is one of a parameter.
+    fn is_in(self, rec: u64, attr: u64) -> bool {
+        self == (Spot::Parameter { rec, attr }) || self == (Spot::Inside { rec, attr })
+    }
+}
+
 /// The tokens of an instance, from its name on.
 #[derive(Clone, Copy)]
 pub(crate) struct Spots<'a> {
@@ -120,9 +130,47 @@ pub(crate) fn reference_at(bytes: &[u8], rec: u64, attr: u64, name: u64) -> Opti
     let mut spots = Spots::new(bytes);
     for _ in 0..bytes.len() {
         let (lexed, spot) = spots.next()?;
-        let is_there = spot == Spot::Parameter { rec, attr } || spot == Spot::Inside { rec, attr };
-        if is_there && lexed.token == Token::Name(name) {
+        if spot.is_in(rec, attr) && lexed.token == Token::Name(name) {
             return Some(lexed);
+        }
+    }
+    None
+}
+
+/// The first token of a parameter that is an integer.
+pub(crate) fn integer_in(bytes: &[u8], rec: u64, attr: u64) -> Option<&[u8]> {
+    let mut spots = Spots::new(bytes);
+    for _ in 0..bytes.len() {
+        let (lexed, spot) = spots.next()?;
+        match (spot.is_in(rec, attr), lexed.token) {
+            (true, Token::Int(digits)) => return Some(digits),
+            (true, Token::Keyword(_) | Token::UserKeyword(_)) => return None,
+            _ => {}
+        }
+    }
+    None
+}
+
+/// The first token of a parameter that is an instance name which stood there before. A parameter with a list in another, or very many
+/// names, is not looked through.
+pub(crate) fn repeated_in(bytes: &[u8], rec: u64, attr: u64) -> Option<(u64, usize)> {
+    let mut spots = Spots::new(bytes);
+    let mut names: usize = 0;
+    for _ in 0..bytes.len() {
+        let (lexed, spot) = spots.next()?;
+        match lexed.token {
+            Token::Name(name) if spot.is_in(rec, attr) => {
+                names = names.saturating_add(1);
+                let first = reference_at(bytes, rec, attr, name)?;
+                if first.start < lexed.start {
+                    return Some((name, lexed.start));
+                }
+            }
+            Token::LParen if spot == (Spot::Inside { rec, attr }) => return None,
+            _ => {}
+        }
+        if names > MOST_NAMES {
+            return None;
         }
     }
     None

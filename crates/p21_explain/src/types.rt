@@ -172,6 +172,35 @@ pub(crate) fn is_select(declared: &Declarations, texpr: &TypeExpr) -> bool {
     false
 }
 
+/// Whether a type is REAL, or an aggregate of it, by its names.
+pub(crate) fn is_of_reals(declared: &Declarations, texpr: &TypeExpr) -> bool {
+    let mut texpr = element_type(texpr);
+    for _ in 0..declared.types.len() {
+        let TypeExpr::Named(name) = texpr else {
+            break;
+        };
+        match type_named(declared, name) {
+            Some(defined) => match &defined.under {
+                Under::Plain(under) => texpr = element_type(under),
+                Under::Items(_) | Under::Select(_) => return false,
+            },
+            None => return false,
+        }
+    }
+    matches!(texpr, TypeExpr::Real)
+}
+
+/// The type of the elements of an aggregate, down to one that is none.
+fn element_type(texpr: &TypeExpr) -> &TypeExpr {
+    match texpr {
+        TypeExpr::Array { item, .. }
+        | TypeExpr::List { item, .. }
+        | TypeExpr::Set { item, .. }
+        | TypeExpr::Bag { item, .. } => element_type(item),
+        other => other,
+    }
+}
+
 /// The declaration of a type.
 pub(crate) fn type_named<'a>(declared: &'a Declarations, name: &[u8]) -> Option<&'a TypeDecl> {
     for defined in &declared.types {

@@ -31,20 +31,21 @@ pub(crate) fn say_value(said: &mut Vec<u8>, text: &[u8], at: usize) -> Result<()
             say_scalar(said, "the binary \"", digits, "\"")?;
             say_bits(said, binary_bits(digits))
         }
-        Token::LParen => {
-            say(said, &[Part::Words("a list")])?;
-            say_count(
-                said,
-                element_count(text, start),
-                " of one element",
-                " elements",
-            )
-        }
+        Token::LParen => say_list(said, element_count(text, start)),
         Token::Keyword(keyword) | Token::UserKeyword(keyword) => {
             say_scalar(said, "a value of the type ", keyword, "")
         }
         _ => say(said, &[Part::Words("no value")]),
     }
+}
+
+/// Adds a list of so many elements.
+fn say_list(said: &mut Vec<u8>, count: u64) -> Result<(), AllocError> {
+    if count == 0 {
+        return say(said, &[Part::Words("an empty list")]);
+    }
+    say(said, &[Part::Words("a list")])?;
+    say_count(said, count, " of one element", " elements")
 }
 
 /// Adds a value between words; of a long one its front.

@@ -8,24 +8,27 @@ use crate::drawn_key::drawn_key;
 use crate::explainer::Explainer;
 use crate::opened::Opened;
 use crate::program_error::ProgramError;
-use crate::words::{not_text, what_is_wanted};
-use p21_crew::OpenGate;
-use p21_run::{Outcome, Stream, run_heard};
+use crate::progress::{NoClock, Progress, Stage};
+use crate::watched::Watched;
+use crate::words::{Wanted, not_text, what_is_wanted};
+use p21_run::{Outcome, Sink, Source, Stream, run_heard};
 use std::alloc::{AllocError, Global};
 use std::fs::Files;
 use std::io::{self, Read, Write};
 use std::sync::Wait;
 use std::thread::Threads;
+use std::time::Clock;
 
-/// The program `p21check SCHEMA FILE [--lanes N] [--capacity N] [--all] [--distinct] [--explain[=N]]`: reads the schema, checks the file
-/// against it by so many lanes (4, if not said) of this capacity (256), and writes the report to `output`, by `--all` with all
-/// faults of the file. With `--distinct` a SET or a LIST OF UNIQUE that names one instance twice is a fault. Where it is asked for, at
-/// most N faults (20) are then explained on `errors`.
+/// The program `p21check SCHEMA FILE [--lanes N] [--capacity N] [--all] [--distinct] [--explain[=N]] [--progress]`: reads the schema,
+/// checks the file against it by so many lanes (4, if not said) of this capacity (256), and writes the report to `output`, by `--all`
+/// with all faults of the file. With `--distinct` a SET or a LIST OF UNIQUE that names one instance twice is a fault. Where it is asked
+/// for, at most N faults (20) are then explained on `errors`, and a device that failed, where there is memory.
 /// `words` are the words of the command line, the program's own name first; FILE `-` is `input`, and `rt` opens the others,
 /// FILE only where the schema was read. The answer is the status to end with: 0 where the file was read, 1 where it has a
 /// fault, 2 where the words were refused (clap's text goes to `errors`), 3 where the schema was refused, 4 where a path cannot
 /// be opened, a reader or the writer failed, or a bound on bytes or calls was passed, 5 where memory was refused, or a thread for
-/// a lane. The help and the version go to `output`, with status 0. A failed write to `errors` changes no status.
+/// a lane. The help and the version go to `output`, with status 0. A failed write to `errors` changes no status. Nothing tells how far
+/// the run is.
 pub fn program<R, I, O, E>(
     rt: &R,
     alloc: Global,
@@ -40,10 +43,76 @@ where
     O: Write,
     E: Write,
 {
-    match report(rt, alloc, words, input, output, errors) {
+    let told = Told {
+        clock: NoClock,
+        out: io::sink(),
+        is_terminal: false,
+    };
+    run_words(rt, alloc, words, input, output, errors, told)
+}
+
+/// The same as `program`, which tells how far the run is on a line of `progress`, where that is a terminal or the words ask for it
+/// (`--progress`): what it is at and how much of the file it has read, at most ten times a second. The line is removed before the report
+/// is written.
+pub fn program_with_progress<R, I, O, E, P>(
+    rt: &R,
+    alloc: Global,
+    words: &[String],
+    input: &mut I,
+    output: &mut O,
+    errors: &mut E,
+    progress: P,
+    is_terminal: bool,
+) -> u8
+where
+    R: Files + Threads + Wait + Clock + Sync,
+    I: Read,
+    O: Write,
+    E: Write,
+    P: Write + Send + Drop,
+{
+    let told = Told {
+        clock: rt,
+        out: progress,
+        is_terminal,
+    };
+    run_words(rt, alloc, words, input, output, errors, told)
+}
+
+/// By what it is told how far a run is.
+#[derive(Drop)]
+struct Told<C, P> {
+    clock: C,
+    out: P,
+    is_terminal: bool,
+}
+
+/// The status of what the words ask for; what is wrong, and what is to be said of it, is told on `errors`.
+fn run_words<R, I, O, E, C, P>(
+    rt: &R,
+    alloc: Global,
+    words: &[String],
+    input: &mut I,
+    output: &mut O,
+    errors: &mut E,
+    told: Told<C, P>,
+) -> u8
+where
+    R: Files + Threads + Wait + Sync,
+    I: Read,
+    O: Write,
+    E: Write,
+    C: Clock + Sync + Drop,
+    P: Write + Send + Drop,
+{
+    let mut said = String::new(alloc);
+    let status = match report(rt, alloc, words, input, output, told, &mut said) {
         Ok(status) => status,
         Err(error) => tell(&error, output, errors),
-    }
+    };
+    // As of any other word on `errors`, whether it could be written changes no status.
+    let _ = errors.write_all(said.as_bytes());
+    status
 }
 
 /// What the program ends with where its words could not be read, as where one is no text: their error is told on
@@ -57,58 +126,105 @@ pub fn unreadable_words<E: Write>(alloc: Global, error: &io::Error, errors: &mut
     tell_on(&error, errors)
 }
 
-/// Runs over the schema and the file that the words name, and tells on `errors` what is to be said of faults.
-fn report<R: Files + Threads + Wait + Sync, I: Read, O: Write, E: Write>(
+/// Runs over the schema and the file that the words name, and keeps what is to be said of faults, and of devices that failed.
+fn report<R, I, O, C, P>(
     rt: &R,
     alloc: Global,
     words: &[String],
     input: &mut I,
     output: &mut O,
-    errors: &mut E,
-) -> Result<u8, ProgramError> {
+    told: Told<C, P>,
+    said: &mut String,
+) -> Result<u8, ProgramError>
+where
+    R: Files + Threads + Wait + Sync,
+    I: Read,
+    O: Write,
+    C: Clock + Sync + Drop,
+    P: Write + Send + Drop,
+{
     let wanted = what_is_wanted(alloc, words)?;
+    let progress = Progress::new(told.clock, told.out, told.is_terminal || wanted.progress);
+    progress.tell(Stage::Schema);
     let mut schema = Opened::new(rt, wanted.schema);
     let mut out = Stream::new(output);
-    let (lanes, capacity) = (wanted.lanes, wanted.capacity);
     let key = drawn_key(rt);
-    let mut explainer = Explainer::new(alloc, wanted.schema, wanted.file, wanted.explained);
-    let outcome = if wanted.file == "-" {
-        let mut file = Stream::new(input);
-        run_heard(
+    let mut explainer = Explainer::new(
+        alloc,
+        &progress,
+        wanted.schema,
+        wanted.file,
+        wanted.explained,
+    );
+    let (outcome, error) = if wanted.file == "-" {
+        let mut file = Watched::new(Stream::new(input), &progress);
+        let outcome = run_wanted(
             rt,
             alloc,
-            &OpenGate,
+            &wanted,
+            &progress,
             &mut schema,
             &mut file,
             &mut out,
-            lanes,
-            capacity,
-            wanted.all,
-            wanted.rules,
             key,
             &mut explainer,
-        )
+        );
+        (outcome, file.source().error())
     } else {
-        let mut file = Opened::new(rt, wanted.file);
-        run_heard(
+        let mut file = Watched::new(Opened::new(rt, wanted.file), &progress);
+        let outcome = run_wanted(
             rt,
             alloc,
-            &OpenGate,
+            &wanted,
+            &progress,
             &mut schema,
             &mut file,
             &mut out,
-            lanes,
-            capacity,
-            wanted.all,
-            wanted.rules,
             key,
             &mut explainer,
-        )
+        );
+        (outcome, file.source().error())
     };
-    let status = status_of(outcome)?;
-    // As of any other word on `errors`, whether it could be written changes no status.
-    let _ = errors.write_all(explainer.said().as_bytes());
-    Ok(status)
+    progress.remove();
+    explainer.hear_end(outcome, [schema.error(), error, out.error()]);
+    *said = explainer.into_said();
+    status_of(outcome)
+}
+
+/// Runs over the schema and the file as it is wanted.
+fn run_wanted<R, S, F, K, C, P>(
+    rt: &R,
+    alloc: Global,
+    wanted: &Wanted<'_>,
+    progress: &Progress<C, P>,
+    schema: &mut S,
+    file: &mut F,
+    out: &mut K,
+    key: HashKey,
+    explainer: &mut Explainer<'_, C, P>,
+) -> Outcome
+where
+    R: Threads + Wait + Sync,
+    S: Source,
+    F: Source,
+    K: Sink,
+    C: Clock + Sync + Drop,
+    P: Write + Send + Drop,
+{
+    run_heard(
+        rt,
+        alloc,
+        progress,
+        schema,
+        file,
+        out,
+        wanted.lanes,
+        wanted.capacity,
+        wanted.all,
+        wanted.rules,
+        key,
+        explainer,
+    )
 }
 
 /// The status of a run that wrote its report.

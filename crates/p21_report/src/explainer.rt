@@ -1,20 +1,27 @@
-//! Faults explained to whoever runs the program.
+//! Faults explained to whoever runs the program, and how far it is.
 
-use p21_explain::{explain_fault, explain_schema_fault, summary};
+use crate::progress::{Progress, Stage};
+use p21_explain::{explain_device, explain_fault, explain_schema_fault, summary};
 use p21_express::SchemaError;
-use p21_run::Listener;
+use p21_run::{Listener, Outcome};
 use p21_schema::Schema;
 use p21_tree::Fault;
 use std::alloc::{AllocError, Global};
+use std::io::{self, Write};
+use std::time::Clock;
 
 /// How many columns a line of a file is shown in.
 const COLUMNS: usize = 120;
 
-/// Hears the faults of a run, and keeps what is to be said of them until the report is written. Where there is no memory for it, less
-/// is said.
+/// What is said of an input that is too long.
+const TOO_LONG: &str = "a bound was passed: a schema has at most 16777216 bytes, a file 4294967296";
+
+/// Hears how far a run is, and its faults, and keeps what is to be said of these until the report is written. Where there is no memory
+/// for it, less is said.
 #[derive(Drop)]
-pub(crate) struct Explainer<'a> {
+pub(crate) struct Explainer<'a, C, P> {
     alloc: Global,
+    progress: &'a Progress<C, P>,
     /// The path of the schema.
     schema: &'a str,
     /// The path of the file.
@@ -24,11 +31,18 @@ pub(crate) struct Explainer<'a> {
     said: String,
 }
 
-impl<'a> Explainer<'a> {
+impl<'a, C: Clock, P: Write> Explainer<'a, C, P> {
     /// Nothing is heard yet.
-    pub(crate) fn new(alloc: Global, schema: &'a str, file: &'a str, most: usize) -> Explainer<'a> {
+    pub(crate) fn new(
+        alloc: Global,
+        progress: &'a Progress<C, P>,
+        schema: &'a str,
+        file: &'a str,
+        most: usize,
+    ) -> Explainer<'a, C, P> {
         Explainer {
             alloc,
+            progress,
             schema,
             file,
             most,
@@ -37,8 +51,51 @@ impl<'a> Explainer<'a> {
     }
 
     /// What is to be said.
-    pub(crate) fn said(&self) -> &str {
-        self.said.as_str()
+    pub(crate) fn into_said(self) -> String {
+        self.said
+    }
+
+    /// Hears how the run ended, with the last errors of the schema, of the file and of the output. Where there was no memory nothing is said.
+    pub(crate) fn hear_end(&mut self, outcome: Outcome, errors: [Option<io::Error>; 3]) {
+        match outcome {
+            Outcome::Complete | Outcome::Faulty | Outcome::SchemaRefused => {}
+            Outcome::Device => self.hear_failure(errors),
+            Outcome::Memory => self.said.clear(),
+        }
+    }
+
+    /// Hears that a device failed.
+    fn hear_failure(&mut self, errors: [Option<io::Error>; 3]) {
+        if self.most > 0 {
+            let _ = self.add_failure(errors);
+        }
+    }
+
+    /// Adds which device failed: the last that answered an error.
+    fn add_failure(&mut self, errors: [Option<io::Error>; 3]) -> Result<(), AllocError> {
+        let [schema, file, output] = errors;
+        let input = if self.file == "-" {
+            "standard input"
+        } else {
+            self.file
+        };
+        match (schema, file, output) {
+            (_, _, Some(error)) => self.add_error("standard output", error),
+            (_, Some(error), None) => self.add_error(input, error),
+            (Some(error), None, None) => self.add_error(self.schema, error),
+            (None, None, None) => self.add_line("p21check", TOO_LONG),
+        }
+    }
+
+    /// Adds what the system says of a device.
+    fn add_error(&mut self, path: &str, error: io::Error) -> Result<(), AllocError> {
+        let words = format!(in self.alloc; "{error}")?;
+        self.add_line(path, words.as_str())
+    }
+
+    fn add_line(&mut self, path: &str, words: &str) -> Result<(), AllocError> {
+        let told = explain_device(self.alloc, path, words)?;
+        self.said.push_str(told.as_str())
     }
 
     /// Adds the first faults, and of several a summary.
@@ -61,7 +118,19 @@ impl<'a> Explainer<'a> {
     }
 }
 
-impl Listener for Explainer<'_> {
+impl<C: Clock, P: Write> Listener for Explainer<'_, C, P> {
+    fn hear_file(&mut self, file: &[u8]) {
+        self.progress.begin(file);
+    }
+
+    fn hear_checked(&mut self) {
+        self.progress.tell(Stage::Report);
+    }
+
+    fn hear_made(&mut self) {
+        self.progress.remove();
+    }
+
     fn hear(&mut self, schema: &Schema, file: &[u8], faults: &[Fault]) {
         if self.most > 0 {
             let _ = self.add(schema, file, faults);

@@ -6,8 +6,10 @@ mod drawn_key;
 mod explainer;
 mod opened;
 mod program_error;
+mod progress;
+mod watched;
 mod words;
 
-pub use command_line::{program, unreadable_words};
+pub use command_line::{program, program_with_progress, unreadable_words};
 pub use p21_render::{counts, fault_line, render};
 pub use p21_run::{IoFault, Outcome, Sink, Source, Stream, run};

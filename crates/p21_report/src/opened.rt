@@ -5,6 +5,7 @@ ghost use Rattle.std.specs.Io.{ReadsAtMost};
 
 use p21_run::{IoFault, Source, Stream};
 use std::fs::{File, Files};
+use std::io;
 
 /// A file that is opened at its first read. One that cannot be opened, from whatever cause, failed.
 #[derive(Drop)]
@@ -12,6 +13,8 @@ pub(crate) struct Opened<'a, R: Files> {
     rt: &'a R,
     path: &'a str,
     file: Option<Stream<R::File>>,
+    /// Why it could not be opened.
+    refusal: Option<io::Error>,
     marked: bool,
     failed: bool,
 }
@@ -28,8 +31,17 @@ impl<'a, R: Files> Opened<'a, R> {
             rt,
             path,
             file: None,
+            refusal: None,
             marked: false,
             failed: false,
+        }
+    }
+
+    /// The last error of opening or reading it.
+    pub(crate) fn error(&self) -> Option<io::Error> {
+        match &self.file {
+            Some(file) => file.error(),
+            None => self.refusal,
         }
     }
 
@@ -39,8 +51,10 @@ impl<'a, R: Files> Opened<'a, R> {
         ensures failure { failure_of_opened self.new ≡ failure_of_opened self.old }
     {
         if self.file.is_none() {
-            let file = File::open(self.rt, self.path).map_err(|_| IoFault::Failed)?;
-            self.file = Some(Stream::new(file));
+            match File::open(self.rt, self.path) {
+                Ok(file) => self.file = Some(Stream::new(file)),
+                Err(error) => self.refusal = Some(error),
+            }
         }
         match &mut self.file {
             Some(file) => file.read(into),

@@ -22,6 +22,8 @@ pub(crate) struct Wanted<'a> {
     pub(crate) rules: Rules,
     /// How many faults are to be explained at most.
     pub(crate) explained: usize,
+    /// Whether it is to be told how far the run is, terminal or not.
+    pub(crate) progress: bool,
 }
 
 /// The version of the program.
@@ -50,6 +52,7 @@ pub(crate) fn what_is_wanted<'a>(
     let rules = Rules {
         distinct: matches.get_flag("distinct"),
     };
+    let progress = matches.get_flag("progress");
     let explained = matches.get_one::<u32>("explain").unwrap_or(0) as usize;
     match (paths, lanes, capacity) {
         ((Some(schema), Some(file)), Some(lanes), Some(capacity)) => Ok(Wanted {
@@ -60,6 +63,7 @@ pub(crate) fn what_is_wanted<'a>(
             all,
             rules,
             explained,
+            progress,
         }),
         _ => Err(refused(
             alloc,
@@ -125,6 +129,10 @@ fn command<'a>(alloc: Global) -> Result<Command<'a>, ProgramError> {
         .help(
             "tell at most N faults, or 20, in the words of the file and of the schema, on standard error",
         );
+    let progress = Arg::new(alloc, "progress")
+        .long("progress")
+        .action(ArgAction::SetTrue)
+        .help("tell on standard error how far it is, also where that is no terminal");
     let command = Command::new(alloc, "p21check")
         .version(VERSION)
         .about("Reads a STEP file (ISO 10303-21) and checks it against an EXPRESS schema")
@@ -135,6 +143,7 @@ fn command<'a>(alloc: Global) -> Result<Command<'a>, ProgramError> {
         .arg(all)?
         .arg(distinct)?
         .arg(explain)?
+        .arg(progress)?
         .after_help(STATUSES);
     Ok(command)
 }

@@ -71,6 +71,7 @@ fn full_report_of_file<R: Threads + Wait + Sync, G: Gate + Sync, L: Listener>(
 {
     match read_all_faults(rt, alloc, schema, by.gate, file, by.lanes, by.capacity) {
         Ok(all) => {
+            listener.hear_checked();
             hear_all(listener, schema, file, &all);
             report_of_all(alloc, schema, &all)
         }
@@ -91,6 +92,7 @@ fn first_report_of_file<R: Threads + Wait + Sync, G: Gate + Sync, L: Listener>(
 {
     match read_lanes(rt, alloc, schema, by.gate, file, by.lanes, by.capacity) {
         Ok(reading) => {
+            listener.hear_checked();
             hear_reading(listener, schema, file, &reading);
             report_of_reading(alloc, schema, &reading)
         }

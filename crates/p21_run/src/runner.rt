@@ -75,8 +75,8 @@ pub fn run<R: Threads + Wait + Sync, G: Gate + Sync, S: Source, F: Source, K: Si
     )
 }
 
-/// The same as `run`, where names and keywords are hashed by this key, and a listener hears the faults that are found, before the report
-/// is written.
+/// The same as `run`, where names and keywords are hashed by this key, and a listener hears how far the run is, and the faults that are
+/// found, before the report is written.
 pub fn run_heard<
     R: Threads + Wait + Sync,
     G: Gate + Sync,
@@ -115,10 +115,13 @@ pub fn run_heard<
         key,
     };
     match report(rt, alloc, schema_in, file_in, &by, rules, listener) {
-        Ok(report) => match write_bounded(out, report.text.as_slice(), WRITE_CALLS) {
-            Ok(()) => report.outcome,
-            Err(OutputError) => Outcome::Device,
-        },
+        Ok(report) => {
+            listener.hear_made();
+            match write_bounded(out, report.text.as_slice(), WRITE_CALLS) {
+                Ok(()) => report.outcome,
+                Err(OutputError) => Outcome::Device,
+            }
+        }
         Err(InputError::Device) => Outcome::Device,
         Err(InputError::Memory) => Outcome::Memory,
     }
@@ -187,5 +190,6 @@ fn report_of_source<R: Threads + Wait + Sync, G: Gate + Sync, F: Source, L: List
     ensures cause { result ≡ Err Failed → F.marked file_in.new ≡ false → (file : List ℕ) → F.remaining file_in.old ≡ Some file → most_calls ≤ length file }
 {
     let file = read_bounded(alloc, file_in, FILE_BOUNDS)?;
+    listener.hear_file(file.as_slice());
     Ok(report_of_file(rt, alloc, schema, file.as_slice(), by, listener)?)
 }

@@ -58,6 +58,7 @@ pub struct Stream<T> {
     inner: T,
     marked: bool,
     failed: bool,
+    error: Option<io::Error>,
 }
 
 impl<T> Stream<T> {
@@ -73,7 +74,13 @@ impl<T> Stream<T> {
             inner,
             marked: false,
             failed: false,
+            error: None,
         }
+    }
+
+    /// The last error that the reader or the writer answered.
+    pub fn error(&self) -> Option<io::Error> {
+        self.error
     }
 }
 
@@ -87,7 +94,11 @@ impl<R: Read> Source for Stream<R> {
     ghost remaining = { λ s. R.remaining (inner_of s) };
 
     fn read(&mut self, into: &mut [u8]) -> Result<usize, IoFault> {
-        let result = self.inner.read(into).map_err(|error| fault_of(&error));
+        let answer = self.inner.read(into);
+        if let Err(error) = &answer {
+            self.error = Some(*error);
+        }
+        let result = answer.map_err(|error| fault_of(&error));
         self.marked |= result.is_err();
         self.failed |= matches!(result, Err(IoFault::Failed));
         result
@@ -102,7 +113,11 @@ impl<W: Write> Sink for Stream<W> {
     ghost taken = { λ s. W.contents (inner_of s) };
 
     fn write(&mut self, from: &[u8]) -> Result<usize, IoFault> {
-        let result = self.inner.write(from).map_err(|error| fault_of(&error));
+        let answer = self.inner.write(from);
+        if let Err(error) = &answer {
+            self.error = Some(*error);
+        }
+        let result = answer.map_err(|error| fault_of(&error));
         self.marked |= match result {
             Ok(count) => count == 0 && !from.is_empty(),
             Err(_) => true,

@@ -1,8 +1,9 @@
 //! `p21check SCHEMA FILE`: checks a STEP file against an EXPRESS schema.
 #![tactic(auto)]
 
-use p21_report::{program, unreadable_words};
+use p21_report::{program_with_progress, unreadable_words};
 use std::env;
+use std::io::IsTerminal;
 use std::process::ExitCode;
 
 fn main(rt: HostRuntime) -> ExitCode {
@@ -13,12 +14,14 @@ fn main(rt: HostRuntime) -> ExitCode {
         Ok(words) => words,
         Err(error) => return ExitCode::from(unreadable_words(rt.alloc(), &error, &mut rt.stderr())),
     };
-    ExitCode::from(program(
+    ExitCode::from(program_with_progress(
         &rt,
         rt.alloc(),
         words.as_slice(),
         &mut rt.stdin(),
         &mut rt.stdout(),
         &mut rt.stderr(),
+        rt.stderr(),
+        rt.stderr().is_terminal(),
     ))
 }
