@@ -21,10 +21,31 @@ fn holds(range: Range, place: usize) -> bool
     range.from <= place && place < range.to
 }
 
+/// Where the place is to be looked for first: at the last range that begins at or before it, where they stand in order.
+fn nearest(ranges: &[Range], place: usize) -> usize
+    ensures { result ≤ length ranges.now }
+{
+    let mut from = 0;
+    let mut to = ranges.len();
+    while from + 1 < to {
+        let middle = from + (to - from) / 2;
+        if ranges[middle].from <= place {
+            from = middle;
+        } else {
+            to = middle;
+        }
+    }
+    from
+}
+
 /// Whether a place lies in one of the ranges.
 pub(crate) fn covers(ranges: &[Range], place: usize) -> bool
     ensures { IsTrue result ↔ Covers ranges.now place }
 {
+    let nearest = nearest(ranges, place);
+    if nearest < ranges.len() && holds(ranges[nearest], place) {
+        return true;
+    }
     for range in ranges {
         if holds(*range, place) {
             return true;
