@@ -1,7 +1,6 @@
 -- In a graph without cycles some vertex waits for no other.
 use Rattle.std.proofs.Common.{◌≡◌, ℕ, zero, suc, ◌+◌, ◌<◌, ◌≤◌, Bool, true, false, List, [], ◌∷◌, ◌++◌, ◌⊎◌, length, get_or, take, map, set, refl, sym, ap, ◌∙◌, subst, inl, inr, ⊎_elim, arith, eqb}
 use Rattle.std.specs.Prelude.{Vec}
-use mathlib.Core.Bool.{beq}
 use Rattle.std.specs.List.{list_any, IsDistinct, AllByRecursion}
 use Rattle.std.proofs.lemmas.Bool.{false≢true, eqb-true, ne_eqb, or_cases, cases_Bool, cases_eq}
 use Rattle.std.proofs.lemmas.List.{map_push, take-append-le, take_all, get_or_append_left, get_or_push, length_push, get_or-map, length-map, get_or-set_same, get_or-set_other}

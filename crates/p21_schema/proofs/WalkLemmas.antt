@@ -1,12 +1,12 @@
 -- Steps of a walk through a graph.
-use Rattle.std.proofs.Common.{◌≡◌, ℕ, zero, suc, ◌+◌, ◌-◌, ◌*◌, ◌<◌, ◌≤◌, Bool, true, false, List, [], ◌∷◌, ◌++◌, ◌⊎◌, length, get_or, take, set, refl, sym, ap, ◌∙◌, subst, inl, inr, ⊎_elim, arith}
-use Rattle.std.proofs.lemmas.Bool.{cases_eq, cases_lt, false≢true}
-use Rattle.std.proofs.lemmas.List.{get_or-set_same, get_or-set_other, get_or_append_left, get_or_push, length_push, length-set, get_or-take, length-take-le, get_or_past, take_all, get_or_default}
+use Rattle.std.proofs.Common.{◌≡◌, ℕ, zero, suc, ◌+◌, ◌-◌, ◌*◌, ◌<◌, ◌≤◌, Bool, true, false, List, [], ◌∷◌, ◌++◌, ◌⊎◌, length, get_or, take, set, sym, ap, ◌∙◌, subst, inl, inr, ⊎_elim, arith}
+use Rattle.std.proofs.lemmas.Bool.{cases_eq, false≢true}
+use Rattle.std.proofs.lemmas.List.{get_or-set_same, get_or-set_other, get_or_append_left, get_or_push, length_push, length-set, get_or-take, length-take-le, take_all, get_or_default}
 use Rattle.std.specs.Prelude.{Vec}
 use Rattle.p21_express.specs.WellFormed.{IsIn, AreDistinct, Leads, one, more, HasNoCycle}
-use Rattle.p21_schema.specs.Graph.{HasEdge, AreEdgesBelow, IsOrder, IsMarked, AreMarked, IsWay, IsWalk, waiting, steps_left}
-use Rattle.p21_schema.proofs.Members.{place_of, at_place, in_left, in_right, in_either, in_front, front_more, same_place}
-use Rattle.p21_schema.proofs.GraphLemmas.{few, placed_more, placed_push, mark_stays, mark_cases, fewer_waiting}
+use Rattle.p21_schema.specs.Graph.{HasEdge, AreEdgesBelow, IsMarked, AreMarked, IsWay, IsWalk, waiting, steps_left}
+use Rattle.p21_schema.proofs.Members.{place_of, at_place, in_either, in_front, front_more, same_place}
+use Rattle.p21_schema.proofs.GraphLemmas.{few, placed_more, placed_push, mark_stays, fewer_waiting}
 
 -- ---- a way meets no vertex twice
 

@@ -48,8 +48,8 @@ fn first_waiting(vertices: &[usize], placed: &[bool], from: usize) -> usize
     vertices.len()
 }
 
-/// Goes on from the vertex at which the way ends: to a neighbor that is not placed, or, where there is none, places it. Of each
-/// vertex so many neighbors were looked at.
+/// Goes on from the vertex at which the way ends: to a neighbor that is not placed, or, where there is none, places the vertex.
+/// `looked` is how many neighbors of each vertex are known to be placed.
 fn step(
     graph: &Graph,
     placed: &mut [bool],
@@ -107,7 +107,7 @@ fn place(
     Ok(())
 }
 
-/// All vertices, each behind its neighbors, and before what stands behind it among these starts where nothing else keeps it.
+/// These vertices and what they reach, each behind its neighbors. What one of them is the first to reach stands together.
 pub(crate) fn order_from(
     alloc: Global,
     graph: &Graph,

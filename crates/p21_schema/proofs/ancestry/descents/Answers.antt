@@ -1,6 +1,6 @@
-use Rattle.std.proofs.Common.{map, List, ℕ}
+use Rattle.std.proofs.Common.{map}
 use Rattle.std.proofs.lemmas.Result.{IfOk-weaker}
-use Rattle.p21_express.specs.Schema.{Schema, Entity}
+use Rattle.p21_express.specs.Schema.{Schema}
 use Rattle.p21_express.specs.WellFormed.{IsWellFormed}
 use Rattle.p21_schema.specs.Graph.{plain_graph}
 use Rattle.p21_schema.specs.Ancestry.{AreSupertypesNamed, IsDescentTable}

@@ -1,4 +1,4 @@
-use Rattle.std.proofs.Common.{◌<◌, true, length, sym, subst, ◌≡◌}
+use Rattle.std.proofs.Common.{◌<◌, true, sym, subst, ◌≡◌}
 use Rattle.p21_schema.specs.DeclarationTable.{known_schema}
 use Rattle.p21_schema.proofs.AncestryLemmas.{descends_by}
 use Rattle.p21_schema.proofs.declarations.is_over.Goals as goal

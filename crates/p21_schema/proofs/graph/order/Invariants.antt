@@ -1,4 +1,4 @@
-use Rattle.std.proofs.Common.{◌≡◌, ◌<◌, ◌↔◌, ℕ}
+use Rattle.std.proofs.Common.{◌<◌, ◌↔◌, ℕ}
 use Rattle.p21_express.specs.WellFormed.{IsIn}
 use Rattle.p21_schema.proofs.graph.order.Given as goal
 

@@ -1,4 +1,4 @@
-use Rattle.std.proofs.Common.{◌≡◌, ℕ, take, get_or, length, sym, ap, ◌∙◌, ⊎_elim, subst}
+use Rattle.std.proofs.Common.{◌≡◌, take, get_or, length, sym, ap, ◌∙◌, ⊎_elim, subst}
 use Rattle.std.proofs.lemmas.List.{with_items_is}
 use Rattle.p21_express.specs.WellFormed.{IsIn}
 use Rattle.p21_schema.specs.Graph.{IsMarked}

@@ -1,4 +1,4 @@
-use Rattle.std.proofs.Common.{◌⊎◌, ⊎_elim, inl}
+use Rattle.std.proofs.Common.{⊎_elim, inl}
 use Rattle.p21_express.specs.WellFormed.{IsIn}
 use Rattle.p21_schema.specs.Graph.{IsMarked}
 use Rattle.p21_schema.proofs.graph.place.Goals as goal

@@ -1,9 +1,9 @@
-use Rattle.std.proofs.Common.{◌≡◌, ℕ, ◌<◌, ◌≤◌, ◌-◌, ◌∙◌, ◌++◌, ◌∷◌, [], List, false, true, length, get_or, set, take, sym, ap, subst, arith, rules, Fits, w64, ◌*◌, ⊎_elim, ◌⊎◌, inr}
+use Rattle.std.proofs.Common.{◌≡◌, ℕ, ◌<◌, ◌≤◌, ◌-◌, ◌∙◌, ◌∷◌, [], List, false, length, get_or, take, sym, ap, subst, rules, ⊎_elim, inr}
 use Rattle.std.proofs.lemmas.Bool.{cases_lt}
 use Rattle.std.proofs.lemmas.List.{get_or_default}
 use Rattle.std.specs.Prelude.{Vec}
 use Rattle.p21_express.specs.WellFormed.{IsIn}
-use Rattle.p21_schema.specs.Graph.{plain_graph, IsWalk, IsMarked, steps_left}
+use Rattle.p21_schema.specs.Graph.{plain_graph, IsMarked}
 use Rattle.p21_schema.proofs.Members.{in_left}
 use Rattle.p21_schema.proofs.GraphLemmas.{row_is, row_count, mark_stays}
 use Rattle.p21_schema.proofs.WalkLemmas.{last_of, last_in, last_is, deeper, settled, distinct_way, fewer_deeper, fewer_settled, keeps_settled}

@@ -1,4 +1,4 @@
-use Rattle.std.proofs.Common.{◌⊎◌, ⊎_elim, take, true, refl, sym, ◌∙◌}
+use Rattle.std.proofs.Common.{⊎_elim, take, refl, sym, ◌∙◌}
 use Rattle.std.proofs.lemmas.Bool.{false≢true}
 use Rattle.p21_schema.specs.Ranges.{IsInRange, Covers}
 use Rattle.p21_schema.proofs.Members.{at_place}

@@ -1,6 +1,4 @@
-use Rattle.std.proofs.Common.{ℕ, ◌⊎◌, ◌↔◌, take, ⊎_elim, inl, inr, sym, subst}
 use Rattle.std.proofs.lemmas.List.{take_all}
-use Rattle.p21_schema.specs.Ranges.{IsInRange, Covers}
 use Rattle.p21_schema.proofs.RangeLemmas.{covers_take, ↔_through, ↔_left, ↔_back}
 use Rattle.p21_schema.proofs.ranges.joined.Goals as goal
 

@@ -1,10 +1,8 @@
 use Rattle.std.proofs.Common.{◌≡◌, ℕ, ◌⊎◌, ◌↔◌}
-use Rattle.std.specs.Prelude.{Vec}
 use Rattle.std.proofs.lemmas.Result.{IfOk-weaker}
 use Rattle.std.proofs.lemmas.List.Sorted.{IsPermutation-sym}
 use Rattle.p21_schema.specs.Graph.{rows_of}
 use Rattle.p21_schema.specs.Ranges.{Covers, SomeCovers}
-use Rattle.p21_schema.specs.declared.ranges.Range.{Range}
 use Rattle.p21_schema.proofs.RangeLemmas.{covers_permuted, ↔_through}
 use Rattle.p21_schema.proofs.ranges.row.Goals as goal
 

@@ -1,6 +1,6 @@
-use Rattle.std.proofs.Common.{◌≡◌, ◌<◌, ℕ, length, get_or, take, sym, ◌∙◌}
+use Rattle.std.proofs.Common.{◌<◌, length, get_or, take, ◌∙◌}
 use Rattle.std.specs.Prelude.{Vec}
-use Rattle.std.proofs.lemmas.List.{length-set, map-set, take_all}
+use Rattle.std.proofs.lemmas.List.{length-set, map-set}
 use Rattle.p21_express.specs.WellFormed.{IsIn}
 use Rattle.p21_schema.specs.declared.ranges.Range.{Range}
 use Rattle.p21_schema.specs.Graph.{rows_of, plain_graph}

@@ -1,4 +1,4 @@
-use Rattle.std.proofs.Common.{◌≡◌, ◌-◌, arith}
+use Rattle.std.proofs.Common.{arith}
 use Rattle.p21_schema.proofs.RowLemmas.{own_behind}
 use Rattle.p21_schema.proofs.rows.push_own.Goals as goal
 

@@ -1,4 +1,4 @@
-use Rattle.std.proofs.Common.{◌≡◌, List, [], take}
+use Rattle.std.proofs.Common.{◌≡◌, List, take}
 use Rattle.p21_schema.specs.declared.ids.AttrId.{AttrId}
 use Rattle.p21_schema.specs.RowTable.{AreSharedRows, all_kept, joined, first_of, row_in}
 use Rattle.p21_schema.proofs.rows.row_of.Given as goal

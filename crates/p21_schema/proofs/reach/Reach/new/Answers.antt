@@ -1,8 +1,6 @@
-use Rattle.std.proofs.Common.{◌≡◌, ◌<◌, ◌↔◌, ℕ, [], length, get_or, sym, subst, ◌∙◌}
+use Rattle.std.proofs.Common.{[], get_or, sym, ◌∙◌}
 use Rattle.p21_express.specs.WellFormed.{IsIn}
 use Rattle.p21_schema.specs.Graph.{rows_of, plain_graph}
-use Rattle.p21_schema.specs.Ranges.{Covers}
-use Rattle.p21_schema.specs.Reach.{IsWithin}
 use Rattle.p21_schema.proofs.WithinLemmas.{reach_at}
 use Rattle.p21_schema.proofs.GraphLemmas.{row_count}
 use Rattle.p21_schema.proofs.RangeLemmas.{in_permuted}

@@ -1,12 +1,9 @@
-use Rattle.std.proofs.Common.{◌≡◌, ◌<◌, ◌≤◌, ◌++◌, ◌∷◌, ℕ, List, [], length, get_or, take, map, sym, ap, subst, ◌∙◌, arith, ◌+◌}
+use Rattle.std.proofs.Common.{◌≡◌, ◌<◌, ◌≤◌, ◌++◌, ◌∷◌, ℕ, List, [], length, get_or, take, sym, ap, subst, ◌∙◌, arith, ◌+◌}
 use Rattle.std.proofs.lemmas.List.{length_push, take_all}
-use Rattle.p21_express.specs.Schema.{Schema}
 use Rattle.p21_express.specs.WellFormed.{IsIn}
-use Rattle.p21_schema.specs.declared.ids.AttrId.{AttrId}
 use Rattle.p21_schema.specs.Ancestry.{AreNamed}
 use Rattle.p21_schema.specs.Graph.{plain_graph}
 use Rattle.p21_schema.specs.Place.{no_entity}
-use Rattle.p21_schema.specs.Reach.{ArePlaces}
 use Rattle.p21_schema.specs.RowTable.{IsRowAt, IsNextRow, AreSharedRows, IsSharedRow, row_in, no_own}
 use Rattle.p21_schema.proofs.Members.{in_front}
 use Rattle.p21_schema.proofs.AncestryLemmas.{all_names}

@@ -1,15 +1,14 @@
-use Rattle.std.proofs.Common.{◌≡◌, ◌<◌, ℕ, sym, subst, List, [], map, length, get_or, ap, ◌∙◌}
+use Rattle.std.proofs.Common.{◌≡◌, ◌<◌, ℕ, sym, subst, List, [], map, get_or, ap, ◌∙◌}
 use Rattle.std.proofs.lemmas.List.{length-map}
 use Rattle.p21_express.specs.Schema.{Entity, Defined}
 use Rattle.p21_express.specs.Plain.{plain_schema, plain_entity, plain_type}
 use Rattle.p21_schema.specs.Rules.{with_rules}
-use Rattle.p21_schema.specs.Graph.{plain_graph, IsReachTable, rows_of}
+use Rattle.p21_schema.specs.Graph.{plain_graph}
 use Rattle.p21_schema.specs.Ancestry.{AreSupertypesNamed}
 use Rattle.p21_schema.specs.SelectTable.{AreSelectTables}
 use Rattle.p21_schema.specs.Under.{AreResolved}
-use Rattle.p21_schema.proofs.GraphLemmas.{row_count}
 use Rattle.p21_schema.proofs.RuleLemmas.{fits_with, own_with}
-use Rattle.p21_schema.proofs.AncestryLemmas.{named_by, distinct_entities, supertypes_known, edges_below, no_cycle, supertype_table}
+use Rattle.p21_schema.proofs.AncestryLemmas.{named_by, distinct_entities, supertypes_known, no_cycle, supertype_table}
 use Rattle.p21_schema.proofs.DeclarationLemmas.{empty_at}
 use Rattle.p21_schema.proofs.UnderLemmas.{distinct_types, other_known, unders_known}
 use Rattle.p21_schema.proofs.schema.Schema.build_with_key.Goals as goal
