@@ -8,7 +8,7 @@ use Rattle.p21_schema.specs.Ancestry.{AreSupertypesNamed}
 use Rattle.p21_schema.specs.SelectTable.{AreSelectTables}
 use Rattle.p21_schema.specs.Under.{AreResolved}
 use Rattle.p21_schema.proofs.RuleLemmas.{fits_with, own_with}
-use Rattle.p21_schema.proofs.AncestryLemmas.{named_by, distinct_entities, supertypes_known, no_cycle, supertype_table}
+use Rattle.p21_schema.proofs.AncestryLemmas.{named_by, distinct_entities, supertypes_known, edges_below, no_cycle, supertype_table}
 use Rattle.p21_schema.proofs.DeclarationLemmas.{empty_at}
 use Rattle.p21_schema.proofs.UnderLemmas.{distinct_types, other_known, unders_known}
 use Rattle.p21_schema.proofs.schema.Schema.build_with_key.Goals as goal
