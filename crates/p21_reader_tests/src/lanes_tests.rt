@@ -21,8 +21,8 @@ use std::time::Clock;
 
 /// A reading by lanes, in numbers.
 #[derive(Clone, Copy, Debug, PartialEq, Eq)]
-struct Numbers {
-    answer: Answer,
+pub(crate) struct Numbers {
+    pub(crate) answer: Answer,
     receipts: usize,
     dealt: usize,
 }
@@ -42,7 +42,7 @@ fn is_settled(reading: &Reading<'_>) -> bool {
 }
 
 /// What lanes of one place each read.
-fn read_in<G: Gate + Sync, R: Threads + Wait + Sync>(
+pub(crate) fn read_in<G: Gate + Sync, R: Threads + Wait + Sync>(
     rt: &R,
     alloc: Global,
     schema: &Schema,

@@ -4,6 +4,8 @@
 #[cfg(test)]
 mod all_tests;
 #[cfg(test)]
+mod damage_tests;
+#[cfg(test)]
 mod files;
 #[cfg(test)]
 mod gathering_tests;

@@ -70,7 +70,7 @@ const FILE: &[u8] =
     b"ISO-10303-21;HEADER;FILE_DESCRIPTION((''),'2;1');FILE_NAME('','',(''),(''),'','','');FILE_SCHEMA(('TOY'));ENDSEC;DATA;#1=ITEM('A001',$,#3);#2=PROP(LABEL('x'));#3=SPECIAL('A003','t',$);#4=(BASE(1)LEFT(2)RIGHT(.T.));#5=GROUP((#1,#3));ENDSEC;END-ISO-10303-21;";
 
 /// The table of the small schema.
-fn toy(alloc: Global) -> Option<Schema> {
+pub(crate) fn toy(alloc: Global) -> Option<Schema> {
     let declarations = read_declarations(alloc, TOY).ok()?;
     Schema::build(alloc, declarations, Rules::default()).ok()
 }

@@ -11,6 +11,7 @@ use crate::program_error::ProgramError;
 use crate::progress::{NoClock, Progress, Stage};
 use crate::watched::Watched;
 use crate::words::{Wanted, not_text, what_is_wanted};
+use p21_hash::HashKey;
 use p21_run::{Outcome, Sink, Source, Stream, run_heard};
 use std::alloc::{AllocError, Global};
 use std::fs::Files;
