@@ -49,7 +49,8 @@ pub(crate) fn find(file: &[u8], name: u64, before: usize) -> Option<Piece<'_>> {
 }
 
 /// Where the name of an instance is spelled before a place, as at an instance's beginning; none where it is so at no place or at several,
-/// or is so short that its digits stand everywhere. Each instance of the name is spelled so, hence the only place is the instance's.
+/// where that is not plain, or where it is so short that its digits stand everywhere. Each instance of the name is spelled so, hence the
+/// only place is the instance's.
 fn only_spelling(file: &[u8], name: u64, before: usize) -> Option<usize> {
     let mut buffer = Buffer::new();
     let digits = buffer.format(name).as_bytes();
@@ -58,29 +59,52 @@ fn only_spelling(file: &[u8], name: u64, before: usize) -> Option<usize> {
     }
     let mut found = None;
     for at in memmem::find_iter(&file[..before.min(file.len())], digits) {
-        if let Some(start) = beginning(file, at, name) {
-            if found.is_some() {
-                return None;
-            }
-            found = Some(start);
+        match spelling_at(file, at, name) {
+            Spelling::Elsewhere => {}
+            Spelling::Beginning(start) if found.is_none() => found = Some(start),
+            Spelling::Beginning(_) | Spelling::Unclear => return None,
         }
     }
     found
 }
 
-/// The place of the `#` of an instance name whose digits stand at a place, perhaps behind zeros, where `=` follows the name.
-fn beginning(file: &[u8], at: usize, name: u64) -> Option<usize> {
-    let start = number_sign(&file[..at.min(file.len())])?;
+/// Where the digits of an instance name stand.
+enum Spelling {
+    /// Behind a `#` and perhaps zeros, and before `=`, as at the beginning of an instance; the place of the `#`.
+    Beginning(usize),
+    /// Behind a `#`, and before what may be a comment: to see what follows it would cost its length each time.
+    Unclear,
+    /// Anywhere else.
+    Elsewhere,
+}
+
+/// Where the digits of a name stand that are at a place.
+fn spelling_at(file: &[u8], at: usize, name: u64) -> Spelling {
+    let Some(start) = number_sign(&file[..at.min(file.len())]) else {
+        return Spelling::Elsewhere;
+    };
     if start > file.len() {
-        return None;
+        return Spelling::Elsewhere;
     }
     let lexed = next_token(file, start);
-    let behind = next_token(file, lexed.after).token;
-    if lexed.token == Token::Name(name) && behind == Token::Equals {
-        Some(start)
-    } else {
-        None
+    if lexed.token != Token::Name(name) {
+        return Spelling::Elsewhere;
     }
+    match next_visible(file, lexed.after) {
+        Some(b'=') => Spelling::Beginning(start),
+        Some(b'/') => Spelling::Unclear,
+        _ => Spelling::Elsewhere,
+    }
+}
+
+/// The first byte from a place on that is neither a blank nor a character of control.
+fn next_visible(file: &[u8], at: usize) -> Option<u8> {
+    for byte in file.get(at..)? {
+        if *byte > b' ' {
+            return Some(*byte);
+        }
+    }
+    None
 }
 
 /// The place of the `#` with which a text ends, but for zeros behind it.

@@ -155,22 +155,20 @@ pub(crate) fn integer_in(bytes: &[u8], rec: u64, attr: u64) -> Option<&[u8]> {
 /// names, is not looked through.
 pub(crate) fn repeated_in(bytes: &[u8], rec: u64, attr: u64) -> Option<(u64, usize)> {
     let mut spots = Spots::new(bytes);
-    let mut names: usize = 0;
+    let mut names = [0; MOST_NAMES];
+    let mut count: usize = 0;
     for _ in 0..bytes.len() {
         let (lexed, spot) = spots.next()?;
         match lexed.token {
             Token::Name(name) if spot.is_in(rec, attr) => {
-                names = names.saturating_add(1);
-                let first = reference_at(bytes, rec, attr, name)?;
-                if first.start < lexed.start {
+                if names.get(..count)?.contains(&name) {
                     return Some((name, lexed.start));
                 }
+                *names.get_mut(count)? = name;
+                count = count.saturating_add(1);
             }
             Token::LParen if spot == (Spot::Inside { rec, attr }) => return None,
             _ => {}
-        }
-        if names > MOST_NAMES {
-            return None;
         }
     }
     None

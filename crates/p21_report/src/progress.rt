@@ -20,7 +20,7 @@ const SAMPLE: usize = 256;
 const MEGABYTE: u64 = 1_000_000;
 
 /// What covers a line: it is as long as the longest.
-const BLANK: &[u8] = b"\r                                                \r";
+const BLANK: &[u8] = b"\r                                          \r";
 
 /// What a run is at.
 #[derive(Clone, Copy)]

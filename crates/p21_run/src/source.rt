@@ -78,7 +78,7 @@ impl<T> Stream<T> {
         }
     }
 
-    /// The last error that the reader or the writer answered.
+    /// The last error by which the reader or the writer failed.
     pub fn error(&self) -> Option<io::Error> {
         self.error
     }
@@ -95,7 +95,9 @@ impl<R: Read> Source for Stream<R> {
 
     fn read(&mut self, into: &mut [u8]) -> Result<usize, IoFault> {
         let answer = self.inner.read(into);
-        if let Err(error) = &answer {
+        if let Err(error) = &answer
+            && fault_of(error) == IoFault::Failed
+        {
             self.error = Some(*error);
         }
         let result = answer.map_err(|error| fault_of(&error));
@@ -114,7 +116,9 @@ impl<W: Write> Sink for Stream<W> {
 
     fn write(&mut self, from: &[u8]) -> Result<usize, IoFault> {
         let answer = self.inner.write(from);
-        if let Err(error) = &answer {
+        if let Err(error) = &answer
+            && fault_of(error) == IoFault::Failed
+        {
             self.error = Some(*error);
         }
         let result = answer.map_err(|error| fault_of(&error));
