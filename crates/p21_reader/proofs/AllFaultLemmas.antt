@@ -152,7 +152,7 @@ begins_stop file o is f h =
     (t.0, record { opening = h.opening; body = h.body; tokens = t.1; is_opening = h.is_opening; are_instances = h.are_instances })
 
 -- the first faulty instance of a file gives its local fault
-local_first : (s : Schema) (file : List ℕ) (o : Opening) (is : List Instance) (place : ℕ) (f : Fault) (rest : List Fault) → FileBeginsWith file o is place → IsHeaderFault s o None → AreInstanceFaults s is (f ∷ rest) → IsLocalFaultOfFile s file f
+pub local_first : (s : Schema) (file : List ℕ) (o : Opening) (is : List Instance) (place : ℕ) (f : Fault) (rest : List Fault) → FileBeginsWith file o is place → IsHeaderFault s o None → AreInstanceFaults s is (f ∷ rest) → IsLocalFaultOfFile s file f
 local_first s file o is place f rest begins header h =
     let r = first_faulty s [] is (f ∷ rest) rest f h refl in
     let parts : is ≡ (r.earlier ++ r.instance ∷ []) ++ r.later = r.parts ∙ sym (append_assoc r.earlier (r.instance ∷ []) r.later) in

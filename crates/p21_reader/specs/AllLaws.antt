@@ -14,6 +14,10 @@ use Rattle.p21_reader.specs.Values.{Value, IsJudged}
 use Rattle.p21_reader.specs.AllFaults.{AreAllFaults, IsReadingWithAll}
 use Rattle.p21_reader.specs.AllByValues.{IsAllAnswerTo}
 
+-- no two lists are all faults of the file
+abbrev pub HasOneListOfFaultsAtMost : Schema → List ℕ → Type 0
+HasOneListOfFaultsAtMost s file = (a b : List Fault) → AreAllFaults s file a → AreAllFaults s file b → a ≡ b
+
 -- there are no faults and the answer is a model, or the first of them is the fault of the answer
 abbrev pub BeginWithAnswer : List Fault → Result (List Instance) Fault → Type 0
 BeginWithAnswer [] (Ok is) = Unit {0}
