@@ -585,6 +585,31 @@ fn record_of_a_simple_instance(rt: HostRuntime) -> Result<(), Fail> {
     Ok(())
 }
 
+/// The records of the instance of a text, in a vector, or nothing for want of memory.
+fn records_or_none(
+    rt: &impl Abort,
+    alloc: Global,
+    bytes: &'static [u8],
+) -> Option<Vec<Record<'static>>> {
+    match read_piece(alloc, piece(bytes)) {
+        Ok(read) => read.records.into_vec(alloc).ok(),
+        Err(error) => {
+            assert_eq!(rt; error, TreeError::Memory);
+            None
+        }
+    }
+}
+
+#[test]
+fn memory_or_the_answer(rt: HostRuntime) {
+    if let Some(listed) = records_or_none(&rt, rt.alloc(), b"#1=A(1);") {
+        check_record(&rt, &listed);
+    }
+    if let Some(listed) = records_or_none(&rt, rt.alloc(), b"#1=(A(1)B());") {
+        check_two_records(&rt, &listed);
+    }
+}
+
 #[test]
 fn size_of_an_instance(rt: HostRuntime) {
     assert_eq!(rt; size_of::<RawInstance<'static>>(), 88);
