@@ -1,5 +1,5 @@
 -- Graphs by lists of neighbors.
-use Rattle.std.specs.Prelude.{◌∷◌, ◌≡◌, ◌<◌, ◌≤◌, ◌+◌, ◌-◌, ◌*◌, ◌↔◌, ℕ, suc, Bool, true, false, List, [], map, length, get_or, take, Vec}
+use Rattle.std.specs.Prelude.{◌∷◌, ◌≡◌, ◌<◌, ◌≤◌, ◌+◌, ◌-◌, ◌*◌, ℕ, suc, Bool, true, false, List, [], map, length, get_or, take, Vec}
 use Rattle.p21_express.specs.WellFormed.{IsIn, AreDistinct}
 
 -- the rows of a table of the code as lists

@@ -1,5 +1,3 @@
-use Rattle.std.proofs.Common.{◌≡◌, ℕ, ◌+◌, ◌<◌, ◌≤◌, [], ◌∷◌, arith}
-use Rattle.p21_schema.specs.declared.ranges.Range.{Range}
 use Rattle.p21_schema.proofs.RangeLemmas.{covers_place}
 use Rattle.p21_schema.proofs.ranges.alone.Goals as goal
 

@@ -1,4 +1,4 @@
-use Rattle.std.proofs.Common.{◌≡◌, ◌<◌, get_or, length, sym, ◌∙◌}
+use Rattle.std.proofs.Common.{◌<◌, get_or, length, sym, ◌∙◌}
 use Rattle.std.proofs.lemmas.List.{take_all}
 use Rattle.p21_schema.specs.Graph.{rows_of}
 use Rattle.p21_schema.specs.Ranges.{Covers}

@@ -1,4 +1,4 @@
-use Rattle.std.proofs.Common.{◌≡◌, ◌<◌, ◌↔◌, ℕ, List, [], length, get_or, sym, subst, ◌∙◌}
+use Rattle.std.proofs.Common.{◌≡◌, ◌<◌, ◌↔◌, ℕ, [], length, get_or, sym, subst, ◌∙◌}
 use Rattle.p21_express.specs.WellFormed.{IsEntity, IsSelect}
 use Rattle.p21_schema.specs.declared.selects.Item.TheVariants as item_kind
 use Rattle.p21_schema.specs.Graph.{plain_graph, rows_of, AreEdgesBelow}
