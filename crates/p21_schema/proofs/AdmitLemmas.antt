@@ -1,60 +1,64 @@
 -- What SELECTs reach an entity or an ancestor of it.
-use Rattle.std.proofs.Common.{◌≡◌, ℕ, ◌<◌, ◌≤◌, Bool, List, [], map, length, get_or, refl, sym, subst, ◌∙◌, ⊎_elim, arith}
-use Rattle.std.proofs.lemmas.Bool.{cases_lt}
-use Rattle.std.proofs.lemmas.List.{get_or_past}
-use Rattle.p21_express.specs.Schema.{Schema, Entity}
-use Rattle.p21_express.specs.WellFormed.{IsIn, IsEntity, IsWellFormed, IsSupertype, IsAncestor}
-use Rattle.p21_express.specs.WellFormed as way
-use Rattle.p21_schema.specs.Ancestry.{AreSupertypesNamed}
-use Rattle.p21_schema.specs.Graph.{Reaches, here, through, IsReachTable, IsTransposed}
+use Rattle.std.proofs.Common.{◌≡◌, ℕ, ◌<◌, ◌↔◌, List, [], length, get_or, refl, sym, subst, ◌∙◌, inl, inr, ⊎_elim}
+use Rattle.p21_express.specs.Schema.{Schema}
+use Rattle.p21_express.specs.WellFormed.{IsEntity, IsWellFormed, IsAncestor, HasNoUnknown, one, more}
+use Rattle.p21_schema.specs.declared.ranges.Range.{Range}
+use Rattle.p21_schema.specs.declared.reach.Reach.{Reach}
+use Rattle.p21_schema.specs.declared.resolved.Resolved.{Resolved}
+use Rattle.p21_schema.specs.declared.selects.Item.TheVariants as item_kind
+use Rattle.p21_schema.specs.Ancestry.{entity_id, IsDescentTable, IsA}
+use Rattle.p21_schema.specs.Graph.{rows_of, Reaches}
+use Rattle.p21_schema.specs.Ranges.{Covers}
+use Rattle.p21_schema.specs.Reach.{IsReachTable}
 use Rattle.p21_schema.specs.Select.{SelectReaches, ReachesA, itself, above}
-use Rattle.p21_schema.specs.SelectTable.{IsSelectTable, IsAdmitTable, entity_named, type_named}
-use Rattle.p21_schema.proofs.AncestryLemmas.{name_count, edge_names, names_edge, distinct_entities}
-use Rattle.p21_schema.proofs.SelectLemmas.{entity_reached}
+use Rattle.p21_schema.specs.SelectItems.{IsItemGraph}
+use Rattle.p21_schema.specs.SelectTable.{IsAdmitTable, entity_named, type_named}
+use Rattle.p21_schema.specs.Under.{AreResolved}
+use Rattle.p21_schema.proofs.Members.{place_of}
+use Rattle.p21_schema.proofs.AncestryLemmas.{all_names, name_count, name_at, supertypes_known}
+use Rattle.p21_schema.proofs.RangeLemmas.{↔_through}
+use Rattle.p21_schema.proofs.SelectLemmas.{reaches_names, names_reach, stands_entity, entity_at_place}
+use Rattle.p21_schema.proofs.UnderLemmas.{type_names}
 
--- what reaches a supertype or an ancestor of it reaches an ancestor
-risen : (s : Schema) (n : List ℕ) {a b : List ℕ} → IsSupertype s a b → ReachesA s n b → ReachesA s n a
-risen s n step (itself r) = above (way.one step) r
-risen s n step (above up r) = above (way.more step up) r
+-- an ancestor is an entity
+known : (s : Schema) → HasNoUnknown s → {x y : List ℕ} → IsAncestor s x y → IsEntity s y
+known s h {y = y} (one step) = supertypes_known s h step.entity y step.declared step.named
+known s h (more step up) = known s h up
 
-module _ (s : Schema) (formed : IsWellFormed s) (graph : List (List ℕ)) (h : AreSupertypesNamed (map (λ (e : Entity). e.name) s.entities) graph s.entities) (reached : List (List Bool)) (t : IsSelectTable s (IsEntity s) (length s.entities) (entity_named s) reached) (direct : List (List ℕ)) (d : IsTransposed reached (length s.entities) direct) where
-  -- an edge from an entity leads to a type that reaches it
-  direct_at : (e i : ℕ) → IsIn (get_or direct e []) i → e < length s.entities
-  direct_at e i edge =
-      let count : length direct ≡ length s.entities = d.count in
+module _ (s : Schema) (formed : IsWellFormed s) (unders : List Resolved) (r : AreResolved (all_names s) (type_names s) unders s.types) (inner : List (List ℕ)) (g : IsItemGraph unders item_kind.Select inner) (direct : List (List ℕ)) (d : IsItemGraph unders item_kind.Entity direct) (reach : Reach) (t : IsDescentTable s reach) where
+  held : {i x : ℕ} → Reaches direct inner i x → (x < length s.entities) × (IsEntity s (entity_named s x) × SelectReaches s (type_named s i) (entity_named s x))
+  held {i} {x} l = reaches_names s formed unders r inner g item_kind.Entity (IsEntity s) (length s.entities) (entity_named s) (stands_entity s formed unders r) direct d l
+
+  way : (i x : ℕ) → i < length s.types → x < length s.entities → SelectReaches s (type_named s i) (entity_named s x) → Reaches direct inner i x
+  way i x li lx h = names_reach s formed unders r inner g item_kind.Entity (IsEntity s) (length s.entities) (entity_named s) (stands_entity s formed unders r) direct d h i x li lx refl refl (entity_at_place s x lx)
+
+  within : (x e : ℕ) → x < length s.entities → e < length s.entities → Covers (get_or (rows_of reach.rows) x []) (get_or reach.places.items e 0) ↔ IsA s (entity_id e) (entity_id x)
+  within x e lx le = ↔_through (t.reaches.within x e (subst (λ u. x < u) (sym t.count) lx) (subst (λ u. e < u) (sym t.count) le)) (t.descents e x le lx)
+
+  -- the type reaches an entity, whose descents hold the place
+  abbrev IsHeld : ℕ → ℕ → Type 0
+  IsHeld i place = (x : ℕ) × (Reaches direct inner i x × Covers (get_or (rows_of reach.rows) x []) place)
+
+  admitted : (i e : ℕ) → e < length s.entities → IsHeld i (get_or reach.places.items e 0) → ReachesA s (type_named s i) (entity_named s e)
+  admitted i e le h =
+      let p = held h.1.0 in
       ⊎_elim
-      (λ (l : e < length s.entities). l)
-      (λ (g : length s.entities ≤ e). absurd (subst (λ (u : List ℕ). IsIn u i) (get_or_past direct e [] (omega arith)) edge))
-      (cases_lt e (length s.entities))
+      (λ (same : entity_named s e ≡ entity_named s h.0). itself (subst (λ (u : List ℕ). SelectReaches s (type_named s i) u) (sym same) p.1.1))
+      (λ (up : IsAncestor s (entity_named s e) (entity_named s h.0)). above up p.1.1)
+      ((within h.0 e p.0 le).0 h.1.1)
 
-  admitted : {e i : ℕ} → i < length s.types → Reaches direct graph e i → ReachesA s (type_named s i) (entity_named s e)
-  admitted {e} {i} li (here edge) =
-      let le = direct_at e i edge in
-      itself ((entity_reached s reached i e t li le).0 ((d.rows e le i).0 edge))
-  admitted {e} li (through {b = w} edge l) = risen s _ (edge_names s graph h e w edge) (admitted li l)
+  found : (i e : ℕ) → i < length s.types → e < length s.entities → ReachesA s (type_named s i) (entity_named s e) → IsHeld i (get_or reach.places.items e 0)
+  found i e li le (itself h) = (e, (way i e li le h, (within e e le le).1 (inl refl)))
+  found i e li le (above {a = a} up h) =
+      let p = place_of (all_names s) a (known s formed.unknown up) in
+      let lx : p.0 < length s.entities = subst (λ u. p.0 < u) (name_count s) p.1.0 in
+      let is : entity_named s p.0 ≡ a = sym (name_at s p.0) ∙ p.1.1 [] in
+      (p.0, (way i p.0 li lx (subst (λ (u : List ℕ). SelectReaches s (type_named s i) u) (sym is) h), (within p.0 e lx le).1 (inr (subst (λ (u : List ℕ). IsAncestor s (entity_named s e) u) (sym is) up))))
 
-  reaches_direct : (e i : ℕ) → e < length s.entities → i < length s.types → SelectReaches s (type_named s i) (entity_named s e) → Reaches direct graph e i
-  reaches_direct e i le li r = here ((d.rows e le i).1 ((entity_reached s reached i e t li le).1 r))
-
-  -- the supertype of a name, by its place
-  climbed : {x a : List ℕ} → IsAncestor s x a → (e i : ℕ) → e < length s.entities → i < length s.types → x ≡ entity_named s e → SelectReaches s (type_named s i) a → Reaches direct graph e i
-  climbed {x} {a} (way.one step) e i le li is r =
-      let w = names_edge s graph h (distinct_entities s formed.repeated) e a le (subst (λ u. IsSupertype s u a) is step) in
-      let lw : w.0 < length s.entities = subst (λ u. w.0 < u) (name_count s) ((h.rows e le).below w.0 w.1.0) in
-      through w.1.0 (reaches_direct w.0 i lw li (subst (SelectReaches s (type_named s i)) (sym w.1.1) r))
-  climbed {x} {a} (way.more {b = m} step up) e i le li is r =
-      let w = names_edge s graph h (distinct_entities s formed.repeated) e m le (subst (λ u. IsSupertype s u m) is step) in
-      let lw : w.0 < length s.entities = subst (λ u. w.0 < u) (name_count s) ((h.rows e le).below w.0 w.1.0) in
-      through w.1.0 (climbed up w.0 i lw li (sym w.1.1) r)
-
-  found : (e i : ℕ) → e < length s.entities → i < length s.types → ReachesA s (type_named s i) (entity_named s e) → Reaches direct graph e i
-  found e i le li (itself r) = reaches_direct e i le li r
-  found e i le li (above up r) = climbed up e i le li refl r
-
-  pub admit_table : (table : List (List Bool)) → IsReachTable direct graph (length reached) table → IsAdmitTable s table
-  admit_table table r = record {
-    count = r.count ∙ h.count;
-    marks = λ e i le li.
-        let row = (r.rows e (subst (λ u. e < u) (sym h.count) le)).reached i in
-        (λ m. admitted li (row.0 m), λ a. row.1 (found e i le li a));
+  pub admit_table : (table : List (List Range)) → IsReachTable direct inner (rows_of reach.rows) table → IsAdmitTable s reach.places.items table
+  admit_table table h = record {
+    count = h.count ∙ g.count ∙ r.count;
+    covers = λ e i le li.
+        let row = h.rows i (subst (λ u. i < u) (sym (g.count ∙ r.count)) li) (get_or reach.places.items e 0) in
+        (λ c. admitted i e le (row.0 c), λ a. row.1 (found i e li le a));
   }

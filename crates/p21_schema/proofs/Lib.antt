@@ -3,7 +3,6 @@ pub mod NameLemmas
 pub mod RuleLemmas
 pub mod GraphLemmas
 pub mod ReachLemmas
-pub mod TransposeLemmas
 pub mod AncestryLemmas
 pub mod RowLemmas
 pub mod UnderLemmas

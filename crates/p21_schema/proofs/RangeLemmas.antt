@@ -1,5 +1,5 @@
 -- Sets of places as ranges.
-use Rattle.std.proofs.Common.{◌≡◌, ℕ, ◌+◌, ◌<◌, ◌↔◌, List, [], ◌∷◌, ◌++◌, ◌⊎◌, length, get_or, take, refl, sym, ap, ◌∙◌, subst, inl, inr, ⊎_elim}
+use Rattle.std.proofs.Common.{◌≡◌, ℕ, ◌+◌, ◌<◌, ◌≤◌, ◌↔◌, List, [], ◌∷◌, ◌++◌, ◌⊎◌, length, get_or, take, refl, sym, ap, ◌∙◌, subst, inl, inr, ⊎_elim, arith}
 use Rattle.std.specs.List.Sorted.{IsPermutation}
 use Rattle.std.proofs.lemmas.List.Sorted.{Contains-permutation, IsPermutation-sym}
 use Rattle.std.proofs.lemmas.List.{take_more}
@@ -7,6 +7,15 @@ use Rattle.p21_express.specs.WellFormed.{IsIn}
 use Rattle.p21_schema.specs.declared.ranges.Range.{Range}
 use Rattle.p21_schema.specs.Ranges.{IsInRange, Covers, SomeCovers}
 use Rattle.p21_schema.proofs.Members.{place_of, at_place, in_left, in_right, in_either, front_more, front_in, last_in}
+
+pub ↔_back : {A B : Type 0} → A ↔ B → B ↔ A
+↔_back f = (f.1, f.0)
+
+pub ↔_left : {A B C : Type 0} → A ↔ B → (A ⊎ C) ↔ (B ⊎ C)
+↔_left {A} {B} {C} f = (λ s. ⊎_elim (λ (a : A). inl (f.0 a)) (λ (c : C). inr c) s, λ s. ⊎_elim (λ (b : B). inl (f.1 b)) (λ (c : C). inr c) s)
+
+pub ↔_through : {A B C : Type 0} → A ↔ B → B ↔ C → A ↔ C
+↔_through f g = (λ a. g.0 (f.0 a), λ c. f.1 (g.1 c))
 
 -- a permutation has the same members
 pub in_permuted : {X : Type 0} (xs ys : List X) → IsPermutation xs ys → (x : X) → IsIn xs x → IsIn ys x
@@ -26,6 +35,22 @@ covers_append xs ys k = (
 
 pub covers_one : (r : Range) (k : ℕ) → Covers (r ∷ []) k ↔ IsInRange r k
 covers_one r k = (λ c. ⊎_elim (λ (e : r ≡ c.0). subst (λ u. IsInRange u k) (sym e) c.1.1) (λ (n : ⊥). absurd n) c.1.0, λ h. (r, (inl refl, h)))
+
+-- a range of one place
+pub covers_place : (place k : ℕ) → Covers (record { from = place; to = place + 1 } ∷ []) k ↔ (k ≡ place)
+covers_place place k =
+    let o = covers_one (record { from = place; to = place + 1 }) k in (
+      λ c. let h = o.0 c in let from : place ≤ k = h.0 in let to : k < place + 1 = h.1 in omega arith,
+      λ e. o.1 (omega arith, omega arith),
+    )
+
+-- one of two unions
+pub covers_both : {A B C D : Type 0} → A ↔ (B ⊎ D) → B ↔ C → A ↔ (C ⊎ D)
+covers_both f g = ↔_through f (↔_left g)
+
+-- ranges without any hold no place
+pub covers_none : (k : ℕ) (D : Type 0) → (Covers [] k ⊎ D) ↔ D
+covers_none k D = (λ s. ⊎_elim (λ (c : Covers [] k). absurd c.1.0) (λ (d : D). d) s, λ d. inr d)
 
 pub covers_push : (xs : List Range) (r : Range) (k : ℕ) → Covers (xs ++ r ∷ []) k ↔ (Covers xs k ⊎ IsInRange r k)
 covers_push xs r k =
@@ -75,11 +100,13 @@ covers_behind rest old between new last range o b n k =
 pub covers_take : (rs : List Range) (i k : ℕ) (d : Range) → i < length rs → Covers (take (i + 1) rs) k ↔ (Covers (take i rs) k ⊎ IsInRange (get_or rs i d) k)
 covers_take rs i k d less = rw (take_more rs i d less) (covers_push (take i rs) (get_or rs i d) k)
 
-pub ↔_back : {A B : Type 0} → A ↔ B → B ↔ A
-↔_back f = (f.1, f.0)
+-- ranges of which one holds a place, and ranges of which none does yet
+pub held_at : (rs : List Range) (i : ℕ) (d : Range) → i < length rs → (get_or rs i d).from < (get_or rs i d).to → (k : ℕ) × Covers rs k
+held_at rs i d less l = ((get_or rs i d).from, (get_or rs i d, (at_place rs i d less, (omega arith, l))))
 
-pub ↔_left : {A B C : Type 0} → A ↔ B → (A ⊎ C) ↔ (B ⊎ C)
-↔_left {A} {B} {C} f = (λ s. ⊎_elim (λ (a : A). inl (f.0 a)) (λ (c : C). inr c) s, λ s. ⊎_elim (λ (b : B). inl (f.1 b)) (λ (c : C). inr c) s)
-
-pub ↔_through : {A B C : Type 0} → A ↔ B → B ↔ C → A ↔ C
-↔_through f g = (λ a. g.0 (f.0 a), λ c. f.1 (g.1 c))
+pub none_more : (rs : List Range) (i : ℕ) (d : Range) → i < length rs → ¬ ((k : ℕ) × Covers (take i rs) k) → (get_or rs i d).to ≤ (get_or rs i d).from → ¬ ((k : ℕ) × Covers (take (i + 1) rs) k)
+none_more rs i d less none bound h =
+    ⊎_elim
+    (λ (l : Covers (take i rs) h.0). none (h.0, l))
+    (λ (r : IsInRange (get_or rs i d) h.0). let from : (get_or rs i d).from ≤ h.0 = r.0 in let to : h.0 < (get_or rs i d).to = r.1 in omega arith)
+    ((covers_take rs i h.0 d less).0 h.1)

@@ -1,9 +1,7 @@
 -- What SELECTs reach.
 use Rattle.std.proofs.Common.{◌≡◌, ℕ, zero, suc, ◌+◌, ◌<◌, ◌≤◌, ◌↔◌, Bool, true, false, List, [], ◌∷◌, ◌++◌, Option, Some, map, length, get_or, take, refl, sym, ap, ◌∙◌, subst, inl, inr, ⊎_elim, ◌⊎◌, arith}
 use Rattle.std.specs.Prelude.{slice_get}
-use mathlib.Core.Bool.{beq}
-use Rattle.std.specs.List.{list_any}
-use Rattle.std.proofs.lemmas.Bool.{cases_eq, cases_lt, false≢true}
+use Rattle.std.proofs.lemmas.Bool.{cases_eq, cases_lt}
 use Rattle.std.proofs.lemmas.List.{length-map, get_or-map, get_or_past, get_or_append_left, get_or_push}
 use Rattle.p21_express.specs.Schema.{Schema, Defined, Underlying, items, select, plain}
 use Rattle.p21_express.specs.WellFormed.{IsIn, IsEntity, IsType, IsSelect, IsSelectType, IsInnerSelect, IsWellFormed, Leads, one, more, HasNoCycle}
@@ -14,7 +12,10 @@ use Rattle.p21_schema.specs.declared.resolved.Resolved.TheVariants as resolved
 use Rattle.p21_schema.specs.declared.selects.Item.{Item}
 use Rattle.p21_schema.specs.declared.selects.Item.TheVariants as item_kind
 use Rattle.p21_schema.specs.Place.{no_type}
-use Rattle.p21_schema.specs.Graph.{HasEdge, AreEdgesBelow, Reaches, here, through as onward, IsReachTable, IsMarked}
+use Rattle.p21_schema.specs.Graph.{HasEdge, AreEdgesBelow, Reaches, here, through as onward, IsMarked}
+use Rattle.p21_schema.specs.Ranges.{Covers}
+use Rattle.p21_schema.specs.Reach.{IsReachTable}
+use Rattle.p21_schema.specs.declared.ranges.Range.{Range}
 use Rattle.p21_schema.specs.Resolved.{target_name}
 use Rattle.p21_schema.specs.Under.{IsResolved, AreResolved}
 use Rattle.p21_schema.specs.Select.{IsItem, SelectReaches, item, through, ReachesType}
@@ -77,22 +78,13 @@ graph_more unders wanted graph row k u less is long rows this i d l =
 
 -- ---- marks
 
-pub marks_more : (rows : List (List Bool)) (marks : List Bool) (mark : Bool) (k : ℕ) → length marks ≡ k → (mark ≡ true) ↔ ((j : ℕ) × IsMarked (get_or rows k []) j) → ((i : ℕ) → i < k → IsMarked marks i ↔ ((j : ℕ) × IsMarked (get_or rows i []) j))
-    → (i : ℕ) → i < k + 1 → IsMarked (marks ++ mark ∷ []) i ↔ ((j : ℕ) × IsMarked (get_or rows i []) j)
+pub marks_more : (rows : List (List Range)) (marks : List Bool) (mark : Bool) (k : ℕ) → length marks ≡ k → (mark ≡ true) ↔ ((j : ℕ) × Covers (get_or rows k []) j) → ((i : ℕ) → i < k → IsMarked marks i ↔ ((j : ℕ) × Covers (get_or rows i []) j))
+    → (i : ℕ) → i < k + 1 → IsMarked (marks ++ mark ∷ []) i ↔ ((j : ℕ) × Covers (get_or rows i []) j)
 marks_more rows marks mark k long this before i l =
     ⊎_elim
     (λ (e : i ≡ k). rw (e, get_or_push marks mark false k long) this)
     (λ (ne : (i ≡ k) → ⊥). let less : i < k = omega arith in rw (get_or_append_left marks (mark ∷ []) false i (omega arith)) (before i less))
     (cases_eq i k)
-
-pub any_true : (row : List Bool) → (list_any (λ b. beq b true) row ≡ true) ↔ ((j : ℕ) × IsMarked row j)
-any_true [] = (λ h. absurd (false≢true h), λ j. absurd (false≢true j.1))
-any_true (true ∷ row) = (λ h. (0, refl), λ j. refl)
-any_true (false ∷ row) = (λ h. let j = (any_true row).0 h in (suc j.0, j.1), back row (λ j. (any_true row).1 j))
-  where
-    back : (row : List Bool) → (((j : ℕ) × IsMarked row j) → list_any (λ b. beq b true) row ≡ true) → ((j : ℕ) × IsMarked (false ∷ row) j) → list_any (λ b. beq b true) row ≡ true
-    back row h (zero, m) = absurd (false≢true m)
-    back row h (suc j, m) = h (j, m)
 
 -- ---- what a target is
 
@@ -332,55 +324,59 @@ module _ (s : Schema) (formed : IsWellFormed s) (unders : List Resolved) (r : Ar
         (p.0, (p.1.0, (p.1.1, item_edge item_kind.Select (IsSelect s) (length s.types) (type_named s) stands_select inner g i p.0 less p.1.0 it (subst (λ (u : List ℕ). IsSelect s u) (sym p.1.1) h.selects))))
 
     module _ (wanted : Item) (Wanted : List ℕ → Type 0) (size : ℕ) (named : ℕ → List ℕ) (stands : Stands wanted Wanted size named) (direct : List (List ℕ)) (d : IsItemGraph unders wanted direct) where
-      reaches_names : {i k : ℕ} → Reaches direct inner i k → Wanted (named k) × SelectReaches s (type_named s i) (named k)
-      reaches_names {i} {k} (here e) = let h = edge_item wanted Wanted size named stands direct d i k e in (h.1.1, item h.1.0)
-      reaches_names {i} (onward {b = w} e l) = let h = reaches_names l in (h.0, through (inner_edge i w e) h.1)
+      pub reaches_names : {i k : ℕ} → Reaches direct inner i k → (k < size) × (Wanted (named k) × SelectReaches s (type_named s i) (named k))
+      reaches_names {i} {k} (here e) = let h = edge_item wanted Wanted size named stands direct d i k e in (h.0, (h.1.1, item h.1.0))
+      reaches_names {i} (onward {b = w} e l) = let h = reaches_names l in (h.0, (h.1.0, through (inner_edge i w e) h.1.1))
 
-      names_reach : {x y : List ℕ} → SelectReaches s x y → (i k : ℕ) → i < length s.types → k < size → x ≡ type_named s i → y ≡ named k → Wanted (named k) → Reaches direct inner i k
+      pub names_reach : {x y : List ℕ} → SelectReaches s x y → (i k : ℕ) → i < length s.types → k < size → x ≡ type_named s i → y ≡ named k → Wanted (named k) → Reaches direct inner i k
       names_reach {x} {y} (item it) i k li lk ex ey w = here (item_edge wanted Wanted size named stands direct d i k li lk (subst (λ (u : List ℕ). IsItem s (type_named s i) u) ey (subst (λ (u : List ℕ). IsItem s u y) ex it)) w)
       names_reach {x} {y} (through {b = b} h l) i k li lk ex ey w =
           let p = edge_inner i b li (subst (λ (u : List ℕ). IsInnerSelect s u b) ex h) in
           onward p.1.1.1 (names_reach l p.0 k p.1.0 lk (sym p.1.1.0) ey w)
 
-      pub select_table : (table : List (List Bool)) → IsReachTable direct inner size table → IsSelectTable s Wanted size named table
-      select_table table t = record {
+      pub select_table : (firsts table : List (List Range)) → ((v k : ℕ) → v < size → Covers (get_or firsts v []) k ↔ (k ≡ v)) → IsReachTable direct inner firsts table → IsSelectTable s Wanted size named table
+      select_table firsts table alone t = record {
         count = t.count ∙ g.count ∙ r.count;
-        columns = λ i less. (t.rows i (subst (λ u. i < u) (sym (g.count ∙ r.count)) less)).count;
-        marks = λ i k li lk.
-            let row = (t.rows i (subst (λ u. i < u) (sym (g.count ∙ r.count)) li)).reached k in
-            (λ m. reaches_names (row.0 m), λ p. row.1 (names_reach p.1 i k li lk refl refl p.0));
+        within = λ i k less c.
+            let h = (t.rows i (subst (λ u. i < u) (sym (g.count ∙ r.count)) less) k).0 c in
+            let p = reaches_names h.1.0 in
+            subst (λ u. u < size) (sym ((alone h.0 k p.0).0 h.1.1)) p.0;
+        covers = λ i k li lk.
+            let row = t.rows i (subst (λ u. i < u) (sym (g.count ∙ r.count)) li) k in (
+              λ c.
+                  let h = row.0 c in
+                  let p = reaches_names h.1.0 in
+                  subst (λ u. Wanted (named u) × SelectReaches s (type_named s i) (named u)) (sym ((alone h.0 k p.0).0 h.1.1)) p.1,
+              λ p. row.1 (k, (names_reach p.1 i k li lk refl refl p.0, (alone k k lk).1 refl)),
+            );
       }
 
--- what is marked stands in the row
-marked_below : (row : List Bool) (k : ℕ) → IsMarked row k → k < length row
-marked_below row k m = ⊎_elim (λ (l : k < length row). l) (λ (h : length row ≤ k). absurd (false≢true (sym (get_or_past row k false h) ∙ m))) (cases_lt k (length row))
+pub entity_at_place : (s : Schema) (k : ℕ) → k < length s.entities → IsEntity s (entity_named s k)
+entity_at_place s k lk = subst (λ (u : List ℕ). IsIn (all_names s) u) (name_at s k) (at_place (all_names s) k [] (subst (λ u. k < u) (sym (name_count s)) lk))
 
-pub entity_marks : (s : Schema) (table : List (List Bool)) (marks : List Bool) → IsSelectTable s (IsEntity s) (length s.entities) (entity_named s) table → length marks ≡ length table → ((i : ℕ) → i < length table → IsMarked marks i ↔ ((k : ℕ) × IsMarked (get_or table i []) k)) → AreEntityMarks s marks
+pub entity_marks : (s : Schema) (table : List (List Range)) (marks : List Bool) → IsSelectTable s (IsEntity s) (length s.entities) (entity_named s) table → length marks ≡ length table → ((i : ℕ) → i < length table → IsMarked marks i ↔ ((k : ℕ) × Covers (get_or table i []) k)) → AreEntityMarks s marks
 entity_marks s table marks t count h = record {
   count = count ∙ t.count;
   rows = λ i less.
       let row = h i (subst (λ u. i < u) (sym t.count) less) in (
         λ m.
             let k = row.0 m in
-            let below : k.0 < length (get_or table i []) = marked_below (get_or table i []) k.0 k.1 in
-            let most : length (get_or table i []) ≤ length s.entities = t.columns i less in
-            let lk : k.0 < length s.entities = omega arith in
-            let e = (t.marks i k.0 less lk).0 k.1 in
+            let e = (t.covers i k.0 less (t.within i k.0 less k.1)).0 k.1 in
             (entity_named s k.0, (e.0, e.1)),
         λ e.
             let p = members.place_of (all_names s) e.0 e.1.0 in
             let lk : p.0 < length s.entities = subst (λ u. p.0 < u) (name_count s) p.1.0 in
             let is : entity_named s p.0 ≡ e.0 = sym (name_at s p.0) ∙ p.1.1 [] in
-            row.1 (p.0, (t.marks i p.0 less lk).1 (subst (λ (u : List ℕ). IsEntity s u) (sym is) e.1.0, subst (λ (u : List ℕ). SelectReaches s (type_named s i) u) (sym is) e.1.1)),
+            row.1 (p.0, (t.covers i p.0 less lk).1 (subst (λ (u : List ℕ). IsEntity s u) (sym is) e.1.0, subst (λ (u : List ℕ). SelectReaches s (type_named s i) u) (sym is) e.1.1)),
       );
 }
 
 -- ---- what the tables tell
 
-pub entity_reached : (s : Schema) (table : List (List Bool)) (i k : ℕ) → IsSelectTable s (IsEntity s) (length s.entities) (entity_named s) table → i < length s.types → k < length s.entities → (get_or (get_or table i []) k false ≡ true) ↔ SelectReaches s (type_named s i) (entity_named s k)
+pub entity_reached : (s : Schema) (table : List (List Range)) (i k : ℕ) → IsSelectTable s (IsEntity s) (length s.entities) (entity_named s) table → i < length s.types → k < length s.entities → Covers (get_or table i []) k ↔ SelectReaches s (type_named s i) (entity_named s k)
 entity_reached s table i k t li lk =
-    let row = t.marks i k li lk in
-    (λ m. (row.0 m).1, λ h. row.1 (subst (λ (u : List ℕ). IsIn (all_names s) u) (name_at s k) (at_place (all_names s) k [] (subst (λ u. k < u) (sym (name_count s)) lk)), h))
+    let row = t.covers i k li lk in
+    (λ m. (row.0 m).1, λ h. row.1 (entity_at_place s k lk, h))
 
 -- the place of a type's name
 pub placed : (s : Schema) (names : List (List ℕ)) (k : ℕ) (n : List ℕ) → names ≡ map (λ (t : Defined). t.name) s.types → (k < length names) × (get_or names k [] ≡ n) → (k < length s.types) × (type_named s k ≡ n)
@@ -392,12 +388,12 @@ placed s names k n is h =
 type_at_place : (s : Schema) (k : ℕ) → k < length s.types → IsType s (type_named s k)
 type_at_place s k less = in_map (λ (t : Defined). t.name) s.types (get_or s.types k no_type) (at_place s.types k no_type less)
 
-pub type_reached : (s : Schema) (table : List (List Bool)) (i k : ℕ) (n : List ℕ) → IsSelectTable s (λ n. ¬ (IsSelect s n)) (length s.types) (type_named s) table → i < length s.types → k < length s.types → type_named s k ≡ n → get_or (get_or table i []) k false ≡ true → ReachesType s (type_named s i) n
+pub type_reached : (s : Schema) (table : List (List Range)) (i k : ℕ) (n : List ℕ) → IsSelectTable s (λ n. ¬ (IsSelect s n)) (length s.types) (type_named s) table → i < length s.types → k < length s.types → type_named s k ≡ n → Covers (get_or table i []) k → ReachesType s (type_named s i) n
 type_reached s table i k n t li lk is m =
-    let h = (t.marks i k li lk).0 m in
+    let h = (t.covers i k li lk).0 m in
     subst (λ (u : List ℕ). ReachesType s (type_named s i) u) is (record { type = type_at_place s k lk; plain = h.0; reached = h.1 })
 
-pub type_not_reached : (s : Schema) (table : List (List Bool)) (i k : ℕ) (n : List ℕ) → IsSelectTable s (λ n. ¬ (IsSelect s n)) (length s.types) (type_named s) table → i < length s.types → k < length s.types → type_named s k ≡ n → get_or (get_or table i []) k false ≡ false → ¬ (ReachesType s (type_named s i) n)
+pub type_not_reached : (s : Schema) (table : List (List Range)) (i k : ℕ) (n : List ℕ) → IsSelectTable s (λ n. ¬ (IsSelect s n)) (length s.types) (type_named s) table → i < length s.types → k < length s.types → type_named s k ≡ n → ¬ (Covers (get_or table i []) k) → ¬ (ReachesType s (type_named s i) n)
 type_not_reached s table i k n t li lk is m h =
     let g : ReachesType s (type_named s i) (type_named s k) = subst (λ (u : List ℕ). ReachesType s (type_named s i) u) (sym is) h in
-    false≢true (sym m ∙ (t.marks i k li lk).1 (g.plain, g.reached))
+    m ((t.covers i k li lk).1 (g.plain, g.reached))

@@ -1,5 +1,5 @@
 -- Graphs by lists of neighbors.
-use Rattle.std.specs.Prelude.{◌∷◌, ◌≡◌, ◌<◌, ◌≤◌, ◌+◌, ◌-◌, ◌*◌, ◌↔◌, ℕ, suc, Bool, true, false, List, [], map, length, get_or, take, Vec}
+use Rattle.std.specs.Prelude.{◌∷◌, ◌≡◌, ◌<◌, ◌≤◌, ◌+◌, ◌-◌, ◌*◌, ℕ, suc, Bool, true, false, List, [], map, length, get_or, take, Vec}
 use Rattle.p21_express.specs.WellFormed.{IsIn, AreDistinct}
 
 -- the rows of a table of the code as lists
@@ -65,22 +65,3 @@ steps_left graph placed way = waiting placed * (length graph + 2) + (length grap
 pub data Reaches (direct graph : List (List ℕ)) : ℕ → ℕ → Type 0 where
   here : {a x : ℕ} → IsIn (get_or direct a []) x → Reaches direct graph a x
   through : {a b x : ℕ} → HasEdge graph a b → Reaches direct graph b x → Reaches direct graph a x
-
--- the row of a vertex: it marks what the vertex reaches, and may end behind that
-pub record IsReachRow (direct graph : List (List ℕ)) (size v : ℕ) (row : List Bool) : Type 0 where
-  pub count : length row ≤ size
-  pub reached : (x : ℕ) → IsMarked row x ↔ Reaches direct graph v x
-
--- a row for each vertex
-pub record IsReachTable (direct graph : List (List ℕ)) (size : ℕ) (table : List (List Bool)) : Type 0 where
-  pub count : length table ≡ length graph
-  pub rows : (v : ℕ) → v < length graph → IsReachRow direct graph size v (get_or table v [])
-
--- these are the rows of a table that mark the place
-abbrev pub AreMarking : List (List Bool) → ℕ → List ℕ → Type 0
-AreMarking table place rows = (k : ℕ) → IsIn rows k ↔ IsMarked (get_or table k []) place
-
--- from each place that a row has edges lead to the rows that mark it
-pub record IsTransposed (table : List (List Bool)) (size : ℕ) (graph : List (List ℕ)) : Type 0 where
-  pub count : length graph ≡ size
-  pub rows : (place : ℕ) → place < size → AreMarking table place (get_or graph place [])

@@ -2,7 +2,7 @@
 use Rattle.std.specs.Prelude.{◌≡◌, ◌<◌, ◌↔◌, ℕ, List, [], length, get_or}
 use Rattle.p21_schema.specs.declared.ranges.Range.{Range}
 use Rattle.p21_schema.specs.declared.reach.Reach.{Reach}
-use Rattle.p21_schema.specs.Graph.{HasEdge, rows_of}
+use Rattle.p21_schema.specs.Graph.{HasEdge, Reaches, rows_of}
 use Rattle.p21_schema.specs.Ranges.{Covers}
 
 -- the same vertices, and each edge turned round
@@ -14,6 +14,15 @@ pub record IsTurned (graph turned : List (List ℕ)) : Type 0 where
 pub data IsWithin (graph : List (List ℕ)) : ℕ → ℕ → Type 0 where
   itself : {a b : ℕ} → a ≡ b → IsWithin graph a b
   through : {a b x : ℕ} → HasEdge graph a b → IsWithin graph b x → IsWithin graph a x
+
+-- the row of a vertex: it holds what the first rows of those that the vertex reaches hold
+abbrev pub IsReachRow : List (List ℕ) → List (List ℕ) → List (List Range) → ℕ → List Range → Type 0
+IsReachRow direct graph firsts v row = (k : ℕ) → Covers row k ↔ ((x : ℕ) × (Reaches direct graph v x × Covers (get_or firsts x []) k))
+
+-- a row for each vertex
+pub record IsReachTable (direct graph : List (List ℕ)) (firsts table : List (List Range)) : Type 0 where
+  pub count : length table ≡ length graph
+  pub rows : (v : ℕ) → v < length graph → IsReachRow direct graph firsts v (get_or table v [])
 
 -- each vertex of the order with its place there
 abbrev pub ArePlaces : List ℕ → List ℕ → Type 0

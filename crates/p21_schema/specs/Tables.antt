@@ -11,7 +11,7 @@ use Rattle.p21_schema.specs.Under.{AreEnds, AreResolved}
 use Rattle.p21_schema.specs.Ancestry.{IsSupertypeTable, IsDescentTable}
 use Rattle.p21_schema.specs.Declaration.{written}
 use Rattle.p21_schema.specs.DeclarationTable.{IsDeclarationTable}
-use Rattle.p21_schema.specs.SelectTable.{AreSelectTables, IsAdmitTable}
+use Rattle.p21_schema.specs.SelectTable.{AreSelectTables}
 
 -- the schema that the tables are of
 abbrev pub schema_of : Inside → Schema
@@ -28,5 +28,4 @@ pub record AreTables (a : Inside) : Type 0 where
   pub attributes : IsDeclarationTable (schema_of a) (written (schema_of a).entities) (rows_of a.attributes)
   pub ends : AreEnds (schema_of a) a.ends.items
   pub resolved : AreResolved (map (λ e. e.name) (schema_of a).entities) (map (λ t. t.name) (schema_of a).types) a.unders.items (schema_of a).types
-  pub selects : AreSelectTables (schema_of a) a.selects
-  pub admitting : IsAdmitTable (schema_of a) (rows_of a.admitting)
+  pub selects : AreSelectTables (schema_of a) a.descents a.selects

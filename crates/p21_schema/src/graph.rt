@@ -1,9 +1,8 @@
-//! Graphs by lists of neighbors: an order in which the neighbors of each vertex stand before it, what each vertex reaches,
-//! and the marks of a table transposed into edges.
+//! Graphs by lists of neighbors, and an order in which the neighbors of each vertex stand before it.
 
-ghost use Rattle.std.specs.Prelude.{◌≡◌, ◌<◌, ◌≤◌, ◌↔◌, ◌⊎◌, true, false, ℕ, [], length, get_or, replicate, OnOk, IfOk, IsTrue, slice_index};
+ghost use Rattle.std.specs.Prelude.{◌≡◌, ◌<◌, ◌≤◌, ◌⊎◌, false, ℕ, [], length, get_or, replicate, OnOk, IfOk};
 ghost use Rattle.p21_express.specs.WellFormed.{IsIn, AreDistinct, HasNoCycle};
-ghost use Rattle.p21_schema.specs.Graph.{plain_graph, HasEdge, AreEdgesBelow, IsOrder, IsMarked, IsWalk, steps_left, rows_of, IsReachTable, AreMarking, IsTransposed};
+ghost use Rattle.p21_schema.specs.Graph.{plain_graph, HasEdge, AreEdgesBelow, IsOrder, IsMarked, IsWalk, steps_left};
 
 use std::alloc::{AllocError, Global};
 
@@ -142,110 +141,4 @@ pub(crate) fn order(alloc: Global, graph: &Graph) -> Result<Vec<usize>, AllocErr
         starts.push(vertex)?;
     }
     order_from(alloc, graph, &starts)
-}
-
-/// Marks these vertices too.
-fn mark(row: &mut [bool], vertices: &[usize])
-    requires { (v : ℕ) → IsIn vertices.now v → v < length row.old }
-    ensures { (v : ℕ) → IsMarked row.new v ↔ (IsMarked row.old v ⊎ IsIn vertices.now v) }
-{
-    for vertex in vertices {
-        row[*vertex] = true;
-    }
-}
-
-/// Whether a row marks a place.
-pub(crate) fn marked(row: &[bool], place: usize) -> bool
-    ensures { IsTrue result ↔ IsMarked row.now place }
-{
-    if place < row.len() { row[place] } else { false }
-}
-
-/// Marks what another row marks too.
-fn mark_all(row: &mut [bool], other: &[bool])
-    requires { length other.now ≤ length row.old }
-    ensures { (v : ℕ) → IsMarked row.new v ↔ (IsMarked row.old v ⊎ IsMarked other.now v) }
-{
-    for vertex in 0..other.len() {
-        if other[vertex] {
-            row[vertex] = true;
-        }
-    }
-}
-
-/// The row of a vertex: these are marked, and what the rows of its neighbors mark. It is empty where there is neither.
-fn reach_row(
-    alloc: Global,
-    direct: &[usize],
-    neighbors: &[usize],
-    table: &Vec<Vec<bool>>,
-    count: usize,
-) -> Result<Vec<bool>, AllocError>
-    requires direct { (v : ℕ) → IsIn direct.now v → v < count }
-    requires neighbors { (v : ℕ) → IsIn neighbors.now v → (v < length (rows_of table.now)) × (length (get_or (rows_of table.now) v []) ≤ count) }
-    ensures count { IfOk result (λ row. length row.items ≤ count) }
-    ensures marks { IfOk result (λ row. (v : ℕ) → IsMarked row.items v ↔ (IsIn direct.now v ⊎ ((w : ℕ) × (IsIn neighbors.now w × IsMarked (get_or (rows_of table.now) w []) v)))) }
-{
-    if direct.is_empty() && neighbors.is_empty() {
-        return Ok(Vec::new(alloc));
-    }
-    let mut row = unmarked(alloc, count)?;
-    mark(&mut row, direct);
-    for neighbor in neighbors {
-        mark_all(&mut row, &table[*neighbor]);
-    }
-    Ok(row)
-}
-
-/// For each vertex what it reaches: what is direct for it, and what its neighbors reach.
-pub(crate) fn reached(
-    alloc: Global,
-    direct: &Graph,
-    graph: &Graph,
-    order: &[usize],
-    count: usize,
-) -> Result<Vec<Vec<bool>>, AllocError>
-    requires direct { AreEdgesBelow (plain_graph direct.now) count }
-    requires vertices { length (plain_graph direct.now) ≡ length (plain_graph graph.now) }
-    requires order { IsOrder (plain_graph graph.now) order.now }
-    requires all { (v : ℕ) → v < length (plain_graph graph.now) → IsIn order.now v }
-    ensures { IfOk result (λ table. IsReachTable (plain_graph direct.now) (plain_graph graph.now) count (rows_of table)) }
-{
-    let mut table = Vec::with_capacity(alloc, graph.len())?;
-    for _ in 0..graph.len() {
-        table.push(Vec::new(alloc))?;
-    }
-    for vertex in order {
-        let row = reach_row(alloc, &direct[*vertex], &graph[*vertex], &table, count)?;
-        table[*vertex] = row;
-    }
-    Ok(table)
-}
-
-/// The rows that mark a place.
-fn marking(alloc: Global, table: &Vec<Vec<bool>>, place: usize) -> Result<Vec<usize>, AllocError>
-    ensures { IfOk result (λ rows. AreMarking (rows_of table.now) place rows.items) }
-{
-    let mut rows = Vec::new(alloc);
-    for (k, row) in table.iter().enumerate() {
-        if marked(row, place) {
-            rows.push(k)?;
-        }
-    }
-    Ok(rows)
-}
-
-/// For each place the rows that mark it, where a row has so many places.
-pub(crate) fn transposed(
-    alloc: Global,
-    table: &Vec<Vec<bool>>,
-    count: usize,
-) -> Result<Graph, AllocError>
-    ensures { IfOk result (λ graph. IsTransposed (rows_of table.now) count (plain_graph graph)) }
-{
-    let mut graph = Vec::with_capacity(alloc, count)?;
-    for place in 0..count {
-        graph.push(marking(alloc, table, place)?)?;
-    }
-    Ok(graph)
 }

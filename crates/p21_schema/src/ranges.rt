@@ -102,26 +102,32 @@ fn joined(alloc: Global, ranges: &[Range]) -> Result<Vec<Range>, AllocError>
     Ok(all)
 }
 
-/// A place, and the places of the rows of some vertices, one range behind the other.
-fn gathered(
-    alloc: Global,
-    place: usize,
-    vertices: &[usize],
-    rows: &Vec<Vec<Range>>,
-) -> Result<Vec<Range>, AllocError>
-    requires place { place < 2 ^ 64 - 1 }
-    requires vertices { (v : ℕ) → IsIn vertices.now v → v < length (rows_of rows.now) }
-    ensures { IfOk result (λ all. (k : ℕ) → Covers all.items k ↔ ((k ≡ place) ⊎ SomeCovers (rows_of rows.now) vertices.now k)) }
+/// The place alone.
+pub(crate) fn alone(alloc: Global, place: usize) -> Result<Vec<Range>, AllocError>
+    requires { place < 2 ^ 64 - 1 }
+    ensures { IfOk result (λ row. (k : ℕ) → Covers row.items k ↔ (k ≡ place)) }
 {
-    let mut all = Vec::new(alloc);
-    all.push(Range {
+    let mut row = Vec::new(alloc);
+    row.push(Range {
         from: place,
         to: place + 1,
     })?;
+    Ok(row)
+}
+
+/// The places of the rows of some vertices behind others, one range behind the other.
+fn gather(
+    all: &mut Vec<Range>,
+    vertices: &[usize],
+    rows: &Vec<Vec<Range>>,
+) -> Result<(), AllocError>
+    requires { (v : ℕ) → IsIn vertices.now v → v < length (rows_of rows.now) }
+    ensures { OnOk result ((k : ℕ) → Covers all.new.items k ↔ (Covers all.old.items k ⊎ SomeCovers (rows_of rows.now) vertices.now k)) }
+{
     for vertex in vertices {
         all.extend_from_slice(&rows[*vertex])?;
     }
-    Ok(all)
+    Ok(())
 }
 
 /// The row of a vertex: its place, and the places of the rows of its neighbors.
@@ -135,7 +141,39 @@ pub(crate) fn row(
     requires neighbors { (v : ℕ) → IsIn neighbors.now v → v < length (rows_of rows.now) }
     ensures { IfOk result (λ row. (k : ℕ) → Covers row.items k ↔ ((k ≡ place) ⊎ SomeCovers (rows_of rows.now) neighbors.now k)) }
 {
-    let mut all = gathered(alloc, place, neighbors, rows)?;
+    let mut all = alone(alloc, place)?;
+    gather(&mut all, neighbors, rows)?;
     all.sort_unstable();
     joined(alloc, &all)
+}
+
+/// The places of the rows of some vertices, and of others by another table.
+pub(crate) fn both(
+    alloc: Global,
+    vertices: &[usize],
+    rows: &Vec<Vec<Range>>,
+    others: &[usize],
+    other_rows: &Vec<Vec<Range>>,
+) -> Result<Vec<Range>, AllocError>
+    requires vertices { (v : ℕ) → IsIn vertices.now v → v < length (rows_of rows.now) }
+    requires others { (v : ℕ) → IsIn others.now v → v < length (rows_of other_rows.now) }
+    ensures { IfOk result (λ row. (k : ℕ) → Covers row.items k ↔ (SomeCovers (rows_of rows.now) vertices.now k ⊎ SomeCovers (rows_of other_rows.now) others.now k)) }
+{
+    let mut all = Vec::new(alloc);
+    gather(&mut all, vertices, rows)?;
+    gather(&mut all, others, other_rows)?;
+    all.sort_unstable();
+    joined(alloc, &all)
+}
+
+/// Whether some place lies in one of the ranges.
+pub(crate) fn covers_some(ranges: &[Range]) -> bool
+    ensures { IsTrue result ↔ ((k : ℕ) × Covers ranges.now k) }
+{
+    for range in ranges {
+        if range.from < range.to {
+            return true;
+        }
+    }
+    false
 }

@@ -3,19 +3,20 @@
 ghost use Rattle.std.specs.Prelude.{◌≡◌, ◌<◌, ◌++◌, ◌∷◌, ◌↔◌, ◌⊎◌, ℕ, List, [], length, get_or, set, IfOk, OnOk, IsTrue};
 ghost use Rattle.p21_express.specs.WellFormed.{IsIn, AreDistinct, HasNoCycle};
 ghost use Rattle.p21_schema.specs.Graph.{plain_graph, rows_of, HasEdge, AreEdgesBelow, IsOrder};
-ghost use Rattle.p21_schema.specs.Reach.{IsTurned, ArePlaces, IsPlaceRow, IsReach, IsWithin};
+ghost use Rattle.p21_schema.specs.Ranges.{Covers};
+ghost use Rattle.p21_schema.specs.Reach.{IsTurned, ArePlaces, IsPlaceRow, IsReach, IsWithin, IsReachTable};
 
 use crate::graph::{Graph, order, order_from, zeros};
-use crate::ranges::{Range, covers, row};
+use crate::ranges::{Range, alone, both, covers, row};
 use std::alloc::{AllocError, Global};
 
 /// What each vertex of a graph reaches, itself among it.
 #[derive(Drop)]
 pub(crate) struct Reach {
     /// The place of each vertex.
-    places: Vec<usize>,
+    pub(crate) places: Vec<usize>,
     /// For each vertex the places of what it reaches.
-    rows: Vec<Vec<Range>>,
+    pub(crate) rows: Vec<Vec<Range>>,
 }
 
 /// A graph of so many vertices without edges.
@@ -94,6 +95,43 @@ fn rows(alloc: Global, graph: &Graph, order: &[usize]) -> Result<Vec<Vec<Range>>
         rows[*vertex] = row;
     }
     Ok(rows)
+}
+
+/// Rows of which each holds its own place alone.
+pub(crate) fn each_alone(alloc: Global, count: usize) -> Result<Vec<Vec<Range>>, AllocError>
+    ensures count { IfOk result (λ rows. length (rows_of rows) ≡ count) }
+    ensures rows { IfOk result (λ rows. (v k : ℕ) → v < count → Covers (get_or (rows_of rows) v []) k ↔ (k ≡ v)) }
+{
+    let mut rows = Vec::with_capacity(alloc, count)?;
+    for place in 0..count {
+        rows.push(alone(alloc, place)?)?;
+    }
+    Ok(rows)
+}
+
+/// For each vertex what it reaches: the rows of what is direct for it, and what its neighbors reach.
+pub(crate) fn reached(
+    alloc: Global,
+    direct: &Graph,
+    firsts: &Vec<Vec<Range>>,
+    graph: &Graph,
+    order: &[usize],
+) -> Result<Vec<Vec<Range>>, AllocError>
+    requires direct { AreEdgesBelow (plain_graph direct.now) (length (rows_of firsts.now)) }
+    requires vertices { length (plain_graph direct.now) ≡ length (plain_graph graph.now) }
+    requires order { IsOrder (plain_graph graph.now) order.now }
+    requires all { (v : ℕ) → v < length (plain_graph graph.now) → IsIn order.now v }
+    ensures { IfOk result (λ table. IsReachTable (plain_graph direct.now) (plain_graph graph.now) (rows_of firsts.now) (rows_of table)) }
+{
+    let mut table = Vec::with_capacity(alloc, graph.len())?;
+    for _ in 0..graph.len() {
+        table.push(Vec::new(alloc))?;
+    }
+    for vertex in order {
+        let row = both(alloc, &direct[*vertex], firsts, &graph[*vertex], &table)?;
+        table[*vertex] = row;
+    }
+    Ok(table)
 }
 
 impl Reach {

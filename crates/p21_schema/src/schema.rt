@@ -4,14 +4,15 @@ ghost use Rattle.std.specs.Prelude.{◌≡◌, ◌<◌, ◌↔◌, List, Some, l
 
 use crate::ancestry::{descents, supertype_ids, supertypes};
 use crate::declarations::{Declaration, Known, all_declarations};
-use crate::graph::{marked, order};
+use crate::graph::order;
 use crate::ids::{AttrId, EntityId, TypeId};
 use crate::names::{Names, entity_names, type_names};
+use crate::ranges::covers;
 use crate::reach::Reach;
 use crate::resolved::Resolved;
 use crate::rows::{Own, Rows, own_attributes};
 use crate::rules::Rules;
-use crate::selects::{Selects, admitting, select_tables};
+use crate::selects::{Selects, select_tables};
 use crate::under::{resolved, type_ends};
 use p21_express::Declarations;
 use p21_hash::HashKey;
@@ -35,8 +36,6 @@ pub struct Schema {
     ends: Vec<usize>,
     unders: Vec<Resolved>,
     selects: Selects,
-    /// For each entity which types reach it or an ancestor of it.
-    admitting: Vec<Vec<bool>>,
 }
 
 impl Model for Schema {
@@ -71,7 +70,6 @@ impl Drop for Schema {
             ends: _,
             unders: _,
             selects: _,
-            admitting: _,
         } = self;
     }
 }
@@ -133,8 +131,7 @@ impl Schema {
             own: &own,
         };
         let attributes = all_declarations(alloc, &known, lists)?;
-        let selects = select_tables(alloc, &unders, declarations.entities.len())?;
-        let admitting = admitting(alloc, &selects.entities, &graph, &order)?;
+        let selects = select_tables(alloc, &unders, declarations.entities.len(), &descents)?;
         Ok(Schema {
             declarations,
             rules,
@@ -148,7 +145,6 @@ impl Schema {
             ends,
             unders,
             selects,
-            admitting,
         })
     }
 
@@ -292,7 +288,7 @@ impl Schema {
         ensures { MatchOption result (¬ (ReachesType self.now (type_name self.now select) name.now)) (λ t. IsTypeOf self.now t × ((type_name self.now t ≡ name.now) × ReachesType self.now (type_name self.now select) name.now)) }
     {
         let index = self.type_names.place(name)?;
-        if marked(&self.selects.types[select.index], index) {
+        if covers(&self.selects.types[select.index], index) {
             Some(TypeId { index })
         } else {
             None
@@ -305,7 +301,7 @@ impl Schema {
         requires entity { IsEntityOf self.now entity }
         ensures { IsTrue result ↔ SelectReaches self.now (type_name self.now select) (entity_name self.now entity) }
     {
-        marked(&self.selects.entities[select.index], entity.index)
+        covers(&self.selects.entities[select.index], entity.index)
     }
 
     /// Whether the SELECT reaches the entity or an ancestor of it.
@@ -314,7 +310,8 @@ impl Schema {
         requires entity { IsEntityOf self.now entity }
         ensures { IsTrue result ↔ ReachesA self.now (type_name self.now select) (entity_name self.now entity) }
     {
-        marked(&self.admitting[entity.index], select.index)
+        let place = self.descents.places[entity.index];
+        covers(&self.selects.admitted[select.index], place)
     }
 
     /// Whether the SELECT reaches an entity.

@@ -2,14 +2,17 @@
 
 ghost use Rattle.std.specs.Prelude.{◌≡◌, ◌<◌, ◌↔◌, ℕ, List, [], length, get_or, map, IfOk};
 ghost use Rattle.p21_express.specs.Schema.{Schema};
-ghost use Rattle.p21_express.specs.WellFormed.{IsEntity, IsIn, IsWellFormed};
-ghost use Rattle.p21_schema.specs.Ancestry.{AreSupertypesNamed};
-ghost use Rattle.p21_schema.specs.Graph.{plain_graph, rows_of, IsMarked, IsOrder};
+ghost use Rattle.p21_express.specs.WellFormed.{IsIn, IsWellFormed};
+ghost use Rattle.p21_schema.specs.Ancestry.{IsDescentTable};
+ghost use Rattle.p21_schema.specs.Graph.{plain_graph, rows_of, IsMarked};
+ghost use Rattle.p21_schema.specs.Ranges.{Covers};
 ghost use Rattle.p21_schema.specs.Under.{AreResolved};
 ghost use Rattle.p21_schema.specs.SelectItems.{kind_of, place_of, targets_of, IsItemRow, IsItemGraph};
-ghost use Rattle.p21_schema.specs.SelectTable.{entity_named, IsSelectTable, IsAdmitTable, AreSelectTables};
+ghost use Rattle.p21_schema.specs.SelectTable.{AreSelectTables};
 
-use crate::graph::{Graph, order, reached, transposed};
+use crate::graph::{Graph, order};
+use crate::ranges::{Range, covers_some};
+use crate::reach::{Reach, each_alone, reached};
 use crate::resolved::{Resolved, Target};
 use std::alloc::{AllocError, Global};
 
@@ -17,9 +20,11 @@ use std::alloc::{AllocError, Global};
 #[derive(Drop)]
 pub(crate) struct Selects {
     /// For each type which entities it reaches.
-    pub(crate) entities: Vec<Vec<bool>>,
+    pub(crate) entities: Vec<Vec<Range>>,
+    /// For each type the places, among the descents of entities, of those that it reaches and of their descendants.
+    pub(crate) admitted: Vec<Vec<Range>>,
     /// For each type which types that are no SELECT it reaches.
-    pub(crate) types: Vec<Vec<bool>>,
+    pub(crate) types: Vec<Vec<Range>>,
     /// For each type whether it reaches an entity.
     pub(crate) any_entity: Vec<bool>,
 }
@@ -99,52 +104,42 @@ fn item_graph(alloc: Global, unders: &[Resolved], wanted: Item) -> Result<Graph,
     Ok(graph)
 }
 
-/// Whether something is marked in each row.
-fn any_marked(alloc: Global, table: &Vec<Vec<bool>>) -> Result<Vec<bool>, AllocError>
+/// Whether each row holds some place.
+fn any_held(alloc: Global, table: &Vec<Vec<Range>>) -> Result<Vec<bool>, AllocError>
     ensures count { IfOk result (λ marks. length marks.items ≡ length (rows_of table.now)) }
-    ensures marks { IfOk result (λ marks. (i : ℕ) → i < length (rows_of table.now) → IsMarked marks.items i ↔ ((k : ℕ) × IsMarked (get_or (rows_of table.now) i []) k)) }
+    ensures marks { IfOk result (λ marks. (i : ℕ) → i < length (rows_of table.now) → IsMarked marks.items i ↔ ((k : ℕ) × Covers (get_or (rows_of table.now) i []) k)) }
 {
     let mut marks = Vec::with_capacity(alloc, table.len())?;
     for row in table {
-        marks.push(row.contains(&true))?;
+        marks.push(covers_some(row))?;
     }
     Ok(marks)
 }
 
-/// What each type reaches, by what stands under the types and the number of entities.
+/// What each type reaches, by what stands under the types, the number of entities and their descents.
 pub(crate) fn select_tables(
     alloc: Global,
     unders: &[Resolved],
     entities: usize,
+    descents: &Reach,
 ) -> Result<Selects, AllocError>
-    requires { (s : Schema) × (IsWellFormed s × (AreResolved (map (λ e. e.name) s.entities) (map (λ t. t.name) s.types) unders.now s.types × (entities ≡ length s.entities))) }
-    ensures { IfOk result (λ tables. (s : Schema) → IsWellFormed s → AreResolved (map (λ e. e.name) s.entities) (map (λ t. t.name) s.types) unders.now s.types → entities ≡ length s.entities → AreSelectTables s tables) }
+    requires { (s : Schema) × (IsWellFormed s × (AreResolved (map (λ e. e.name) s.entities) (map (λ t. t.name) s.types) unders.now s.types × ((entities ≡ length s.entities) × IsDescentTable s descents.now))) }
+    ensures { IfOk result (λ tables. (s : Schema) → IsWellFormed s → AreResolved (map (λ e. e.name) s.entities) (map (λ t. t.name) s.types) unders.now s.types → entities ≡ length s.entities → IsDescentTable s descents.now → AreSelectTables s descents.now tables) }
 {
     let inner = item_graph(alloc, unders, Item::Select)?;
     let order = order(alloc, &inner)?;
     let direct = item_graph(alloc, unders, Item::Entity)?;
-    let entities = reached(alloc, &direct, &inner, &order, entities)?;
+    let alone = each_alone(alloc, entities)?;
+    let entities = reached(alloc, &direct, &alone, &inner, &order)?;
+    let admitted = reached(alloc, &direct, &descents.rows, &inner, &order)?;
     let direct = item_graph(alloc, unders, Item::Other)?;
-    let types = reached(alloc, &direct, &inner, &order, unders.len())?;
-    let any_entity = any_marked(alloc, &entities)?;
+    let alone = each_alone(alloc, unders.len())?;
+    let types = reached(alloc, &direct, &alone, &inner, &order)?;
+    let any_entity = any_held(alloc, &entities)?;
     Ok(Selects {
         entities,
+        admitted,
         types,
         any_entity,
     })
-}
-
-/// For each entity which types reach it or an ancestor of it, by what each type reaches and the supertypes of the entities.
-pub(crate) fn admitting(
-    alloc: Global,
-    entities: &Vec<Vec<bool>>,
-    supertypes: &Graph,
-    order: &[usize],
-) -> Result<Vec<Vec<bool>>, AllocError>
-    requires order { IsOrder (plain_graph supertypes.now) order.now }
-    requires all { (v : ℕ) → v < length (plain_graph supertypes.now) → IsIn order.now v }
-    ensures { IfOk result (λ table. (s : Schema) → IsWellFormed s → AreSupertypesNamed (map (λ e. e.name) s.entities) (plain_graph supertypes.now) s.entities → IsSelectTable s (IsEntity s) (length s.entities) (entity_named s) (rows_of entities.now) → IsAdmitTable s (rows_of table)) }
-{
-    let direct = transposed(alloc, entities, supertypes.len())?;
-    reached(alloc, &direct, supertypes, order, entities.len())
 }

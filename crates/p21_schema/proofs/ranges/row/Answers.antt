@@ -3,9 +3,9 @@ use Rattle.std.proofs.lemmas.Result.{IfOk-weaker}
 use Rattle.std.proofs.lemmas.List.Sorted.{IsPermutation-sym}
 use Rattle.p21_schema.specs.Graph.{rows_of}
 use Rattle.p21_schema.specs.Ranges.{Covers, SomeCovers}
-use Rattle.p21_schema.proofs.RangeLemmas.{covers_permuted, ↔_through}
+use Rattle.p21_schema.proofs.RangeLemmas.{covers_permuted, covers_both, ↔_through}
 use Rattle.p21_schema.proofs.ranges.row.Goals as goal
 
 pub returns : goal.returns
 returns c = IfOk-weaker c.joined.result (λ all. (k : ℕ) → Covers all.items k ↔ Covers c.deref.result.now k) (λ row. (k : ℕ) → Covers row.items k ↔ ((k ≡ c.args.place) ⊎ SomeCovers (rows_of c.args.rows.now) c.args.neighbors.now k))
-    (λ row h k. ↔_through (h k) (rw c.deref.ensures.value (↔_through (covers_permuted c.sort_unstable.new.self.items c.in_ok-all.all.items (IsPermutation-sym c.in_ok-all.all.items c.sort_unstable.new.self.items c.sort_unstable.ensures.permutation) k) (c.in_ok-all.ensures k)))) c.joined.ensures
+    (λ row h k. ↔_through (h k) (rw c.deref.ensures.value (↔_through (covers_permuted c.sort_unstable.new.self.items c.gather.new.all.items (IsPermutation-sym c.gather.new.all.items c.sort_unstable.new.self.items c.sort_unstable.ensures.permutation) k) (covers_both (c.in_ok-gather.ensures k) (c.in_ok-all.ensures k))))) c.joined.ensures

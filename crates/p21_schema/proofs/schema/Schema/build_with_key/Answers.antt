@@ -1,10 +1,10 @@
-use Rattle.std.proofs.Common.{◌≡◌, ◌<◌, ℕ, sym, subst, List, [], map, get_or, ap, ◌∙◌}
+use Rattle.std.proofs.Common.{◌≡◌, sym, List, [], map, get_or, ap, ◌∙◌}
 use Rattle.std.proofs.lemmas.List.{length-map}
 use Rattle.p21_express.specs.Schema.{Entity, Defined}
 use Rattle.p21_express.specs.Plain.{plain_schema, plain_entity, plain_type}
 use Rattle.p21_schema.specs.Rules.{with_rules}
 use Rattle.p21_schema.specs.Graph.{plain_graph}
-use Rattle.p21_schema.specs.Ancestry.{AreSupertypesNamed}
+use Rattle.p21_schema.specs.Ancestry.{AreSupertypesNamed, IsDescentTable}
 use Rattle.p21_schema.specs.SelectTable.{AreSelectTables}
 use Rattle.p21_schema.specs.Under.{AreResolved}
 use Rattle.p21_schema.proofs.RuleLemmas.{fits_with, own_with}
@@ -51,12 +51,12 @@ invariant_of-result c =
     let names_are : c.in_ok-entity_names.entity_names ≡ map (λ (e : Entity). e.name) s.entities = c.in_ok-entity_names.ensures ∙ ap (λ (es : List _). map (λ (e : Entity). e.name) (map plain_entity es)) c.deref.ensures.value in
     let types_are : c.in_ok-type_names.type_names ≡ map (λ (t : Defined). t.name) s.types = c.in_ok-type_names.ensures ∙ ap (λ (ts : List _). map (λ (t : Defined). t.name) (map plain_type ts)) c.deref-5.ensures.value in
     let found : AreResolved (map (λ (e : Entity). e.name) s.entities) (map (λ (t : Defined). t.name) s.types) c.in_ok-unders.unders.items s.types = rw (← names_are, ← types_are, ← c.deref-7.ensures.value) c.in_ok-unders.ensures in
-    let selects : AreSelectTables s c.in_ok-selects.selects = c.in_ok-selects.ensures s (fits_with (plain_schema c.args.declarations) c.args.rules c.requires) (rw c.deref-9.ensures.value found) (c.len.ensures ∙ c.args.declarations.entities.ok.0 ∙ sym (length-map c.args.declarations.entities.items plain_entity)) in
+    let descents : IsDescentTable s c.in_ok-descents.descents = c.in_ok-descents.ensures s (fits_with (plain_schema c.args.declarations) c.args.rules c.requires) h in
+    let selects : AreSelectTables s c.in_ok-descents.descents c.in_ok-selects.selects = c.in_ok-selects.ensures s (fits_with (plain_schema c.args.declarations) c.args.rules c.requires) (rw c.deref-9.ensures.value found) (c.len.ensures ∙ c.args.declarations.entities.ok.0 ∙ sym (length-map c.args.declarations.entities.items plain_entity)) descents in
     record {
       types = types_are;
       attributes = c.in_ok-attributes.ensures;
       selects = selects;
-      admitting = c.in_ok-admitting.ensures s (fits_with (plain_schema c.args.declarations) c.args.rules c.requires) h selects.entities;
       ends = c.in_ok-ends.ensures s (ap (λ (ts : List _). map plain_type ts) (sym c.deref-6.ensures.value));
       resolved = found;
       own = own_with (plain_schema c.args.declarations) c.args.rules _ c.in_ok-own.ensures.own;
@@ -64,7 +64,7 @@ invariant_of-result c =
       well_formed = fits_with (plain_schema c.args.declarations) c.args.rules c.requires;
       names = names_are;
       supertypes = rw c.in_ok-supertypes.ensures (supertype_table s g h);
-      descents = c.in_ok-descents.ensures s (fits_with (plain_schema c.args.declarations) c.args.rules c.requires) h;
+      descents = descents;
     }
 
 pub type_names-requires : goal.type_names-requires
@@ -101,4 +101,6 @@ select_tables-requires c =
     let names_are : c.in_ok-entity_names.entity_names ≡ map (λ (e : Entity). e.name) s.entities = c.in_ok-entity_names.ensures ∙ ap (λ (es : List _). map (λ (e : Entity). e.name) (map plain_entity es)) c.deref.ensures.value in
     let types_are : c.in_ok-type_names.type_names ≡ map (λ (t : Defined). t.name) s.types = c.in_ok-type_names.ensures ∙ ap (λ (ts : List _). map (λ (t : Defined). t.name) (map plain_type ts)) c.deref-5.ensures.value in
     let found : AreResolved (map (λ (e : Entity). e.name) s.entities) (map (λ (t : Defined). t.name) s.types) c.in_ok-unders.unders.items s.types = rw (← names_are, ← types_are, ← c.deref-7.ensures.value) c.in_ok-unders.ensures in
-    (s, ((fits_with (plain_schema c.args.declarations) c.args.rules c.requires), (rw c.deref-9.ensures.value found, c.len.ensures ∙ c.args.declarations.entities.ok.0 ∙ sym (length-map c.args.declarations.entities.items plain_entity))))
+    let h : AreSupertypesNamed (map (λ (e : Entity). e.name) s.entities) (plain_graph c.in_ok-graph.graph) s.entities = named_by plain_entity c.in_ok-entity_names.entity_names (plain_graph c.in_ok-graph.graph) c.deref.result.now c.deref-2.result.now c.args.declarations.entities.items c.in_ok-entity_names.ensures c.deref.ensures.value c.deref-2.ensures.value c.in_ok-graph.ensures in
+    let formed = fits_with (plain_schema c.args.declarations) c.args.rules c.requires in
+    (s, (formed, (rw c.deref-9.ensures.value found, (c.len.ensures ∙ c.args.declarations.entities.ok.0 ∙ sym (length-map c.args.declarations.entities.items plain_entity), c.in_ok-descents.ensures s formed h))))

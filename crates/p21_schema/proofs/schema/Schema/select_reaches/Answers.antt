@@ -1,7 +1,9 @@
-use Rattle.std.proofs.Common.{◌≡◌, ◌<◌, ◌↔◌, Bool, true, List, [], length, get_or, sym, subst, ◌∙◌}
+use Rattle.std.proofs.Common.{◌≡◌, ◌<◌, ◌↔◌, true, List, [], length, get_or, sym, subst, ◌∙◌}
 use Rattle.p21_express.specs.Schema.{Schema}
 use Rattle.p21_schema.specs.Tables.{schema_of}
-use Rattle.p21_schema.specs.Graph.{rows_of, IsMarked}
+use Rattle.p21_schema.specs.Graph.{rows_of}
+use Rattle.p21_schema.specs.Ranges.{Covers}
+use Rattle.p21_schema.specs.declared.ranges.Range.{Range}
 use Rattle.p21_schema.specs.Place.{IsEntityOf, IsTypeOf}
 use Rattle.p21_schema.proofs.GraphLemmas.{row_is, row_count}
 use Rattle.p21_schema.proofs.RangeLemmas.{↔_through}
@@ -21,4 +23,4 @@ returns c =
     let less : i < length t.items = subst (λ u. i < u) (sym table.count ∙ row_count t ∙ t.ok.0) li in
     let is : get_or (rows_of t) i [] ≡ row = row_is t i c.index.result.now less c.index.ensures in
     let same : c.deref.result.now ≡ get_or (rows_of t) i [] = c.deref.ensures.value ∙ sym is in
-    rw (← c.self.view_is) (↔_through (subst (λ (xs : List Bool). (c.marked.result ≡ true) ↔ IsMarked xs k) same c.marked.ensures) (entity_reached s (rows_of t) i k table li le))
+    rw (← c.self.view_is) (↔_through (subst (λ (xs : List Range). (c.covers.result ≡ true) ↔ Covers xs k) same c.covers.ensures) (entity_reached s (rows_of t) i k table li le))

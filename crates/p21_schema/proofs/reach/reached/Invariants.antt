@@ -1,7 +1,8 @@
 use Rattle.std.proofs.Common.{◌≡◌, ℕ, [], length, get_or, take}
 use Rattle.p21_express.specs.WellFormed.{IsIn}
-use Rattle.p21_schema.specs.Graph.{rows_of, plain_graph, IsReachRow}
-use Rattle.p21_schema.proofs.graph.reached.Given as goal
+use Rattle.p21_schema.specs.Graph.{rows_of, plain_graph}
+use Rattle.p21_schema.specs.Reach.{IsReachRow}
+use Rattle.p21_schema.proofs.reach.reached.Given as goal
 
 abbrev pub invariant-loop : goal.invariant-loop
 invariant-loop l = length l.table.items ≡ l.counter
@@ -9,5 +10,5 @@ invariant-loop l = length l.table.items ≡ l.counter
 abbrev pub invariant-loop-vertex : goal.invariant-loop-vertex
 invariant-loop-vertex l = record {
   count : length (rows_of l.table) ≡ length (plain_graph l.graph);
-  rows : (v : ℕ) → IsIn (take l.vertex-index l.order) v → IsReachRow (plain_graph l.direct) (plain_graph l.graph) l.count v (get_or (rows_of l.table) v []);
+  rows : (v : ℕ) → IsIn (take l.vertex-index l.order) v → IsReachRow (plain_graph l.direct) (plain_graph l.graph) (rows_of l.firsts) v (get_or (rows_of l.table) v []);
 }

@@ -1,23 +1,26 @@
-use Rattle.std.proofs.Common.{◌<◌, Bool, length, get_or, take, ◌∙◌}
+use Rattle.std.proofs.Common.{◌<◌, length, get_or, take, ◌∙◌}
 use Rattle.std.specs.Prelude.{Vec}
-use Rattle.std.proofs.lemmas.List.{length-set, map-set}
+use Rattle.std.proofs.lemmas.List.{length-set, map-set, take_all}
 use Rattle.p21_express.specs.WellFormed.{IsIn}
-use Rattle.p21_schema.specs.Graph.{rows_of, plain_graph, IsReachRow}
+use Rattle.p21_schema.specs.declared.ranges.Range.{Range}
+use Rattle.p21_schema.specs.Graph.{rows_of, plain_graph}
+use Rattle.p21_schema.specs.Reach.{IsReachRow}
 use Rattle.p21_schema.proofs.Members.{in_front}
 use Rattle.p21_schema.proofs.GraphLemmas.{row_is, row_count}
-use Rattle.p21_schema.proofs.ReachLemmas.{in_order_below, table_more, reach_row_is}
-use Rattle.p21_schema.proofs.graph.reached.Goals as goal
+use Rattle.p21_schema.proofs.ReachLemmas.{in_order_below, reach_row_is}
+use Rattle.p21_schema.proofs.WithinLemmas.{table_set}
+use Rattle.p21_schema.proofs.reach.reached.Goals as goal
 
-pub reach_row-requires-clause-direct : goal.reach_row-requires-clause-direct
-reach_row-requires-clause-direct c =
+pub both-requires-clause-vertices : goal.both-requires-clause-vertices
+both-requires-clause-vertices c =
     let k = get_or c.args.order.now c.loop-vertex.vertex-index 0 in
     let less : k < length (plain_graph c.args.graph.now) = (c.requires.order c.loop-vertex.vertex-index c.loop-vertex-test.true).0 in
     let less' : k < length c.args.direct.now.items = rw (← c.args.direct.now.ok.0, ← (row_count c.args.direct.now), c.requires.vertices) less in
     let r = row_is c.args.direct.now k c.index.result.now less' c.index.ensures in
     λ v i. c.requires.direct k v (rw (r, ← c.deref.ensures.value) i)
 
-pub reach_row-requires-clause-neighbors : goal.reach_row-requires-clause-neighbors
-reach_row-requires-clause-neighbors c =
+pub both-requires-clause-others : goal.both-requires-clause-others
+both-requires-clause-others c =
     let k = get_or c.args.order.now c.loop-vertex.vertex-index 0 in
     let o = c.requires.order c.loop-vertex.vertex-index c.loop-vertex-test.true in
     let less' : k < length c.args.graph.now.items = rw (← c.args.graph.now.ok.0, ← (row_count c.args.graph.now)) o.0 in
@@ -25,7 +28,7 @@ reach_row-requires-clause-neighbors c =
     λ v i.
     let before : IsIn (take c.loop-vertex.vertex-index c.args.order.now) v = o.1 v (rw (r, ← c.deref-in-loop-vertex.ensures.value) i) in
     let below : v < length (plain_graph c.args.graph.now) = in_order_below (plain_graph c.args.graph.now) c.args.order.now v c.requires.order (in_front c.loop-vertex.vertex-index c.args.order.now v before) in
-    (rw c.loop-vertex.invariant.count below, (c.loop-vertex.invariant.rows v before).count)
+    rw c.loop-vertex.invariant.count below
 
 pub loop-vertex-preserved : goal.loop-vertex-preserved
 loop-vertex-preserved c =
@@ -38,10 +41,16 @@ loop-vertex-preserved c =
     let below : k < length (rows_of c.loop-vertex.table) = rw c.loop-vertex.invariant.count o.0 in
     let table = rows_of c.loop-vertex.table in
     let row = c.in_ok-row.row in
-    let is : IsReachRow (plain_graph c.args.direct.now) (plain_graph c.args.graph.now) c.args.count k row.items =
-    reach_row_is (plain_graph c.args.direct.now) (plain_graph c.args.graph.now) c.args.count k table row.items c.in_ok-row.ensures.count (λ w e. c.loop-vertex.invariant.rows w (o.1 w e))
-    (rw (d, r, ← c.deref.ensures.value, ← c.deref-in-loop-vertex.ensures.value) c.in_ok-row.ensures.marks) in
-    rw (map-set (λ (x : Vec Bool _). x.items) c.loop-vertex.table.items k row) (record {
+    let is : IsReachRow (plain_graph c.args.direct.now) (plain_graph c.args.graph.now) (rows_of c.args.firsts.now) k row.items =
+    reach_row_is (plain_graph c.args.direct.now) (plain_graph c.args.graph.now) (rows_of c.args.firsts.now) k table row.items (λ w e. c.loop-vertex.invariant.rows w (o.1 w e))
+    (rw (d, r, ← c.deref.ensures.value, ← c.deref-in-loop-vertex.ensures.value) c.in_ok-row.ensures) in
+    rw (map-set (λ (x : Vec Range _). x.items) c.loop-vertex.table.items k row) (record {
       count = length-set table k row.items ∙ c.loop-vertex.invariant.count;
-      rows = table_more (plain_graph c.args.direct.now) (plain_graph c.args.graph.now) c.args.count table row.items c.args.order.now c.loop-vertex.vertex-index c.loop-vertex-test.true below c.loop-vertex.invariant.rows is;
+      rows = table_set (IsReachRow (plain_graph c.args.direct.now) (plain_graph c.args.graph.now) (rows_of c.args.firsts.now)) table row.items c.args.order.now c.loop-vertex.vertex-index c.loop-vertex-test.true below c.loop-vertex.invariant.rows is;
     })
+
+pub returns : goal.returns
+returns c = record {
+  count = c.loop-vertex.invariant.count;
+  rows = λ v l. c.loop-vertex.invariant.rows v (rw (take_all c.loop-vertex.vertex-index c.args.order.now c.loop-vertex-test.false) (c.requires.all v l));
+}
