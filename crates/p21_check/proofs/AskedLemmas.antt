@@ -20,7 +20,7 @@ use Rattle.p21_check.specs.declared.walk.FirstBad.{FirstBad}
 use Rattle.p21_check.specs.References.{Reference, Refers, name_count}
 use Rattle.p21_check.specs.Sets.{CountsAmong}
 use Rattle.p21_check.specs.Wanted.{Asks, IsAskedBy, by_names}
-use Rattle.p21_check.specs.Walk.{FindsBad, IsAnswered, AreAnswered, IsBad, chosen}
+use Rattle.p21_check.specs.Walk.{FindsBad, IsAnswered, EachIsAnswered, IsBad, chosen}
 use Rattle.p21_check.proofs.WalkLemmas.{refers_below}
 use Rattle.p21_check.proofs.AnyLemmas.{zip_at, zip_length}
 use Rattle.p21_check.proofs.SlotLemmas.{counts_there, counts_among, explicit_no_derived, in_only, only_counts}
@@ -64,7 +64,7 @@ only_asks s well InSet d w by a = record {
 
 -- the best of some that ask, as the loop keeps it
 abbrev pub BestOf : Schema → (ℕ → Option Instance) → (ℕ → Reference → Type 0) → (ℕ → Reference → Type 0) → Result (Unit {0}) Bad → Type 0
-BestOf s named A W (Ok u) = AreAnswered s named A
+BestOf s named A W (Ok u) = EachIsAnswered s named A
 BestOf s named A W (Err b) = (f : IsFirst s named A b) × W f.place f.reference
 
 bad_answered : (s : Schema) (named : ℕ → Option Instance) (r : Reference) (b : Bad) → IsBad s named r b → IsAnswered s named r → ⊥
@@ -83,7 +83,7 @@ abbrev pub or_asked : (ℕ → Reference → Type 0) → (ℕ → Reference → 
 or_asked A B k r = A k r ⊎ B k r
 
 -- nothing is found against one more
-pub best_same : (s : Schema) (named : ℕ → Option Instance) (A B W V : ℕ → Reference → Type 0) (first : Result (Unit {0}) Bad) → ((k : ℕ) (r : Reference) → B k r ↔ V k r) → Best s named A W first → AreAnswered s named W × AreAnswered s named V → Best s named (or_asked A B) W first
+pub best_same : (s : Schema) (named : ℕ → Option Instance) (A B W V : ℕ → Reference → Type 0) (first : Result (Unit {0}) Bad) → ((k : ℕ) (r : Reference) → B k r ↔ V k r) → Best s named A W first → EachIsAnswered s named W × EachIsAnswered s named V → Best s named (or_asked A B) W first
 best_same s named A B W V (Ok u) same b h = record {
   within = λ k r w. inl (b.within k r w);
   finds = λ k r a. ⊎_elim (λ (x : A k r). b.finds k r x) (λ (x : B k r). h.1 k r ((same k r).0 x)) a;
@@ -231,7 +231,7 @@ asked_only s InSet o d p w are a k r = (there, back) where
       let f = (a.same p k r).1 h in
       record { declaration = d; counts = counts_there s InSet o (d ∷ []) are (inl refl) f.counts; refers = f.refers }
 
-pub only_answered : (s : Schema) (named : ℕ → Option Instance) (InSet : List ℕ → Type 0) (o : Origin) (d : Declaration) (p : Tree) (w : Wanted) → AreDeclarations s o (d ∷ []) → AsksAsCounted s InSet (d ∷ []) d w → AreAnswered s named (Asks s w p) → AreAnswered s named (AskedBy s InSet o p)
+pub only_answered : (s : Schema) (named : ℕ → Option Instance) (InSet : List ℕ → Type 0) (o : Origin) (d : Declaration) (p : Tree) (w : Wanted) → AreDeclarations s o (d ∷ []) → AsksAsCounted s InSet (d ∷ []) d w → EachIsAnswered s named (Asks s w p) → EachIsAnswered s named (AskedBy s InSet o p)
 only_answered s named InSet o d p w are a h k r x = h k r ((asked_only s InSet o d p w are a k r).0 x)
 
 pub only_first : (s : Schema) (named : ℕ → Option Instance) (InSet : List ℕ → Type 0) (o : Origin) (d : Declaration) (p : Tree) (w : Wanted) (f : FirstBad) → AreDeclarations s o (d ∷ []) → AsksAsCounted s InSet (d ∷ []) d w → FindsBad s named (Asks s asked.Nothing p) (Asks s w p) (Err f) → IsFirst s named (AskedBy s InSet o p) f.bad
@@ -247,5 +247,5 @@ only_first s named InSet o d p w f are a h = record {
   second true x = x
 
 -- where no instance name stands, nothing is asked
-pub no_names_asked : (s : Schema) (named : ℕ → Option Instance) (InSet : List ℕ → Type 0) (o : Origin) (p : Tree) → name_count p ≡ 0 → AreAnswered s named (AskedBy s InSet o p)
+pub no_names_asked : (s : Schema) (named : ℕ → Option Instance) (InSet : List ℕ → Type 0) (o : Origin) (p : Tree) → name_count p ≡ 0 → EachIsAnswered s named (AskedBy s InSet o p)
 no_names_asked s named InSet o p none k r a = let below = refers_below a.refers.refers in absurd (omega (arith, none, below))

@@ -14,7 +14,7 @@ use Rattle.p21_check.specs.declared.wanted.Wanted.{Wanted}
 use Rattle.p21_check.specs.declared.wanted.Wanted.TheVariants as asked
 use Rattle.p21_check.specs.declared.walk.Bad.TheVariants as bad
 use Rattle.p21_check.specs.Wanted.{Admits, Asks, is_name}
-use Rattle.p21_check.specs.Walk.{FindsBad, AreAnswered}
+use Rattle.p21_check.specs.Walk.{FindsBad, EachIsAnswered}
 
 wanted_name : Schema → Wanted → List ℕ
 wanted_name s asked.Nothing = []
@@ -54,10 +54,10 @@ refused s (asked.Select t) i h = (refl, h)
 refused s (asked.Elements e) i h = absurd (h tt)
 
 -- no name is asked for
-pub unasked : (s : Schema) (named : ℕ → Option Instance) (w : Wanted) (n : ℕ) → is_name w ≡ false → AreAnswered s named (Asks s w (reference n))
+pub unasked : (s : Schema) (named : ℕ → Option Instance) (w : Wanted) (n : ℕ) → is_name w ≡ false → EachIsAnswered s named (Asks s w (reference n))
 unasked s named w n h k r a = absurd (false≢true (sym h ∙ (asks_name s w n k r a).2))
 
-pub answered : (s : Schema) (named : ℕ → Option Instance) (w : Wanted) (n : ℕ) (i : Instance) → named n ≡ Some i → Admits s w i → AreAnswered s named (Asks s w (reference n))
+pub answered : (s : Schema) (named : ℕ → Option Instance) (w : Wanted) (n : ℕ) (i : Instance) → named n ≡ Some i → Admits s w i → EachIsAnswered s named (Asks s w (reference n))
 answered s named w n i e h k r a =
     let is = asks_name s w n k r a in
     record {

@@ -18,7 +18,7 @@ use Rattle.p21_check.specs.declared.wanted.Wanted.TheVariants as asked
 use Rattle.p21_check.specs.declared.walk.FirstBad.{FirstBad}
 use Rattle.p21_check.specs.Wanted.{Asks, AsksAmong, IsAskedOfElements, IsAskedInside}
 use Rattle.p21_check.specs.Wanted as asks
-use Rattle.p21_check.specs.Walk.{FindsBad, IsAnswered, AreAnswered, chosen}
+use Rattle.p21_check.specs.Walk.{FindsBad, IsAnswered, EachIsAnswered, chosen}
 
 -- a reference stands within its parameter
 
@@ -58,12 +58,12 @@ same_finds s named A B C D (Err b) e f h = record {
   choose true a = (f h.place h.reference).1 a
 
 -- an element without a fault is passed
-behind_answered : (s : Schema) (named : ℕ → Option Instance) (w : Wanted) (t : Tree) (ts : Trees) → AreAnswered s named (Asks s w t) → AreAnswered s named (AsksAmong s w ts) → AreAnswered s named (AsksAmong s w (cons t ts))
+behind_answered : (s : Schema) (named : ℕ → Option Instance) (w : Wanted) (t : Tree) (ts : Trees) → EachIsAnswered s named (Asks s w t) → EachIsAnswered s named (AsksAmong s w ts) → EachIsAnswered s named (AsksAmong s w (cons t ts))
 behind_answered s named w t ts one others k r (asks.here a) = one k r a
 behind_answered s named w t ts one others _ r (asks.behind {place = k} a) = others k r a
 
 pub passed : (s : Schema) (named : ℕ → Option Instance) (v w : Wanted) (t : Tree) (ts : Trees) (found : Result (Unit {0}) FirstBad) →
-    AreAnswered s named (Asks s v t) → AreAnswered s named (Asks s w t) → FindsBad s named (AsksAmong s v ts) (AsksAmong s w ts) found → FindsBad s named (AsksAmong s v (cons t ts)) (AsksAmong s w (cons t ts)) found
+    EachIsAnswered s named (Asks s v t) → EachIsAnswered s named (Asks s w t) → FindsBad s named (AsksAmong s v ts) (AsksAmong s w ts) found → FindsBad s named (AsksAmong s v (cons t ts)) (AsksAmong s w (cons t ts)) found
 passed s named v w t ts (Ok u) one other h = (behind_answered s named v t ts one h.0, behind_answered s named w t ts other h.1)
 passed s named v w t ts (Err b) one other h = record {
   place = name_count t + h.place;
@@ -77,7 +77,7 @@ passed s named v w t ts (Err b) one other h = record {
   choose false a = asks.behind a
   choose true a = asks.behind a
 
-  before : (u : Wanted) → AreAnswered s named (Asks s u t) → ((j : ℕ) (r : Reference) → j < h.place → AsksAmong s u ts j r → IsAnswered s named r) → (j : ℕ) (r : Reference) → j < name_count t + h.place → AsksAmong s u (cons t ts) j r → IsAnswered s named r
+  before : (u : Wanted) → EachIsAnswered s named (Asks s u t) → ((j : ℕ) (r : Reference) → j < h.place → AsksAmong s u ts j r → IsAnswered s named r) → (j : ℕ) (r : Reference) → j < name_count t + h.place → AsksAmong s u (cons t ts) j r → IsAnswered s named r
   before u here rest j r less (asks.here a) = here j r a
   before u here rest _ r less (asks.behind {place = k} a) = rest k r (omega arith) a
 
@@ -108,7 +108,7 @@ empty_among : {s : Schema} {w : Wanted} {ts : Trees} {k : ℕ} {r : Reference} �
 empty_among (asks.here a) e = cc
 empty_among (asks.behind a) e = cc
 
-pub none_among : (s : Schema) (named : ℕ → Option Instance) (w : Wanted) → AreAnswered s named (AsksAmong s w nil)
+pub none_among : (s : Schema) (named : ℕ → Option Instance) (w : Wanted) → EachIsAnswered s named (AsksAmong s w nil)
 none_among s named w k r a = absurd (empty_among a refl)
 
 no_elements : {s : Schema} {w : Wanted} {ts : Trees} {k : ℕ} {r : Reference} → w ≡ asked.Nothing → AsksAmong s w ts k r → ⊥
@@ -116,7 +116,7 @@ no_elements {s = s} {k = k} {r = r} e (asks.here {t = t} a) = subst (λ (u : Wan
 no_elements e (asks.behind a) = no_elements e a
 
 -- where nothing is asked of elements, all are passed
-pub nothing_among : (s : Schema) (named : ℕ → Option Instance) (w : Wanted) (ts : Trees) → w ≡ asked.Nothing → AreAnswered s named (AsksAmong s w ts)
+pub nothing_among : (s : Schema) (named : ℕ → Option Instance) (w : Wanted) (ts : Trees) → w ≡ asked.Nothing → EachIsAnswered s named (AsksAmong s w ts)
 nothing_among s named w ts e k r a = absurd (no_elements e a)
 
 -- a parameter that is no name, list or typed one
@@ -145,7 +145,7 @@ leaf_level (level.Str x) a b d = subst IsLeaf (sym (fold-roll-Param Tree plain_l
 leaf_level (level.Enumeration x) a b d = subst IsLeaf (sym (fold-roll-Param Tree plain_level (level.Enumeration x))) tt
 leaf_level (level.Binary x) a b d = subst IsLeaf (sym (fold-roll-Param Tree plain_level (level.Binary x))) tt
 
-pub leaf_answered : (s : Schema) (named : ℕ → Option Instance) (w : Wanted) (p : Param) → ((n : ℕ) → ¬ (p ≡ Ref n)) → ((v : Vec Param Global) → ¬ (p ≡ seen.Items v)) → ((k : Bor (List ℕ)) (q : Box Param Global) → ¬ (p ≡ seen.Typed k q)) → AreAnswered s named (Asks s w (plain p))
+pub leaf_answered : (s : Schema) (named : ℕ → Option Instance) (w : Wanted) (p : Param) → ((n : ℕ) → ¬ (p ≡ Ref n)) → ((v : Vec Param Global) → ¬ (p ≡ seen.Items v)) → ((k : Bor (List ℕ)) (q : Box Param Global) → ¬ (p ≡ seen.Typed k q)) → EachIsAnswered s named (Asks s w (plain p))
 leaf_answered s named w p a b d k r h =
     let same = roll-out-Param p in
     let leaf = leaf_level (out-Param p) (λ n e. a n (sym same ∙ e)) (λ v e. b v (sym same ∙ e)) (λ j q e. d j q (sym same ∙ e)) in
@@ -179,7 +179,7 @@ inside_typed s named v w in_v in_w p k inner found e a b h =
 
 -- all elements are passed but those from one on
 pub go_on : (s : Schema) (named : ℕ → Option Instance) (v w : Wanted) (xs : List Param) (i : ℕ) (d : Param) (found : Result (Unit {0}) FirstBad) → i < length xs → d ≡ get_or xs i d →
-    AreAnswered s named (Asks s v (plain d)) × AreAnswered s named (Asks s w (plain d)) →
+    EachIsAnswered s named (Asks s v (plain d)) × EachIsAnswered s named (Asks s w (plain d)) →
     FindsBad s named (AsksAmong s v (plain_all (drop (i + 1) xs))) (AsksAmong s w (plain_all (drop (i + 1) xs))) found →
     FindsBad s named (AsksAmong s v (plain_all (drop i xs))) (AsksAmong s w (plain_all (drop i xs))) found
 go_on s named v w xs i d found h e a f =

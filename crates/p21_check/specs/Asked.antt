@@ -16,7 +16,7 @@ use Rattle.p21_check.specs.References.{Reference, Refers, IsReferenceFault}
 use Rattle.p21_check.specs.Sets.{CountsAmong}
 use Rattle.p21_check.specs.Slot.{Counts}
 use Rattle.p21_check.specs.Wanted.{Asks, IsAsked}
-use Rattle.p21_check.specs.Walk.{IsAnswered, AreAnswered, IsBad}
+use Rattle.p21_check.specs.Walk.{IsAnswered, EachIsAnswered, IsBad}
 
 -- a reference against a declaration of this form, which is explicit
 pub record RefersByForm (s : Schema) (f : Form) (p : Tree) (place : ℕ) (r : Reference) : Type 0 where
@@ -55,7 +55,7 @@ pub record IsFirst (s : Schema) (named : ℕ → Option Instance) (A : ℕ → R
   pub before : (j : ℕ) (r : Reference) → j < place → A j r → IsAnswered s named r
 
 abbrev pub FindsFirst : Schema → (ℕ → Option Instance) → (ℕ → Reference → Type 0) → Result (Unit {0}) Bad → Type 0
-FindsFirst s named A (Ok u) = AreAnswered s named A
+FindsFirst s named A (Ok u) = EachIsAnswered s named A
 FindsFirst s named A (Err b) = IsFirst s named A b
 
 -- the fault of a parameter, by its record and its place in it
@@ -65,7 +65,7 @@ kind_at rec_ attr (bad.Wrong n) = kind.WrongReference rec_ attr n
 
 -- the parameters before a place have no fault
 abbrev pub AreFaultless : Schema → (ℕ → Option Instance) → (List ℕ → Type 0) → List Origin → Trees → ℕ → Type 0
-AreFaultless s named InSet os ts attr = (a : ℕ) (o : Origin) (t : Tree) → a < attr → slice_get os a ≡ Some o → tree_get ts a ≡ Some t → AreAnswered s named (AskedBy s InSet o t)
+AreFaultless s named InSet os ts attr = (a : ℕ) (o : Origin) (t : Tree) → a < attr → slice_get os a ≡ Some o → tree_get ts a ≡ Some t → EachIsAnswered s named (AskedBy s InSet o t)
 
 -- the first fault of a record
 pub record IsRecordFault (s : Schema) (named : ℕ → Option Instance) (InSet : List ℕ → Type 0) (os : List Origin) (ts : Trees) (rec_ : ℕ) (k : FaultKind) : Type 0 where

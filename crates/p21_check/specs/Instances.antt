@@ -59,8 +59,8 @@ abbrev pub IsFirstWrong : Schema → Instance → Option ℕ → Type 0
 IsFirstWrong s i r = MatchOption r ((q : ℕ) → ¬ (HasWrongCount s i q)) (λ r. HasWrongCount s i r × ((q : ℕ) → q < r → ¬ (HasWrongCount s i q)))
 
 -- the first record with a bad attribute, and the first of that one, or there is none
-abbrev pub IsFirstBad : Schema → Instance → Option (ℕ × ℕ) → Type 0
-IsFirstBad s i r = MatchOption r ((q b : ℕ) → ¬ (HasBadAttribute s i q b)) (λ p. HasBadAttribute s i p.0 p.1 × ((q b : ℕ) → q < p.0 → ¬ (HasBadAttribute s i q b)) × ((b : ℕ) → b < p.1 → ¬ (HasBadAttribute s i p.0 b)))
+abbrev pub IsFirstBadAttribute : Schema → Instance → Option (ℕ × ℕ) → Type 0
+IsFirstBadAttribute s i r = MatchOption r ((q b : ℕ) → ¬ (HasBadAttribute s i q b)) (λ p. HasBadAttribute s i p.0 p.1 × ((q b : ℕ) → q < p.0 → ¬ (HasBadAttribute s i q b)) × ((b : ℕ) → b < p.1 → ¬ (HasBadAttribute s i p.0 b)))
 
 -- the record's keyword is an entity
 abbrev pub NamesEntity : Schema → Record → Type 0

@@ -1,11 +1,11 @@
 -- What holds of every schema, header section and instance.
-use Rattle.std.specs.Prelude.{◌≡◌, ℕ, Option}
+use Rattle.std.specs.Prelude.{◌≡◌, ℕ, Option, None}
 use Rattle.p21_express.specs.Schema.{Schema}
 use Rattle.p21_tree.specs.Sentence.{Instance, Opening}
 use Rattle.p21_tree.specs.declared.faults.FaultKind.{FaultKind}
 use Rattle.p21_check.specs.Header.{IsHeaderFault}
-use Rattle.p21_check.specs.LocalFault.{IsLocalFault}
-use Rattle.p21_check.specs.References.{IsReferenceFault}
+use Rattle.p21_check.specs.LocalFault.{IsLocalFault, HasFault}
+use Rattle.p21_check.specs.References.{IsReferenceFault, HasFaultAt}
 
 -- no two answers, each a fault or none, are right of the header section
 abbrev pub HasOneHeaderFault : Schema → Opening → Type 0
@@ -18,3 +18,11 @@ HasOneLocalFault s i = (a b : Option FaultKind) → IsLocalFault s i a → IsLoc
 -- no two answers are right of the references of the instance, where these instances have the names
 abbrev pub HasOneReferenceFault : Schema → (ℕ → Option Instance) → Instance → Type 0
 HasOneReferenceFault s named i = (a b : Option FaultKind) → IsReferenceFault s named i a → IsReferenceFault s named i b → a ≡ b
+
+-- no answer of none is right of an instance that has a fault by itself, whichever it is
+abbrev pub PassesNoLocalFault : Schema → Instance → Type 0
+PassesNoLocalFault s i = (k : FaultKind) → HasFault s i k → ¬ (IsLocalFault s i None)
+
+-- no answer of none is right of its references where one of them is at fault, wherever it stands
+abbrev pub PassesNoReferenceFault : Schema → (ℕ → Option Instance) → Instance → Type 0
+PassesNoReferenceFault s named i = (rec_ attr place : ℕ) → (k : FaultKind) → HasFaultAt s named i rec_ attr place k → ¬ (IsReferenceFault s named i None)

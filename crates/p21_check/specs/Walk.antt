@@ -24,8 +24,8 @@ IsBad s named r (bad.Missing n) = (r.name ≡ n) × (named r.name ≡ None)
 IsBad s named r (bad.Wrong n) = (r.name ≡ n) × IsUnwanted s named r
 
 -- of what is asked each is answered
-abbrev pub AreAnswered : Schema → (ℕ → Option Instance) → (ℕ → Reference → Type 0) → Type 0
-AreAnswered s named A = (place : ℕ) (r : Reference) → A place r → IsAnswered s named r
+abbrev pub EachIsAnswered : Schema → (ℕ → Option Instance) → (ℕ → Reference → Type 0) → Type 0
+EachIsAnswered s named A = (place : ℕ) (r : Reference) → A place r → IsAnswered s named r
 
 abbrev pub chosen : Bool → (ℕ → Reference → Type 0) → (ℕ → Reference → Type 0) → ℕ → Reference → Type 0
 chosen false A B = A
@@ -41,5 +41,5 @@ pub record IsFirstBad (s : Schema) (named : ℕ → Option Instance) (A B : ℕ 
   pub before_other : (j : ℕ) (r : Reference) → j < place → B j r → IsAnswered s named r
 
 abbrev pub FindsBad : Schema → (ℕ → Option Instance) → (ℕ → Reference → Type 0) → (ℕ → Reference → Type 0) → Result (Unit {0}) FirstBad → Type 0
-FindsBad s named A B (Ok u) = AreAnswered s named A × AreAnswered s named B
+FindsBad s named A B (Ok u) = EachIsAnswered s named A × EachIsAnswered s named B
 FindsBad s named A B (Err f) = IsFirstBad s named A B f

@@ -5,7 +5,7 @@ ghost use Rattle.p21_express.specs.WellFormed.{IsIn, IsEntity, IsSupertype};
 ghost use Rattle.p21_schema.specs.Place.{IsEntityOf, entity_name};
 ghost use Rattle.p21_check.specs.EntitySet.{IsInSet};
 ghost use Rattle.p21_check.specs.LocalFault.{IsAbstract, LacksSupertype, LacksSubtype, IsBadComplex};
-ghost use Rattle.p21_check.specs.Instances.{IsAnswer, complex_instance, IsFirstWrong, IsFirstBad, NamesEntity, IsUnknown, HasRightCount, LacksAbove, IsSubtypeRecord, LacksBelow, IsNamedBefore};
+ghost use Rattle.p21_check.specs.Instances.{IsAnswer, complex_instance, IsFirstWrong, IsFirstBadAttribute, NamesEntity, IsUnknown, HasRightCount, LacksAbove, IsSubtypeRecord, LacksBelow, IsNamedBefore};
 ghost use Rattle.p21_check.specs.Sets.{keywords_of, HasEntity, AnyIn, EachIn};
 
 use crate::attributes::{attribute_count, first_unfit};
@@ -209,7 +209,7 @@ fn first_wrong_count(schema: &Schema, records: &[Record<'_>]) -> Option<usize>
 fn first_bad_attribute(schema: &Schema, records: &[Record<'_>]) -> Option<(usize, usize)>
     requires known { EachIn records.now (NamesEntity schema.now) }
     requires right { EachIn records.now (HasRightCount schema.now) }
-    ensures { (name : ℕ) → (at : ℕ) → IsFirstBad schema.now (complex_instance name at records.now) result }
+    ensures { (name : ℕ) → (at : ℕ) → IsFirstBadAttribute schema.now (complex_instance name at records.now) result }
 {
     schema.fits();
     let set = EntitySet::Complex(records);

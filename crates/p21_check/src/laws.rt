@@ -3,7 +3,7 @@
 ghost use Rattle.std.specs.Prelude.{ℕ, Option};
 ghost use Rattle.p21_express.specs.Schema.{Schema};
 ghost use Rattle.p21_tree.specs.Sentence.{Instance, Opening};
-ghost use Rattle.p21_check.specs.Laws.{HasOneHeaderFault, HasOneLocalFault, HasOneReferenceFault};
+ghost use Rattle.p21_check.specs.Laws.{HasOneHeaderFault, HasOneLocalFault, HasOneReferenceFault, PassesNoLocalFault, PassesNoReferenceFault};
 
 use p21_text::items_are_unique;
 
@@ -23,4 +23,11 @@ pub fn one_local_fault()
 /// answers are right of them.
 pub fn one_reference_fault()
     ensures { (s : Schema) → (named : ℕ → Option Instance) → (i : Instance) → HasOneReferenceFault s named i }
+{}
+
+/// What has a fault has no reading: where an instance has one by itself, or one of its references is at fault, the answer that
+/// there is none is not right of it, whatever other faults it has and whichever comes first.
+pub fn fault_has_no_reading()
+    ensures local { (s : Schema) → (i : Instance) → PassesNoLocalFault s i }
+    ensures references { (s : Schema) → (named : ℕ → Option Instance) → (i : Instance) → PassesNoReferenceFault s named i }
 {}

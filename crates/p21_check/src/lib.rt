@@ -25,6 +25,6 @@ mod width;
 
 pub use entity_of::{EntityOf, Named, simple_entity};
 pub use header::check_header;
-pub use laws::{one_header_fault, one_local_fault, one_reference_fault};
+pub use laws::{fault_has_no_reading, one_header_fault, one_local_fault, one_reference_fault};
 pub use local::{check_local, check_local_entity};
 pub use references::{TypeOf, check_references, check_references_among};

@@ -1,7 +1,7 @@
 -- One cut further.
 use Rattle.std.proofs.Common.{◌≡◌, ℕ, ◌+◌, ◌-◌, ◌≤◌, List, ◌∷◌, take, drop, subst, arith}
 use Rattle.p21_text.specs.Tokens.{Passes}
-use Rattle.p21_cut.specs.Pieces.{BeginsWith, Piece, PieceIs, IsNext, PiecesAre}
+use Rattle.p21_cut.specs.Pieces.{BeginsWithByte, Piece, PieceIs, IsNext, PiecesAre}
 use Rattle.p21_cut.specs.Pieces as pieces
 
 pub piece_there : (file : List ℕ) (at gap number end : ℕ) → Passes (drop at file) gap → PieceIs (drop (at + gap) file) (end - (at + gap)) → at + gap ≤ end

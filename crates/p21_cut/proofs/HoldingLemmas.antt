@@ -14,7 +14,7 @@ use Rattle.p21_tree.specs.Laws as laws
 use Rattle.p21_tree.specs.Texts.{shift, shifted}
 use Rattle.p21_tree.specs.InOrder.{BeginsWithName, HasNoSemi, Joined}
 use Rattle.p21_tree.specs.InOrder as order
-use Rattle.p21_cut.specs.Pieces.{BeginsWith, IsPlain, PartsAre, HasNoPart, Piece, PieceIs, PiecesAre}
+use Rattle.p21_cut.specs.Pieces.{BeginsWithByte, IsPlain, PartsAre, HasNoPart, Piece, PieceIs, PiecesAre}
 use Rattle.p21_cut.specs.Pieces as pieces
 use Rattle.p21_cut.specs.Tokens.{TokensOfEach, PiecesHoldTokens, PartsHoldTokens, TokensAndNext, InFile, PieceTokensAreOfFile, TailTokensAreOfFile}
 use Rattle.p21_cut.specs.Tokens as each
@@ -69,7 +69,7 @@ pub hash_plain : (behind : List ℕ) → IsPlain 35 behind
 hash_plain behind = record { no_semicolon = λ e. omega arith; no_apostrophe = λ e. omega arith; opens_nothing = λ e. absurd (omega arith) }
 
 -- the bytes up to a `;` and behind it
-pub at_mark : (rest : List ℕ) (n : ℕ) → BeginsWith 59 (drop n rest) → (rest ≡ take n rest ++ 59 ∷ drop (suc n) rest) × ((take (suc n) rest ≡ take n rest ++ 59 ∷ []) × (n < length rest))
+pub at_mark : (rest : List ℕ) (n : ℕ) → BeginsWithByte 59 (drop n rest) → (rest ≡ take n rest ++ 59 ∷ drop (suc n) rest) × ((take (suc n) rest ≡ take n rest ++ 59 ∷ []) × (n < length rest))
 at_mark [] zero h = absurd h
 at_mark [] (suc n) h = absurd h
 at_mark (x ∷ rest) zero h = (ap (λ b. b ∷ rest) h, (ap (λ b. b ∷ []) h, omega arith))
@@ -223,7 +223,7 @@ piece_walk file text start len before t one e (pieces.open_ {rest = rest} {n = n
     let count : n + 1 ≡ suc n = omega arith in
     let nothing : n + 1 ≡ n + 1 - 0 = omega arith in
     let stops : HasNoPart (drop (n + 1) bytes) = rw count none in
-    let no_mark : ¬ (BeginsWith 59 (drop (n + 1) bytes)) = rw count mark in
+    let no_mark : ¬ (BeginsWithByte 59 (drop (n + 1) bytes)) = rw count mark in
     let own : TokensUpTo bytes 0 before up.place = subst (λ l. TokensUpTo l 0 before up.place) whole up.tokens in
     let walk = open_walk file bytes start 0 (n + 1) up.place before t one e (omega arith) (omega (arith, fits)) (subst (PartsAre bytes) nothing all) stops no_mark own (subst (λ l. First l up.place t) whole up.next) in
     let long : length rest + 1 ≡ length bytes = omega arith in
@@ -304,7 +304,7 @@ parts_hold one unique file at number end ps tss before tail rest up cut tokens_o
 
 -- ---- first tokens of the tail
 
-no_name_first : (file : List ℕ) (at place : ℕ) (before : List Placed) (t : Placed) → ¬ (BeginsWith 35 (drop at file)) → ((g : ℕ) → Passes (drop at file) g → g ≡ 0) → TokensUpTo file at before place → First file place t → ¬ (BeginsWithName (before ++ t ∷ []))
+no_name_first : (file : List ℕ) (at place : ℕ) (before : List Placed) (t : Placed) → ¬ (BeginsWithByte 35 (drop at file)) → ((g : ℕ) → Passes (drop at file) g → g ≡ 0) → TokensUpTo file at before place → First file place t → ¬ (BeginsWithName (before ++ t ∷ []))
 no_name_first file at place before t s still tokens.none f = first_no_name file at t s still f
 no_name_first file at place before t s still (tokens.more {t = u} g nl others) f = first_no_name file at u s still g
 

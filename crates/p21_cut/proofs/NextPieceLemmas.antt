@@ -9,7 +9,7 @@ use Rattle.p21_text.specs.Tokens.{Passes, Front, First, Placed, Tokens, TokensUp
 use Rattle.p21_text.specs.Tokens as tokens
 use Rattle.p21_tree.specs.Texts.{shift, shifted}
 use Rattle.p21_tree.specs.InOrder.{HasNoSemi}
-use Rattle.p21_cut.specs.Pieces.{BeginsWith, PartsAre, HasNoPart, Piece, PieceIs, IsNext}
+use Rattle.p21_cut.specs.Pieces.{BeginsWithByte, PartsAre, HasNoPart, Piece, PieceIs, IsNext}
 use Rattle.p21_cut.specs.Pieces as pieces
 use Rattle.p21_cut.specs.Tokens.{FileTokensAreOfPiece, PieceBeginsWithName, FileTokensAreOfTail}
 use Rattle.p21_cut.proofs.OneCuttingLemmas.{passes_once}
@@ -140,14 +140,14 @@ back file bytes front r s from at place _ (b ∷ body) semi one e g begins h all
     )
 
 -- Where the parts of a piece go on neither to a `;` nor to another part, no `;` stands.
-never : (file text : List ℕ) (from at k place : ℕ) (ts body : List Placed) (semi : Placed) → OneString → drop from file ≡ drop at text → at ≤ k → PartsAre (drop at text) (k - at) → HasNoPart (drop k text) → ¬ (BeginsWith 59 (drop k text))
+never : (file text : List ℕ) (from at k place : ℕ) (ts body : List Placed) (semi : Placed) → OneString → drop from file ≡ drop at text → at ≤ k → PartsAre (drop at text) (k - at) → HasNoPart (drop k text) → ¬ (BeginsWithByte 59 (drop k text))
     → TokensUpTo file from ts place → ts ≡ body ++ semi ∷ [] → HasNoSemi body → semi.token ≡ token.semi → ⊥
 never file text from at k place ts body semi one e h all stop no_mark tokens.none parts none q = not_empty body semi parts
 never file text from at k place _ [] semi one e h all stop no_mark (tokens.more {t = u} {ts = ts} f nl rest) parts none q =
     let same : u ≡ semi = cc in
     let sum : at + (k - at) ≡ k = omega (arith, h) in
     let end_at : drop (k - at) (drop at text) ≡ drop k text = drop-drop (k - at) at text ∙ ap (λ j. drop j text) sum in
-    no_mark (subst (BeginsWith 59) end_at (first_semi file (drop at text) from (k - at) u one e all (subst HasNoPart (sym end_at) stop) f (ap (λ x. x.token) same ∙ q)).1.1)
+    no_mark (subst (BeginsWithByte 59) end_at (first_semi file (drop at text) from (k - at) u one e all (subst HasNoPart (sym end_at) stop) f (ap (λ x. x.token) same ∙ q)).1.1)
 never file text from at k place _ (b ∷ body) semi one e h all stop no_mark (tokens.more {t = u} {ts = ts} f nl rest) parts none q =
     let same : u ≡ b = cc in
     let others : ts ≡ body ++ semi ∷ [] = cc in
@@ -183,7 +183,7 @@ closed_or_never file text start len place ts body semi one e (pieces.open_ {rest
     let count : n + 1 ≡ suc n = omega arith in
     let same : n + 1 ≡ n + 1 - 0 = omega arith in
     let stops : HasNoPart (drop (n + 1) bytes) = rw count nothing in
-    let no_mark : ¬ (BeginsWith 59 (drop (n + 1) bytes)) = rw count mark in
+    let no_mark : ¬ (BeginsWithByte 59 (drop (n + 1) bytes)) = rw count mark in
     absurd (never file bytes start 0 (n + 1) place ts body semi one e (omega arith) (subst (PartsAre bytes) same all) stops no_mark toks f none k)
 
 up_to_after : (file : List ℕ) (at gap place : ℕ) (t : Placed) (ts : List Placed) → Passes (drop at file) gap → TokensUpTo file at (t ∷ ts) place → (t.start ≡ at + gap) × TokensUpTo file (at + gap) (t ∷ ts) place

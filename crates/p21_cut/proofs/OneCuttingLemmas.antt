@@ -5,7 +5,7 @@ use Rattle.p21_text.specs.Separators.{IsComment}
 use Rattle.p21_text.specs.Spelling.{Spells, str}
 use Rattle.p21_text.specs.Tokens.{Passes}
 use Rattle.p21_text.specs.Laws.{HasOneString}
-use Rattle.p21_cut.specs.Pieces.{BeginsWith, IsPlain, PartIs, PartsAre, HasNoPart, Piece, PieceIs, IsNext, PiecesAre}
+use Rattle.p21_cut.specs.Pieces.{BeginsWithByte, IsPlain, PartIs, PartsAre, HasNoPart, Piece, PieceIs, IsNext, PiecesAre}
 use Rattle.p21_cut.specs.Pieces as pieces
 
 either_le : (n m : ℕ) → (n ≤ m) ⊎ (m ≤ n)
@@ -46,23 +46,23 @@ comment_once text n m h k c d = elim (either_le n m) [ inl u ↦ comment_same te
 -- ---- parts
 
 -- the first bytes of a text
-pub begins_by : (text rest : List ℕ) (n b : ℕ) → take n text ≡ b ∷ rest → BeginsWith b text
+pub begins_by : (text rest : List ℕ) (n b : ℕ) → take n text ≡ b ∷ rest → BeginsWithByte b text
 begins_by [] rest zero b e = cc
 begins_by [] rest (suc n) b e = cc
 begins_by (c ∷ text) rest zero b e = cc
 begins_by (c ∷ text) rest (suc n) b e = cc
 
-two_firsts : (text : List ℕ) (b c : ℕ) → b ≢ c → BeginsWith b text → ¬ (BeginsWith c text)
+two_firsts : (text : List ℕ) (b c : ℕ) → b ≢ c → BeginsWithByte b text → ¬ (BeginsWithByte c text)
 two_firsts [] b c other h k = absurd h
 two_firsts (x ∷ text) b c other h k = other (sym h ∙ k)
 
-string_begins : (text body : List ℕ) (n : ℕ) → Spells (take n text) (drop n text) (str body) → BeginsWith 39 text
+string_begins : (text body : List ℕ) (n : ℕ) → Spells (take n text) (drop n text) (str body) → BeginsWithByte 39 text
 string_begins text body n s = begins_by text (body ++ 39 ∷ []) n 39 s.0
 
-comment_begins : (text : List ℕ) (n : ℕ) → IsComment (take n text) → BeginsWith 47 text
+comment_begins : (text : List ℕ) (n : ℕ) → IsComment (take n text) → BeginsWithByte 47 text
 comment_begins text n c = begins_by text (42 ∷ (c.body ++ 42 ∷ 47 ∷ [])) n 47 c.spelled
 
-comment_star : (b : ℕ) (behind : List ℕ) (n : ℕ) → IsComment (take n (b ∷ behind)) → BeginsWith 42 behind
+comment_star : (b : ℕ) (behind : List ℕ) (n : ℕ) → IsComment (take n (b ∷ behind)) → BeginsWithByte 42 behind
 comment_star b behind zero c = let spelled = c.spelled in cc
 comment_star b behind (suc n) c =
     let spelled : b ∷ take n behind ≡ 47 ∷ (42 ∷ (c.body ++ 42 ∷ 47 ∷ [])) = c.spelled in
@@ -84,7 +84,7 @@ part_once text n m one (pieces.byte {b = b} {behind = behind} p) (pieces.comment
 part_once text n m one (pieces.byte p) (pieces.byte q) = refl
 
 -- no part begins with a semicolon
-pub no_part_at_semicolon : (text : List ℕ) → BeginsWith 59 text → HasNoPart text
+pub no_part_at_semicolon : (text : List ℕ) → BeginsWithByte 59 text → HasNoPart text
 no_part_at_semicolon text h n (pieces.string {body = body} k s) = two_firsts text 59 39 (λ e. omega arith) h (string_begins text body n s)
 no_part_at_semicolon text h n (pieces.comment k c) = two_firsts text 59 47 (λ e. omega arith) h (comment_begins text n c)
 no_part_at_semicolon text h n (pieces.byte p) = p.no_semicolon h
@@ -113,10 +113,10 @@ piece_once text n m one (pieces.closed {rest = rest} {n = a} p s) (pieces.closed
     ap (λ j. j + 2) (stop_once rest a b (λ at. one (suc at)) p q (no_part_at_semicolon (drop a rest) s) (no_part_at_semicolon (drop b rest) t))
 piece_once text n m one (pieces.closed {rest = rest} {n = a} p s) (pieces.open_ {n = b} q t none) =
     let same : a ≡ b = stop_once rest a b (λ at. one (suc at)) p q (no_part_at_semicolon (drop a rest) s) none in
-    absurd (t (subst (λ j. BeginsWith 59 (drop j rest)) same s))
+    absurd (t (subst (λ j. BeginsWithByte 59 (drop j rest)) same s))
 piece_once text n m one (pieces.open_ {rest = rest} {n = a} p s none) (pieces.closed {n = b} q t) =
     let same : a ≡ b = stop_once rest a b (λ at. one (suc at)) p q none (no_part_at_semicolon (drop b rest) t) in
-    absurd (s (subst (λ j. BeginsWith 59 (drop j rest)) (sym same) t))
+    absurd (s (subst (λ j. BeginsWithByte 59 (drop j rest)) (sym same) t))
 piece_once text n m one (pieces.open_ p s none) (pieces.open_ q t other) = refl
 
 pub passes_once : (text : List ℕ) (n m : ℕ) → Passes text n → Passes text m → n ≡ m
@@ -124,7 +124,7 @@ passes_once text n m p q =
     let a : m ≤ n = p.longest m q.fits q.separators in
     let b : n ≤ m = q.longest n p.fits p.separators in omega (arith, a, b)
 
-piece_begins : (text : List ℕ) (n : ℕ) → PieceIs text n → BeginsWith 35 text
+piece_begins : (text : List ℕ) (n : ℕ) → PieceIs text n → BeginsWithByte 35 text
 piece_begins text n (pieces.closed p s) = refl
 piece_begins text n (pieces.open_ p s none) = refl
 
@@ -133,10 +133,10 @@ pieces_once file at number ps qs end other one (pieces.tail {gap = g} p s) (piec
     let same : g ≡ h = passes_once (drop at file) g h p q in (refl, ap (λ j. at + j) same)
 pieces_once file at number ps qs end other one (pieces.tail {gap = g} p s) (pieces.piece (pieces.made {gap = h} {len = len} q u) more) =
     let same : g ≡ h = passes_once (drop at file) g h p q in
-    absurd (s (subst (λ j. BeginsWith 35 (drop (at + j) file)) (sym same) (piece_begins (drop (at + h) file) len u)))
+    absurd (s (subst (λ j. BeginsWithByte 35 (drop (at + j) file)) (sym same) (piece_begins (drop (at + h) file) len u)))
 pieces_once file at number ps qs end other one (pieces.piece (pieces.made {gap = g} {len = len} p u) more) (pieces.tail {gap = h} q t) =
     let same : g ≡ h = passes_once (drop at file) g h p q in
-    absurd (t (subst (λ j. BeginsWith 35 (drop (at + j) file)) same (piece_begins (drop (at + g) file) len u)))
+    absurd (t (subst (λ j. BeginsWithByte 35 (drop (at + j) file)) same (piece_begins (drop (at + g) file) len u)))
 pieces_once file at number ps qs end other one (pieces.piece {others = xs} (pieces.made {gap = g} {len = a} p u) more) (pieces.piece {others = ys} (pieces.made {gap = h} {len = b} q v) rest) =
     let same : g ≡ h = passes_once (drop at file) g h p q in
     let here : PieceIs (drop (at + g) file) b = subst (λ j. PieceIs (drop (at + j) file) b) (sym same) v in

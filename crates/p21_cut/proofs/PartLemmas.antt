@@ -10,7 +10,7 @@ use Rattle.p21_text.specs.declared.token.Token.{Token}
 use Rattle.p21_text.specs.declared.token.Token.TheVariants as variants
 use Rattle.p21_text.specs.Laws.{HasOneString}
 use Rattle.memchr.specs.Find.{Nowhere, Passes as FoundAt, is_byte3}
-use Rattle.p21_cut.specs.Pieces.{BeginsWith, IsPlain, PartIs, PartsAre, HasNoPart, PieceIs}
+use Rattle.p21_cut.specs.Pieces.{BeginsWithByte, IsPlain, PartIs, PartsAre, HasNoPart, PieceIs}
 use Rattle.p21_cut.specs.Pieces as pieces
 
 -- ---- parts one after the other
@@ -162,14 +162,14 @@ plain_run (b ∷ rest) (suc n) h each =
     pieces.more (pieces.byte plain) (plain_run rest n (omega arith) (λ k u. each (suc k) (omega arith))) sum
 
 -- a solidus that begins no comment
-pub lone_solidus : (file : List ℕ) (at : ℕ) → at < length file → slice_index file at ≡ 47 → ¬ (BeginsWith 42 (drop (at + 1) file)) → PartsAre (drop at file) (at + 1 - at)
+pub lone_solidus : (file : List ℕ) (at : ℕ) → at < length file → slice_index file at ≡ 47 → ¬ (BeginsWithByte 42 (drop (at + 1) file)) → PartsAre (drop at file) (at + 1 - at)
 lone_solidus file at h e stops =
     let here : drop at file ≡ 47 ∷ drop (at + 1) file = drop_more file at 0 h ∙ ap (λ b. b ∷ drop (at + 1) file) e in
     let plain : IsPlain 47 (drop (at + 1) file) = record { no_semicolon = λ f. omega arith; no_apostrophe = λ f. omega arith; opens_nothing = λ f. stops } in
     let long : 1 ≡ at + 1 - at = omega arith in
     rw here (subst (PartsAre (47 ∷ drop (at + 1) file)) long (one_part (47 ∷ drop (at + 1) file) 1 (pieces.byte plain)))
 
-pub not_before : (b : ℕ) (file : List ℕ) (at : ℕ) → (length file ≤ at) ⊎ (slice_index file at ≢ b) → ¬ (BeginsWith b (drop at file))
+pub not_before : (b : ℕ) (file : List ℕ) (at : ℕ) → (length file ≤ at) ⊎ (slice_index file at ≢ b) → ¬ (BeginsWithByte b (drop at file))
 not_before b [] zero h e = absurd e
 not_before b [] (suc at) h e = absurd e
 not_before b (x ∷ file) zero (inl h) e = absurd (omega arith)
@@ -195,7 +195,7 @@ parts_to file from at to h k before behind =
 
 -- ---- a piece
 
-begins_with : (b : ℕ) (file : List ℕ) (at : ℕ) → at < length file → slice_index file at ≡ b → BeginsWith b (drop at file)
+begins_with : (b : ℕ) (file : List ℕ) (at : ℕ) → at < length file → slice_index file at ≡ b → BeginsWithByte b (drop at file)
 begins_with b file at h e = rw (drop_more file at 0 h) e
 
 -- what stands behind the `#` of a piece
@@ -207,11 +207,11 @@ pub closed_piece : (file : List ℕ) (start mark : ℕ) → start < length file 
 closed_piece file start mark h e k parts w s =
     let here : drop start file ≡ 35 ∷ drop (start + 1) file = drop_more file start 0 h ∙ ap (λ b. b ∷ drop (start + 1) file) e in
     let long : mark - (start + 1) + 2 ≡ mark + 1 - start = omega arith in
-    let closes : BeginsWith 59 (drop (mark - (start + 1)) (drop (start + 1) file)) = rw (behind_mark file start mark k) (begins_with 59 file mark w s) in
+    let closes : BeginsWithByte 59 (drop (mark - (start + 1)) (drop (start + 1) file)) = rw (behind_mark file start mark k) (begins_with 59 file mark w s) in
     rw here (subst (PieceIs (35 ∷ drop (start + 1) file)) long (pieces.closed parts closes))
 
 pub open_piece : (file : List ℕ) (start at : ℕ) → start < length file → slice_index file start ≡ 35 → start + 1 ≤ at → PartsAre (drop (start + 1) file) (at - (start + 1))
-    → ¬ (BeginsWith 59 (drop at file)) → HasNoPart (drop at file) → PieceIs (drop start file) (length file - start)
+    → ¬ (BeginsWithByte 59 (drop at file)) → HasNoPart (drop at file) → PieceIs (drop start file) (length file - start)
 open_piece file start at h e k parts stops none =
     let here : drop start file ≡ 35 ∷ drop (start + 1) file = drop_more file start 0 h ∙ ap (λ b. b ∷ drop (start + 1) file) e in
     let long : length (drop (start + 1) file) + 1 ≡ length file - start = omega (arith, length-drop (start + 1) file) in

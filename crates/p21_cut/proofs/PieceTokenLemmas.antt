@@ -8,7 +8,7 @@ use Rattle.p21_text.specs.Tokens.{Passes, Longest, NoneBegins, Front, First, Pla
 use Rattle.p21_text.specs.Tokens as tokens
 use Rattle.p21_tree.specs.Texts.{shift, shifted}
 use Rattle.p21_tree.specs.InOrder.{BeginsWithName, HasNoSemi}
-use Rattle.p21_cut.specs.Pieces.{BeginsWith, PartIs, PartsAre, HasNoPart}
+use Rattle.p21_cut.specs.Pieces.{BeginsWithByte, PartIs, PartsAre, HasNoPart}
 use Rattle.p21_cut.specs.Pieces as pieces
 use Rattle.p21_cut.specs.Tokens.{TokensAndNext}
 use Rattle.p21_cut.proofs.PartLemmas.{passed_parts, byte_gap}
@@ -22,7 +22,7 @@ use Rattle.p21_cut.proofs.StretchLemmas.{OneString, parts_left, token_parts, mar
 before_token : (a text : List ℕ) (at k : ℕ) (t : Placed) → OneString → drop at a ≡ text → PartsAre text k → HasNoPart (drop k text) → (f : First a at t) → (f.gap ≤ k) × PartsAre (drop f.gap text) (k - f.gap)
 before_token a text at k t one e all stop f = parts_left text f.gap k one (passed_parts text f.gap (subst (λ l. Passes l f.gap) e f.passes)) all stop
 
-semi_spelled : (text : List ℕ) (n : ℕ) (t : Symbol) → Front text n t → t ≡ token.semi → BeginsWith 59 text × (n ≡ 1)
+semi_spelled : (text : List ℕ) (n : ℕ) (t : Symbol) → Front text n t → t ≡ token.semi → BeginsWithByte 59 text × (n ≡ 1)
 semi_spelled text n t (tokens.token l) e =
     let spelled : take n text ≡ 59 ∷ [] = subst (Spells (take n text) (drop n text)) e l.spelled in
     (begins_by text [] n 59 spelled, omega (arith, length-take-le n text l.fits, ap length spelled))
@@ -30,13 +30,13 @@ semi_spelled text n t tokens.ended e = cc
 semi_spelled text n t (tokens.none some nothing) e = cc
 
 -- a `;` stands where the parts stop
-pub first_semi : (a text : List ℕ) (at k : ℕ) (t : Placed) → OneString → drop at a ≡ text → PartsAre text k → HasNoPart (drop k text) → (f : First a at t) → t.token ≡ token.semi → (f.gap ≡ k) × ((f.len ≡ 1) × BeginsWith 59 (drop k text))
+pub first_semi : (a text : List ℕ) (at k : ℕ) (t : Placed) → OneString → drop at a ≡ text → PartsAre text k → HasNoPart (drop k text) → (f : First a at t) → t.token ≡ token.semi → (f.gap ≡ k) × ((f.len ≡ 1) × BeginsWithByte 59 (drop k text))
 first_semi a text at k t one e all stop f s =
     let before = before_token a text at k t one e all stop f in
     let found = semi_spelled (drop f.gap text) f.len t.token (subst (λ l. Front (drop f.gap l) f.len t.token) e f.front) s in
     let none : k - f.gap ≡ 0 = mark_first (drop f.gap text) (k - f.gap) found.0 before.1 in
     let same : f.gap ≡ k = omega (arith, before.0, none) in
-    (same, (found.1, subst (λ j. BeginsWith 59 (drop j text)) same found.0))
+    (same, (found.1, subst (λ j. BeginsWithByte 59 (drop j text)) same found.0))
 
 front_parts : (text : List ℕ) (n : ℕ) (t : Symbol) → Front text n t → ¬ (IsLast t) → t ≢ token.semi → PartsAre text n
 front_parts text n t (tokens.token l) nl other = token_parts text n t l.fits l.spelled other
@@ -219,7 +219,7 @@ parts_fit text n (pieces.more {n = a} {m = m} p ps e) =
       part_fits text n (pieces.comment h c) = h
       part_fits text n (pieces.byte p) = omega arith
 
-pub open_walk : (file bytes : List ℕ) (s at k place : ℕ) (before : List Placed) (t : Placed) → OneString → drop s file ≡ bytes → at ≤ k → k ≤ length bytes → PartsAre (drop at bytes) (k - at) → HasNoPart (drop k bytes) → ¬ (BeginsWith 59 (drop k bytes))
+pub open_walk : (file bytes : List ℕ) (s at k place : ℕ) (before : List Placed) (t : Placed) → OneString → drop s file ≡ bytes → at ≤ k → k ≤ length bytes → PartsAre (drop at bytes) (k - at) → HasNoPart (drop k bytes) → ¬ (BeginsWithByte 59 (drop k bytes))
     → TokensUpTo bytes at before place → First bytes place t → OpenWalk file bytes s at before t
 open_walk file bytes s at k place before t one e h within all stop no_mark tokens.none f =
     let there : drop at bytes ≡ drop (s + at) file = ap (drop at) (sym e) ∙ drop-drop at s file in
@@ -234,7 +234,7 @@ open_walk file bytes s at k place before t one e h within all stop no_mark (toke
     let end_at : drop (k - at) (drop at bytes) ≡ drop k bytes = drop-drop (k - at) at bytes ∙ ap (λ j. drop j bytes) there_k in
     let stops : HasNoPart (drop (k - at) (drop at bytes)) = rw end_at stop in
     let other : u.token ≢ token.semi =
-    λ q. no_mark (subst (BeginsWith 59) end_at (first_semi bytes (drop at bytes) at (k - at) u one refl all stops f q).1.1) in
+    λ q. no_mark (subst (BeginsWithByte 59) end_at (first_semi bytes (drop at bytes) at (k - at) u one refl all stops f q).1.1) in
     let found = first_more bytes (drop at bytes) at (k - at) u one refl all stops f nl other in
     let after : u.after ≡ at + (f.gap + f.len) = omega (arith, f.start_is, f.after_is) in
     let fits : u.after ≤ k = omega (arith, after, found.0, h) in
@@ -308,18 +308,18 @@ no_end_first text rest ts body end e toks f = not_end end.token (first_of_piece 
   not_end t (inl n) e = let other = n.1 in cc
   not_end t (inr b) e = cc
 
-front_name : (text : List ℕ) (n m : ℕ) (t : Symbol) → Front text n t → t ≡ token.name m → BeginsWith 35 text
+front_name : (text : List ℕ) (n m : ℕ) (t : Symbol) → Front text n t → t ≡ token.name m → BeginsWithByte 35 text
 front_name text n m t (tokens.token l) e =
     let spelled = subst (Spells (take n text) (drop n text)) e l.spelled in begins_by text spelled.0 n 35 spelled.1
 front_name text n m t tokens.ended e = cc
 front_name text n m t (tokens.none some nothing) e = cc
 
 -- the first token of a tail is no name
-pub first_no_name : (text : List ℕ) (at : ℕ) (t : Placed) → ¬ (BeginsWith 35 (drop at text)) → ((gap : ℕ) → Passes (drop at text) gap → gap ≡ 0) → First text at t → ¬ ((n : ℕ) × (t.token ≡ token.name n))
+pub first_no_name : (text : List ℕ) (at : ℕ) (t : Placed) → ¬ (BeginsWithByte 35 (drop at text)) → ((gap : ℕ) → Passes (drop at text) gap → gap ≡ 0) → First text at t → ¬ ((n : ℕ) × (t.token ≡ token.name n))
 first_no_name text at t none still f n =
     let gap : f.gap ≡ 0 = still f.gap f.passes in
     none (front_name (drop at text) f.len n.0 t.token (subst (λ g. Front (drop g (drop at text)) f.len t.token) gap f.front) n.1)
 
-pub tail_no_name : (text : List ℕ) (at : ℕ) (ts : List Placed) → ¬ (BeginsWith 35 (drop at text)) → ((gap : ℕ) → Passes (drop at text) gap → gap ≡ 0) → Tokens text at ts → ¬ (BeginsWithName ts)
+pub tail_no_name : (text : List ℕ) (at : ℕ) (ts : List Placed) → ¬ (BeginsWithByte 35 (drop at text)) → ((gap : ℕ) → Passes (drop at text) gap → gap ≡ 0) → Tokens text at ts → ¬ (BeginsWithName ts)
 tail_no_name text at ts none still (tokens.last {t = t} f l) = first_no_name text at t none still f
 tail_no_name text at ts none still (tokens.more {t = t} f nl rest) = first_no_name text at t none still f

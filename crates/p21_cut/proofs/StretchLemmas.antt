@@ -7,7 +7,7 @@ use Rattle.p21_text.specs.Spelling as token
 use Rattle.p21_text.specs.Tokens.{Passes, Longest, NoneBegins, Front, First, Placed, Tokens, IsLast}
 use Rattle.p21_text.specs.Tokens as tokens
 use Rattle.p21_text.specs.Laws.{HasOneString}
-use Rattle.p21_cut.specs.Pieces.{BeginsWith, PartIs, PartsAre, HasNoPart}
+use Rattle.p21_cut.specs.Pieces.{BeginsWithByte, PartIs, PartsAre, HasNoPart}
 use Rattle.p21_cut.specs.Pieces as pieces
 use Rattle.p21_cut.proofs.PartLemmas.{passed_parts, taken_parts, plain_run, one_part, IsPlainAt}
 use Rattle.p21_cut.proofs.OneCuttingLemmas.{part_once, no_part_at_semicolon, begins_by}
@@ -66,7 +66,7 @@ behind_alike [] r q (suc n) h = absurd (omega arith)
 behind_alike (x ∷ front) r q zero h = refl
 behind_alike (x ∷ front) r q (suc n) h = behind_alike front r q n (omega arith)
 
-star_alike : (front r q : List ℕ) → BeginsWith 42 (front ++ 59 ∷ q) → BeginsWith 42 (front ++ 59 ∷ r)
+star_alike : (front r q : List ℕ) → BeginsWithByte 42 (front ++ 59 ∷ q) → BeginsWithByte 42 (front ++ 59 ∷ r)
 star_alike [] r q h = h
 star_alike (x ∷ front) r q h = h
 
@@ -98,14 +98,14 @@ parts_alike text front r q n e h (pieces.more {n = a} {m = m} p ps f) =
     let others : PartsAre (drop a front ++ 59 ∷ q) m = parts_alike (drop a text) (drop a front) r q m rest left ps in
     pieces.more (part_alike text front r q a e small p) (rw (drop-append-le a front (59 ∷ q) small) others) f
 
-at_mark : (front r : List ℕ) → BeginsWith 59 (drop (length front) (front ++ 59 ∷ r))
+at_mark : (front r : List ℕ) → BeginsWithByte 59 (drop (length front) (front ++ 59 ∷ r))
 at_mark front r = rw (drop_at front (59 ∷ r) (length front) refl) refl
 
 pub stops_at_mark : (front r : List ℕ) → HasNoPart (drop (length front) (front ++ 59 ∷ r))
 stops_at_mark front r = no_part_at_semicolon (drop (length front) (front ++ 59 ∷ r)) (at_mark front r)
 
 -- no parts stand before a `;` at the front
-pub mark_first : (text : List ℕ) (n : ℕ) → BeginsWith 59 text → PartsAre text n → n ≡ 0
+pub mark_first : (text : List ℕ) (n : ℕ) → BeginsWithByte 59 text → PartsAre text n → n ≡ 0
 mark_first text n h pieces.none = refl
 mark_first text n h (pieces.more {n = a} p ps e) = absurd (no_part_at_semicolon text h a p)
 

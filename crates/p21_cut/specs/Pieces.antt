@@ -5,15 +5,15 @@ use Rattle.p21_text.specs.Spelling.{Spells, str}
 use Rattle.p21_text.specs.Tokens.{Passes}
 
 -- the text begins with this byte
-abbrev pub BeginsWith : ℕ → List ℕ → Type 0
-BeginsWith b [] = ⊥
-BeginsWith b (c ∷ rest) = c ≡ b
+abbrev pub BeginsWithByte : ℕ → List ℕ → Type 0
+BeginsWithByte b [] = ⊥
+BeginsWithByte b (c ∷ rest) = c ≡ b
 
 -- a byte that is no `;`, no `'` and, before the text behind it, begins no `/*`
 pub record IsPlain (b : ℕ) (behind : List ℕ) : Type 0 where
   pub no_semicolon : b ≢ 59
   pub no_apostrophe : b ≢ 39
-  pub opens_nothing : b ≡ 47 → ¬ (BeginsWith 42 behind)
+  pub opens_nothing : b ≡ 47 → ¬ (BeginsWithByte 42 behind)
 
 -- A part of a piece, as the first n bytes of a text: a string token, a comment, or one plain byte.
 pub data PartIs : List ℕ → ℕ → Type 0 where
@@ -33,8 +33,8 @@ HasNoPart text = (n : ℕ) → ¬ (PartIs text n)
 -- The piece that a text begins with is its first n bytes: `#`, parts and `;`. Where the parts go on neither to a `;`
 -- nor to another part, it is all of the text.
 pub data PieceIs : List ℕ → ℕ → Type 0 where
-  closed : {rest : List ℕ} {n : ℕ} → PartsAre rest n → BeginsWith 59 (drop n rest) → PieceIs (35 ∷ rest) (n + 2)
-  open_ : {rest : List ℕ} {n : ℕ} → PartsAre rest n → ¬ (BeginsWith 59 (drop n rest)) → HasNoPart (drop n rest) → PieceIs (35 ∷ rest) (length rest + 1)
+  closed : {rest : List ℕ} {n : ℕ} → PartsAre rest n → BeginsWithByte 59 (drop n rest) → PieceIs (35 ∷ rest) (n + 2)
+  open_ : {rest : List ℕ} {n : ℕ} → PartsAre rest n → ¬ (BeginsWithByte 59 (drop n rest)) → HasNoPart (drop n rest) → PieceIs (35 ∷ rest) (length rest + 1)
 
 -- a piece: its number, the place of its first byte, and its bytes
 pub record Piece : Type 0 where
@@ -50,5 +50,5 @@ pub data IsNext (file : List ℕ) : ℕ → ℕ → Piece → ℕ → Type 0 whe
 -- The pieces of a file from a place on, numbered from `number` on, and the place of the tail: separators and pieces
 -- stand in turn, and the tail begins where, after separators, no `#` stands.
 pub data PiecesAre (file : List ℕ) : ℕ → ℕ → List Piece → ℕ → Type 0 where
-  tail : {at number gap : ℕ} → Passes (drop at file) gap → ¬ (BeginsWith 35 (drop (at + gap) file)) → PiecesAre file at number [] (at + gap)
+  tail : {at number gap : ℕ} → Passes (drop at file) gap → ¬ (BeginsWithByte 35 (drop (at + gap) file)) → PiecesAre file at number [] (at + gap)
   piece : {at number next end : ℕ} {p : Piece} {others : List Piece} → IsNext file at number p next → PiecesAre file next (number + 1) others end → PiecesAre file at number (p ∷ others) end

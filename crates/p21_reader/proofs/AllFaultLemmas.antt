@@ -21,7 +21,7 @@ use Rattle.p21_reader.specs.Reading as reading
 use Rattle.p21_reader.specs.AllFaults.{AreFaultsOf, AreInstanceFaults, AreAllFaults}
 use Rattle.p21_reader.specs.AllFaults as faults
 use Rattle.p21_reader.specs.Laws.{HasOneReadingAtMost}
-use Rattle.p21_reader.specs.AllLaws.{BeginsWith, AllFaultsBeginWithReading}
+use Rattle.p21_reader.specs.AllLaws.{BeginWithAnswer, AllFaultsBeginWithReading}
 use Rattle.p21_reader.proofs.FrontLemmas.{OneFirst, up_to_split, all_of_file}
 
 -- References.
@@ -152,7 +152,7 @@ begins_stop file o is f h =
     (t.0, record { opening = h.opening; body = h.body; tokens = t.1; is_opening = h.is_opening; are_instances = h.are_instances })
 
 -- the first faulty instance of a file gives its local fault
-local_first : (s : Schema) (file : List ℕ) (o : Opening) (is : List Instance) (place : ℕ) (f : Fault) (rest : List Fault) → FileBeginsWith file o is place → IsHeaderFault s o None → AreInstanceFaults s is (f ∷ rest) → IsLocalFaultOfFile s file f
+pub local_first : (s : Schema) (file : List ℕ) (o : Opening) (is : List Instance) (place : ℕ) (f : Fault) (rest : List Fault) → FileBeginsWith file o is place → IsHeaderFault s o None → AreInstanceFaults s is (f ∷ rest) → IsLocalFaultOfFile s file f
 local_first s file o is place f rest begins header h =
     let r = first_faulty s [] is (f ∷ rest) rest f h refl in
     let parts : is ≡ (r.earlier ++ r.instance ∷ []) ++ r.later = r.parts ∙ sym (append_assoc r.earlier (r.instance ∷ []) r.later) in
@@ -165,7 +165,7 @@ local_first s file o is place f rest begins header h =
 record Told (s : Schema) (file : List ℕ) (fs : List Fault) : Type 0 where
   answer : Result (List Instance) Fault
   is_reading : IsReading s file answer
-  begins : BeginsWith fs answer
+  begins : BeginWithAnswer fs answer
 
 told_grammar : (s : Schema) (file : List ℕ) (o : Opening) (is : List Instance) (fs : List Fault) (f : Fault) → FileStopsBehind file o is f → IsHeaderFault s o None → AreInstanceFaults s is fs → Told s file (fs ++ f ∷ [])
 told_grammar s file o is [] f stops header h = record { answer = Err f; is_reading = reading.local (local.behind_instances stops header (have_none s is [] h refl)); begins = refl }
@@ -188,4 +188,4 @@ told one s file fs (faults.of_references {is} w h) = told_references s file is f
 pub begin_with_reading : OneFirst → (s : Schema) (file : List ℕ) → HasOneReadingAtMost s file → AllFaultsBeginWithReading s file
 begin_with_reading first s file one fs answer h is_reading =
     let t = told first s file fs h in
-    subst (BeginsWith fs) (one t.answer answer t.is_reading is_reading) t.begins
+    subst (BeginWithAnswer fs) (one t.answer answer t.is_reading is_reading) t.begins

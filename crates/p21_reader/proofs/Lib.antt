@@ -16,3 +16,4 @@ pub mod AllFaultLemmas
 pub mod AllValueLemmas
 pub mod FaultGatheringLemmas
 pub mod AllLaneLemmas
+pub mod OneListLemmas

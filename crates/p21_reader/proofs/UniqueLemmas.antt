@@ -61,16 +61,16 @@ places (u ∷ a) x m (v ∷ b) y n e =
 fault_is : (f g : Fault) → f.kind ≡ g.kind → f.at ≡ g.at → f ≡ g
 fault_is f g e d = ap (λ k. record { kind = k; at = f.at }) e ∙ ap (λ a. record { kind = g.kind; at = a }) d
 
-some_apart : (k : FaultKind) → Some k ≡ None → ⊥
+pub some_apart : (k : FaultKind) → Some k ≡ None → ⊥
 some_apart k e = cc
 
-some_same : (j k : FaultKind) → Some j ≡ Some k → j ≡ k
+pub some_same : (j k : FaultKind) → Some j ≡ Some k → j ≡ k
 some_same j k e = cc
 
 module _ (laws : Laws) where
   -- The fault of an instance among others.
 
-  instance_same : (s : Schema) (earlier : List Instance) (i : Instance) (a b : Option FaultKind) → IsInstanceFault s earlier i a → IsInstanceFault s earlier i b → a ≡ b
+  pub instance_same : (s : Schema) (earlier : List Instance) (i : Instance) (a b : Option FaultKind) → IsInstanceFault s earlier i a → IsInstanceFault s earlier i b → a ≡ b
   instance_same s earlier i a b (own.repeated r) (own.repeated q) = refl
   instance_same s earlier i a b (own.repeated r) (own.alone n h) = absurd (n r)
   instance_same s earlier i a b (own.alone n h) (own.repeated r) = absurd (n r)
@@ -92,13 +92,13 @@ module _ (laws : Laws) where
       let one : SameFault files all here there = (laws.faults all).1 here there in
       fault_is f g (h.kind_is ∙ (ap fault_kind one.2 ∙ sym k.kind_is)) one.3
 
-  grammar_same : (file : List ℕ) (f g : Fault) → HasFault files file 0 f → HasFault files file 0 g → f ≡ g
+  pub grammar_same : (file : List ℕ) (f g : Fault) → HasFault files file 0 f → HasFault files file 0 g → f ≡ g
   grammar_same file f g h k = by_front (fronts laws.sentences.firsts file 0 h.place k.place h.before k.before h.tokens k.tokens) where
     by_front : Fronts file h.before k.before h.place k.place → f ≡ g
     by_front (shorter m e r) = same_fault_in file f g h k m e r
     by_front (longer m e r) = sym (same_fault_in file g f k h m e r)
 
-  not_whole : (file : List ℕ) (o : Opening) (is : List Instance) (f : Fault) → IsFileText file o is → HasFault files file 0 f → ⊥
+  pub not_whole : (file : List ℕ) (o : Opening) (is : List Instance) (f : Fault) → IsFileText file o is → HasFault files file 0 f → ⊥
   not_whole file o is f w h = (laws.faults w.0).0 (record { opening = o; instances = is }, w.2) (laws.of_tokens file 0 w.0 f w.1 h).0
 
   -- Faults of different parts of a file exclude each other.
@@ -134,7 +134,7 @@ module _ (laws : Laws) where
   preface_grammar : (file : List ℕ) (f : Fault) → HasPrefaceFault file f → HasFault files file 0 f
   preface_grammar file f h = record { before = h.before; place = h.place; token = h.token; kind = h.kind; tokens = h.tokens; next = h.next; is_fault = h.of_file; kind_is = h.kind_is }
 
-  stop_grammar : (file : List ℕ) (o : Opening) (is : List Instance) (f : Fault) → FileStopsBehind file o is f → HasFault files file 0 f
+  pub stop_grammar : (file : List ℕ) (o : Opening) (is : List Instance) (f : Fault) → FileStopsBehind file o is f → HasFault files file 0 f
   stop_grammar file o is f h = record { before = h.opening ++ (h.body ++ h.front); place = h.place; token = h.token; kind = h.kind; tokens = h.tokens; next = h.next; is_fault = h.stops.is_fault; kind_is = h.kind_is }
 
   -- a file with a fault before its instances begins with no preface whose header has none
@@ -142,7 +142,7 @@ module _ (laws : Laws) where
   opening_apart s file f o is place (fault.in_preface h) b x = no_preface laws.sentences.firsts file f o is place h b
   opening_apart s file f o is place (fault.in_header {o = u} {kind} d y) b x = header_apart s file u o [] is u.data_at place kind (begins_opening file u d) y b x
 
-  opening_same : (s : Schema) (file : List ℕ) (f g : Fault) → IsOpeningFault s file f → IsOpeningFault s file g → f ≡ g
+  pub opening_same : (s : Schema) (file : List ℕ) (f g : Fault) → IsOpeningFault s file f → IsOpeningFault s file g → f ≡ g
   opening_same s file f g (fault.in_preface h) (fault.in_preface k) = grammar_same file f g (preface_grammar file f h) (preface_grammar file g k)
   opening_same s file f g (fault.in_preface h) (fault.in_header {o = u} d y) = absurd (no_preface laws.sentences.firsts file f u [] u.data_at h (begins_opening file u d))
   opening_same s file f g (fault.in_header {o} b x) (fault.in_preface k) = absurd (no_preface laws.sentences.firsts file g o [] o.data_at k (begins_opening file o b))
@@ -165,14 +165,14 @@ module _ (laws : Laws) where
   local_same s file f g (fault.behind_instances {o} {is} b x xs) (fault.behind_instances {o = u} {is = js} d y ys) = grammar_same file f g (stop_grammar file o is f b) (stop_grammar file u js g d)
 
   -- a file with a local fault is no file without one
-  local_apart : (s : Schema) (file : List ℕ) (is : List Instance) (f : Fault) → HasNoLocalFault s file is → IsLocalFaultOfFile s file f → ⊥
+  pub local_apart : (s : Schema) (file : List ℕ) (is : List Instance) (f : Fault) → HasNoLocalFault s file is → IsLocalFaultOfFile s file f → ⊥
   local_apart s file is f w (fault.in_opening h) = (let all = all_of_file laws.sentences.firsts file w.opening is w.is_file in opening_apart s file f w.opening is all.end h all.begins w.header)
   local_apart s file is f w (fault.in_instance {o} {earlier} {i} {place} {kind} b x xs h) = instance_apart s file o w.opening earlier is i place kind b h (all_of_file laws.sentences.firsts file w.opening is w.is_file) w.faultless
   local_apart s file is f w (fault.behind_instances {o} {is = js} b x xs) = not_whole file w.opening is f w.is_file (stop_grammar file o js f b)
 
   -- The instances of a file, and the first fault of their references.
 
-  instances_same : (s : Schema) (file : List ℕ) (is js : List Instance) → HasNoLocalFault s file is → HasNoLocalFault s file js → is ≡ js
+  pub instances_same : (s : Schema) (file : List ℕ) (is js : List Instance) → HasNoLocalFault s file is → HasNoLocalFault s file js → is ≡ js
   instances_same s file is js h k =
       let one : h.is_file.0 ≡ k.is_file.0 = laws.lists file 0 h.is_file.0 k.is_file.0 h.is_file.1 k.is_file.1 in
       let left : File = record { opening = h.opening; instances = is } in

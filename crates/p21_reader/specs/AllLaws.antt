@@ -14,16 +14,20 @@ use Rattle.p21_reader.specs.Values.{Value, IsJudged}
 use Rattle.p21_reader.specs.AllFaults.{AreAllFaults, IsReadingWithAll}
 use Rattle.p21_reader.specs.AllByValues.{IsAllAnswerTo}
 
+-- no two lists are all faults of the file
+abbrev pub HasOneListOfFaultsAtMost : Schema → List ℕ → Type 0
+HasOneListOfFaultsAtMost s file = (a b : List Fault) → AreAllFaults s file a → AreAllFaults s file b → a ≡ b
+
 -- there are no faults and the answer is a model, or the first of them is the fault of the answer
-abbrev pub BeginsWith : List Fault → Result (List Instance) Fault → Type 0
-BeginsWith [] (Ok is) = Unit {0}
-BeginsWith [] (Err f) = ⊥
-BeginsWith (f ∷ fs) (Ok is) = ⊥
-BeginsWith (f ∷ fs) (Err g) = g ≡ f
+abbrev pub BeginWithAnswer : List Fault → Result (List Instance) Fault → Type 0
+BeginWithAnswer [] (Ok is) = Unit {0}
+BeginWithAnswer [] (Err f) = ⊥
+BeginWithAnswer (f ∷ fs) (Ok is) = ⊥
+BeginWithAnswer (f ∷ fs) (Err g) = g ≡ f
 
 -- All faults of a file are none exactly where its reading is a model, and else the first of them is the fault of the reading.
 abbrev pub AllFaultsBeginWithReading : Schema → List ℕ → Type 0
-AllFaultsBeginWithReading s file = (fs : List Fault) (answer : Result (List Instance) Fault) → AreAllFaults s file fs → IsReading s file answer → BeginsWith fs answer
+AllFaultsBeginWithReading s file = (fs : List Fault) (answer : Result (List Instance) Fault) → AreAllFaults s file fs → IsReading s file answer → BeginWithAnswer fs answer
 
 -- Behind a preface whose header has no fault, the answer with all faults to what the pieces of a file are by themselves is that of
 -- the file.

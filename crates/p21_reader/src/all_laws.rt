@@ -2,12 +2,28 @@
 
 ghost use Rattle.std.specs.Prelude.{ℕ, List};
 ghost use Rattle.p21_express.specs.Schema.{Schema};
-ghost use Rattle.p21_reader.specs.AllLaws.{AllFaultsBeginWithReading, ValuesGiveAllFaults};
+ghost use Rattle.p21_reader.specs.AllLaws.{AllFaultsBeginWithReading, HasOneListOfFaultsAtMost, ValuesGiveAllFaults};
 
 use crate::laws::one_reading;
+use p21_check::{one_header_fault, one_local_fault, one_reference_fault};
 use p21_cut::first_tokens_of_file;
-use p21_text::first_is_unique;
-use p21_tree::parts_up_to_fault;
+use p21_text::{first_is_unique, tokens_are_unique};
+use p21_tree::{faults_of_tokens, one_beginning, one_fault_at_most, one_tree, parts_up_to_fault};
+
+/// A file has at most one list of all faults against a schema.
+pub fn one_list_of_faults()
+    ensures { (s : Schema) → (file : List ℕ) → HasOneListOfFaultsAtMost s file }
+{
+    tokens_are_unique();
+    first_is_unique();
+    one_tree();
+    one_beginning();
+    one_fault_at_most();
+    faults_of_tokens();
+    one_header_fault();
+    one_local_fault();
+    one_reference_fault();
+}
 
 /// A file has no fault of all exactly where its reading is a model, and else the first of all is the fault of its reading.
 pub fn all_begin_with_reading()

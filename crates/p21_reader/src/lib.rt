@@ -17,7 +17,7 @@ mod serial;
 mod stop;
 
 pub use all_faults::{AllFaults, read_all_faults};
-pub use all_laws::{all_begin_with_reading, values_give_all_faults};
+pub use all_laws::{all_begin_with_reading, one_list_of_faults, values_give_all_faults};
 pub use judged::{Judge, Judged, LocalReader};
 pub use lanes::{read_lanes, read_lanes_by};
 pub use laws::{one_reading, pieces_are_instances, pieces_in_order, values_give_reading};

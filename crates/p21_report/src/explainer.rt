@@ -8,6 +8,7 @@ use p21_schema::Schema;
 use p21_tree::Fault;
 use std::alloc::{AllocError, Global};
 use std::io::{self, Write};
+use std::mem::forget;
 use std::time::Clock;
 
 /// How many columns a line of a file is shown in.
@@ -141,5 +142,10 @@ impl<C: Clock, P: Write> Listener for Explainer<'_, C, P> {
         if self.most > 0 {
             let _ = self.add_refused(text, error);
         }
+    }
+
+    /// The program ends right behind its run, and the system takes back what it holds.
+    fn let_go<T: Drop>(&mut self, read: T) {
+        forget(read);
     }
 }

@@ -1,5 +1,5 @@
 -- What is due, and what is written of it.
-use Rattle.std.proofs.Common.{◌≡◌, ◌≢◌, ◌⊎◌, inl, inr, ℕ, Bool, true, false, List, Option, Some, Result, Ok, Err, sym, subst}
+use Rattle.std.proofs.Common.{◌≡◌, ◌≢◌, ◌⊎◌, inl, inr, ℕ, Bool, true, false, List, Option, Some, Result, Ok, Err, refl, sym, subst}
 use Rattle.std.specs.Prelude.{IfSome, IfOk}
 use Rattle.std.specs.Io.KnownBytes.{Appends}
 use Rattle.p21_express.specs.declared.error.SchemaError.{SchemaError}
@@ -69,6 +69,14 @@ never_due all rules schema_text file text outcome.Faulty due is = cc
 never_due all rules schema_text file text outcome.SchemaRefused due is = cc
 never_due all rules schema_text file text outcome.Device due is = never_device (ends all (with_rules due.0 rules) file text outcome.Device due.2)
 never_due all rules schema_text file text outcome.Memory due is = cc
+
+-- what is due of a text that declares a schema is of a file that was read to its end
+pub read_whole : (all : Bool) (rules : Rules) (schema_text file text : List ℕ) (o : Outcome) → IsDue all rules schema_text file o text → (s : Schema) → IsReading schema_text s → (o ≡ outcome.Complete) ⊎ (o ≡ outcome.Faulty)
+read_whole all rules schema_text file text outcome.Complete due s reading = inl refl
+read_whole all rules schema_text file text outcome.Faulty due s reading = inr refl
+read_whole all rules schema_text file text outcome.SchemaRefused due s reading = absurd (due.declares_nothing s reading)
+read_whole all rules schema_text file text outcome.Device due s reading = absurd (never_device (ends all (with_rules due.0 rules) file text outcome.Device due.2))
+read_whole all rules schema_text file text outcome.Memory due s reading = absurd (never_memory (ends all (with_rules due.0 rules) file text outcome.Memory due.2))
 
 -- the report of a file against the schema that the text declares is due
 pub report_due : (all : Bool) (rules : Rules) (s : Schema) (schema_text file text : List ℕ) (o : Outcome) → IsReading schema_text s → IsReport all (with_rules s rules) file o text → IsDue all rules schema_text file o text

@@ -73,7 +73,9 @@ fn full_report_of_file<R: Threads + Wait + Sync, G: Gate + Sync, L: Listener>(
         Ok(all) => {
             listener.hear_checked();
             hear_all(listener, schema, file, &all);
-            report_of_all(rt, alloc, schema, &all)
+            let report = report_of_all(rt, alloc, schema, &all)?;
+            listener.let_go(all);
+            Ok(report)
         }
         Err(ReadError::Memory) => Err(AllocError),
     }
@@ -94,7 +96,9 @@ fn first_report_of_file<R: Threads + Wait + Sync, G: Gate + Sync, L: Listener>(
         Ok(reading) => {
             listener.hear_checked();
             hear_reading(listener, schema, file, &reading);
-            report_of_reading(rt, alloc, schema, &reading)
+            let report = report_of_reading(rt, alloc, schema, &reading)?;
+            listener.let_go(reading);
+            Ok(report)
         }
         Err(ReadError::Memory) => Err(AllocError),
     }

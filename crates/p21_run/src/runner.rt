@@ -7,7 +7,9 @@ ghost use Rattle.p21_schema.specs.Rules.{with_rules};
 ghost use Rattle.p21_run.specs.Due.{IsDue, IsReport, Writes, IsLong, IsLongText, most_calls, most_file_bytes, most_schema_bytes};
 ghost use Rattle.std.specs.Io.KnownBytes.{Keeps};
 ghost use Rattle.p21_express.specs.Answer.{HasNoReading};
-ghost use Rattle.p21_run.specs.declared.outcome.Outcome.TheVariants.{Complete, Device, Faulty, SchemaRefused};
+ghost use Rattle.p21_express.specs.Reading.{IsReading};
+ghost use Rattle.p21_express.specs.Schema.{Schema};
+ghost use Rattle.p21_run.specs.declared.outcome.Outcome.TheVariants.{Complete, Device, Faulty, Memory, SchemaRefused};
 ghost use Rattle.p21_run.specs.declared.input.InputError.TheVariants.{Device as Failed};
 
 use crate::input::{FILE_BOUNDS, InputError, SCHEMA_BOUNDS, read_bounded};
@@ -54,6 +56,8 @@ pub fn run<R: Threads + Wait + Sync, G: Gate + Sync, S: Source, F: Source, K: Si
     ensures schema_bounded { result ≡ Complete ⊎ (result ≡ Faulty ⊎ result ≡ SchemaRefused) → (schema_text : List ℕ) → S.remaining schema_in.old ≡ Some schema_text → length schema_text ≤ most_schema_bytes }
     ensures file_bounded { result ≡ Complete ⊎ result ≡ Faulty → (file : List ℕ) → F.remaining file_in.old ≡ Some file → length file ≤ most_file_bytes }
     ensures unread { (schema_text : List ℕ) → S.remaining schema_in.old ≡ Some schema_text → HasNoReading schema_text ⊎ (most_schema_bytes < length schema_text) → file_in.new ≡ file_in.old }
+    ensures overlong_schema { (schema_text : List ℕ) → S.remaining schema_in.old ≡ Some schema_text → most_schema_bytes < length schema_text → (result ≡ Device ⊎ result ≡ Memory) × (out.new ≡ out.old) }
+    ensures overlong_file { (schema_text file : List ℕ) → (s : Schema) → S.remaining schema_in.old ≡ Some schema_text → IsReading schema_text s → F.remaining file_in.old ≡ Some file → most_file_bytes < length file → (result ≡ Device ⊎ result ≡ Memory) × (out.new ≡ out.old) }
     ensures schema_failed { S.failed schema_in.old ≡ false → S.failed schema_in.new ≡ true → (result ≡ Device) × (file_in.new ≡ file_in.old) × (out.new ≡ out.old) }
     ensures file_failed { F.failed file_in.old ≡ false → F.failed file_in.new ≡ true → (result ≡ Device) × (out.new ≡ out.old) }
     ensures unwritten { result ≡ Device → K.marked out.new ≡ false → (schema_text file : List ℕ) → S.remaining schema_in.old ≡ Some schema_text → F.remaining file_in.old ≡ Some file → Keeps (K.taken out.old) (K.taken out.new) ⊎ IsLongText all rules schema_text file }
@@ -102,6 +106,8 @@ pub fn run_heard<
     ensures schema_bounded { result ≡ Complete ⊎ (result ≡ Faulty ⊎ result ≡ SchemaRefused) → (schema_text : List ℕ) → S.remaining schema_in.old ≡ Some schema_text → length schema_text ≤ most_schema_bytes }
     ensures file_bounded { result ≡ Complete ⊎ result ≡ Faulty → (file : List ℕ) → F.remaining file_in.old ≡ Some file → length file ≤ most_file_bytes }
     ensures unread { (schema_text : List ℕ) → S.remaining schema_in.old ≡ Some schema_text → HasNoReading schema_text ⊎ (most_schema_bytes < length schema_text) → file_in.new ≡ file_in.old }
+    ensures overlong_schema { (schema_text : List ℕ) → S.remaining schema_in.old ≡ Some schema_text → most_schema_bytes < length schema_text → (result ≡ Device ⊎ result ≡ Memory) × (out.new ≡ out.old) }
+    ensures overlong_file { (schema_text file : List ℕ) → (s : Schema) → S.remaining schema_in.old ≡ Some schema_text → IsReading schema_text s → F.remaining file_in.old ≡ Some file → most_file_bytes < length file → (result ≡ Device ⊎ result ≡ Memory) × (out.new ≡ out.old) }
     ensures schema_failed { S.failed schema_in.old ≡ false → S.failed schema_in.new ≡ true → (result ≡ Device) × (file_in.new ≡ file_in.old) × (out.new ≡ out.old) }
     ensures file_failed { F.failed file_in.old ≡ false → F.failed file_in.new ≡ true → (result ≡ Device) × (out.new ≡ out.old) }
     ensures unwritten { result ≡ Device → K.marked out.new ≡ false → (schema_text file : List ℕ) → S.remaining schema_in.old ≡ Some schema_text → F.remaining file_in.old ≡ Some file → Keeps (K.taken out.old) (K.taken out.new) ⊎ IsLongText all rules schema_text file }

@@ -54,7 +54,6 @@ module _ (s : Schema) (formed : IsWellFormed s) (graph : List (List ℕ)) (h : A
   pub admit_table : (table : List (List Bool)) → IsReachTable direct graph (length reached) table → IsAdmitTable s table
   admit_table table r = record {
     count = r.count ∙ h.count;
-    columns = λ e le. (r.rows e (subst (λ u. e < u) (sym h.count) le)).count ∙ t.count;
     marks = λ e i le li.
         let row = (r.rows e (subst (λ u. e < u) (sym h.count) le)).reached i in
         (λ m. admitted li (row.0 m), λ a. row.1 (found e i le li a));

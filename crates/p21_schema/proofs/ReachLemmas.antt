@@ -1,5 +1,5 @@
 -- What a vertex reaches, row by row.
-use Rattle.std.proofs.Common.{◌≡◌, ℕ, ◌+◌, ◌<◌, ◌↔◌, Bool, true, false, List, [], ◌⊎◌, length, get_or, take, set, sym, subst, inl, inr, ⊎_elim}
+use Rattle.std.proofs.Common.{◌≡◌, ℕ, ◌+◌, ◌<◌, ◌≤◌, ◌↔◌, Bool, true, false, List, [], ◌⊎◌, length, get_or, take, set, sym, subst, inl, inr, ⊎_elim}
 use Rattle.std.proofs.lemmas.Bool.{cases_eq}
 use Rattle.std.proofs.lemmas.List.{get_or-set_same, get_or-set_other}
 use Rattle.p21_express.specs.WellFormed.{IsIn}
@@ -44,7 +44,7 @@ some_more D table row new vs i less h n v =
     )
 
 -- a row by the rows of the neighbors
-pub reach_row_is : (direct graph : List (List ℕ)) (size v : ℕ) (table : List (List Bool)) (row : List Bool) → length row ≡ size → ((w : ℕ) → HasEdge graph v w → IsReachRow direct graph size w (get_or table w []))
+pub reach_row_is : (direct graph : List (List ℕ)) (size v : ℕ) (table : List (List Bool)) (row : List Bool) → length row ≤ size → ((w : ℕ) → HasEdge graph v w → IsReachRow direct graph size w (get_or table w []))
     → ((x : ℕ) → IsMarked row x ↔ (IsIn (get_or direct v []) x ⊎ SomeMarks table (get_or graph v []) x)) → IsReachRow direct graph size v row
 reach_row_is direct graph size v table row long rows h = record {
   count = long;

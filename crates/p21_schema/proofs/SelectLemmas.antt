@@ -362,7 +362,9 @@ entity_marks s table marks t count h = record {
       let row = h i (subst (λ u. i < u) (sym t.count) less) in (
         λ m.
             let k = row.0 m in
-            let lk : k.0 < length s.entities = subst (λ u. k.0 < u) (t.columns i less) (marked_below (get_or table i []) k.0 k.1) in
+            let below : k.0 < length (get_or table i []) = marked_below (get_or table i []) k.0 k.1 in
+            let most : length (get_or table i []) ≤ length s.entities = t.columns i less in
+            let lk : k.0 < length s.entities = omega arith in
             let e = (t.marks i k.0 less lk).0 k.1 in
             (entity_named s k.0, (e.0, e.1)),
         λ e.

@@ -66,9 +66,9 @@ pub data Reaches (direct graph : List (List ℕ)) : ℕ → ℕ → Type 0 where
   here : {a x : ℕ} → IsIn (get_or direct a []) x → Reaches direct graph a x
   through : {a b x : ℕ} → HasEdge graph a b → Reaches direct graph b x → Reaches direct graph a x
 
--- the row of a vertex: it marks what the vertex reaches
+-- the row of a vertex: it marks what the vertex reaches, and may end behind that
 pub record IsReachRow (direct graph : List (List ℕ)) (size v : ℕ) (row : List Bool) : Type 0 where
-  pub count : length row ≡ size
+  pub count : length row ≤ size
   pub reached : (x : ℕ) → IsMarked row x ↔ Reaches direct graph v x
 
 -- a row for each vertex

@@ -94,6 +94,10 @@ fn attribute_above(known: &Known, entity: usize, name: &[u8]) -> Option<usize>
     requires entity { entity < length (known_schema known.now).entities }
     ensures { MatchOption result ((d : ℕ) → d < length (known_schema known.now).entities → IsA (known_schema known.now) (entity_id entity) (entity_id d) → IsNotOwn (known_schema known.now) d name.now) (λ i. (d : ℕ) × ((d < length (known_schema known.now).entities) × (IsA (known_schema known.now) (entity_id entity) (entity_id d) × IsOwnAt (known_schema known.now) d name.now i))) }
 {
+    // Mostly it is the entity's own, and then no other has to be looked at.
+    if let Some(attribute) = own_attribute(known, entity, name) {
+        return Some(attribute);
+    }
     for owner in 0..known.declarations.entities.len() {
         if is_over(known, entity, owner) {
             if let Some(attribute) = own_attribute(known, owner, name) {

@@ -154,19 +154,26 @@ fn mark(row: &mut [bool], vertices: &[usize])
     }
 }
 
+/// Whether a row marks a place.
+pub(crate) fn marked(row: &[bool], place: usize) -> bool
+    ensures { IsTrue result ↔ IsMarked row.now place }
+{
+    if place < row.len() { row[place] } else { false }
+}
+
 /// Marks what another row marks too.
 fn mark_all(row: &mut [bool], other: &[bool])
-    requires { length row.old ≡ length other.now }
+    requires { length other.now ≤ length row.old }
     ensures { (v : ℕ) → IsMarked row.new v ↔ (IsMarked row.old v ⊎ IsMarked other.now v) }
 {
-    for vertex in 0..row.len() {
+    for vertex in 0..other.len() {
         if other[vertex] {
             row[vertex] = true;
         }
     }
 }
 
-/// The row of a vertex: these are marked, and what the rows of its neighbors mark.
+/// The row of a vertex: these are marked, and what the rows of its neighbors mark. It is empty where there is neither.
 fn reach_row(
     alloc: Global,
     direct: &[usize],
@@ -175,10 +182,13 @@ fn reach_row(
     count: usize,
 ) -> Result<Vec<bool>, AllocError>
     requires direct { (v : ℕ) → IsIn direct.now v → v < count }
-    requires neighbors { (v : ℕ) → IsIn neighbors.now v → (v < length (rows_of table.now)) × (length (get_or (rows_of table.now) v []) ≡ count) }
-    ensures count { IfOk result (λ row. length row.items ≡ count) }
+    requires neighbors { (v : ℕ) → IsIn neighbors.now v → (v < length (rows_of table.now)) × (length (get_or (rows_of table.now) v []) ≤ count) }
+    ensures count { IfOk result (λ row. length row.items ≤ count) }
     ensures marks { IfOk result (λ row. (v : ℕ) → IsMarked row.items v ↔ (IsIn direct.now v ⊎ ((w : ℕ) × (IsIn neighbors.now w × IsMarked (get_or (rows_of table.now) w []) v)))) }
 {
+    if direct.is_empty() && neighbors.is_empty() {
+        return Ok(Vec::new(alloc));
+    }
     let mut row = unmarked(alloc, count)?;
     mark(&mut row, direct);
     for neighbor in neighbors {
@@ -214,12 +224,11 @@ pub(crate) fn reached(
 
 /// The rows that mark a place.
 fn marking(alloc: Global, table: &Vec<Vec<bool>>, place: usize) -> Result<Vec<usize>, AllocError>
-    requires { (k : ℕ) → k < length (rows_of table.now) → place < length (get_or (rows_of table.now) k []) }
     ensures { IfOk result (λ rows. AreMarking (rows_of table.now) place rows.items) }
 {
     let mut rows = Vec::new(alloc);
     for (k, row) in table.iter().enumerate() {
-        if row[place] {
+        if marked(row, place) {
             rows.push(k)?;
         }
     }
@@ -232,7 +241,6 @@ pub(crate) fn transposed(
     table: &Vec<Vec<bool>>,
     count: usize,
 ) -> Result<Graph, AllocError>
-    requires { (k : ℕ) → k < length (rows_of table.now) → length (get_or (rows_of table.now) k []) ≡ count }
     ensures { IfOk result (λ graph. IsTransposed (rows_of table.now) count (plain_graph graph)) }
 {
     let mut graph = Vec::with_capacity(alloc, count)?;

@@ -4,7 +4,7 @@ ghost use Rattle.std.specs.Prelude.{◌≡◌, ◌<◌, ◌↔◌, List, Some, l
 
 use crate::ancestry::{descents, supertype_ids, supertypes};
 use crate::declarations::{Declaration, Known, all_declarations};
-use crate::graph::order;
+use crate::graph::{marked, order};
 use crate::ids::{AttrId, EntityId, TypeId};
 use crate::names::{Names, entity_names, type_names};
 use crate::reach::Reach;
@@ -292,7 +292,7 @@ impl Schema {
         ensures { MatchOption result (¬ (ReachesType self.now (type_name self.now select) name.now)) (λ t. IsTypeOf self.now t × ((type_name self.now t ≡ name.now) × ReachesType self.now (type_name self.now select) name.now)) }
     {
         let index = self.type_names.place(name)?;
-        if self.selects.types[select.index][index] {
+        if marked(&self.selects.types[select.index], index) {
             Some(TypeId { index })
         } else {
             None
@@ -305,7 +305,7 @@ impl Schema {
         requires entity { IsEntityOf self.now entity }
         ensures { IsTrue result ↔ SelectReaches self.now (type_name self.now select) (entity_name self.now entity) }
     {
-        self.selects.entities[select.index][entity.index]
+        marked(&self.selects.entities[select.index], entity.index)
     }
 
     /// Whether the SELECT reaches the entity or an ancestor of it.
@@ -314,7 +314,7 @@ impl Schema {
         requires entity { IsEntityOf self.now entity }
         ensures { IsTrue result ↔ ReachesA self.now (type_name self.now select) (entity_name self.now entity) }
     {
-        self.admitting[entity.index][select.index]
+        marked(&self.admitting[entity.index], select.index)
     }
 
     /// Whether the SELECT reaches an entity.

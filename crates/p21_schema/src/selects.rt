@@ -141,7 +141,6 @@ pub(crate) fn admitting(
     supertypes: &Graph,
     order: &[usize],
 ) -> Result<Vec<Vec<bool>>, AllocError>
-    requires columns { (i : ℕ) → i < length (rows_of entities.now) → length (get_or (rows_of entities.now) i []) ≡ length (plain_graph supertypes.now) }
     requires order { IsOrder (plain_graph supertypes.now) order.now }
     requires all { (v : ℕ) → v < length (plain_graph supertypes.now) → IsIn order.now v }
     ensures { IfOk result (λ table. (s : Schema) → IsWellFormed s → AreSupertypesNamed (map (λ e. e.name) s.entities) (plain_graph supertypes.now) s.entities → IsSelectTable s (IsEntity s) (length s.entities) (entity_named s) (rows_of entities.now) → IsAdmitTable s (rows_of table)) }

@@ -345,6 +345,22 @@ fn items_of_bytes_above_ascii(rt: HostRuntime) -> Result<(), Fail> {
 }
 
 #[test]
+fn memory_or_the_answer(rt: HostRuntime) {
+    let Ok(found) = items_of(rt.alloc(), b"'a''\\X2\\00FC0416\\X0\\b'") else {
+        return;
+    };
+    let found = found.expect(&rt, "a string");
+    let want = [
+        Scalar('a'),
+        Scalar('\''),
+        Scalar('\u{fc}'),
+        Scalar('\u{416}'),
+        Scalar('b'),
+    ];
+    assert_eq!(rt; found.as_slice(), want.as_slice());
+}
+
+#[test]
 fn strings_that_are_none(rt: HostRuntime) {
     check(
         &rt,

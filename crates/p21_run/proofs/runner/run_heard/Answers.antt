@@ -1,6 +1,6 @@
 use Rattle.std.proofs.Common.{length, take, subst, ap, inr, arith}
 use Rattle.std.specs.Io.KnownBytes.{Appends}
-use Rattle.p21_run.proofs.DueLemmas.{written, never_due}
+use Rattle.p21_run.proofs.DueLemmas.{written, never_due, read_whole}
 use Rattle.p21_run.proofs.runner.run_heard.Goals as goal
 
 pub returns-in-Ok-write_bounded-clause-written : goal.returns-in-Ok-write_bounded-clause-written
@@ -24,3 +24,19 @@ returns-in-Ok-write_bounded-clause-unwritten g c is k schema_text file s f = abs
 
 pub returns-in-Ok-clause-unwritten : goal.returns-in-Ok-clause-unwritten
 returns-in-Ok-clause-unwritten g c is k schema_text file s f = inr (c.in-Ok.report.outcome, c.in-Ok.report.text.items, c.in-Ok.ensures.due schema_text file s f, omega (arith, c.in-Err.ensures.cause k, ap length c.as_slice.ensures.value))
+
+pub returns-in-Ok-write_bounded-clause-overlong_schema : goal.returns-in-Ok-write_bounded-clause-overlong_schema
+returns-in-Ok-write_bounded-clause-overlong_schema g c schema_text s long = absurd (omega (arith, c.in-Ok.ensures.schema_bounded schema_text s, long))
+
+pub returns-in-Ok-write_bounded-clause-overlong_file : goal.returns-in-Ok-write_bounded-clause-overlong_file
+returns-in-Ok-write_bounded-clause-overlong_file g c schema_text file d s reading f long =
+    let whole = read_whole c.args.all c.args.rules schema_text file c.in-Ok.report.text.items c.in-Ok.report.outcome (c.in-Ok.ensures.due schema_text file s f) d reading in
+    absurd (omega (arith, c.in-Ok.ensures.file_bounded whole file f, long))
+
+pub returns-in-Ok-clause-overlong_schema : goal.returns-in-Ok-clause-overlong_schema
+returns-in-Ok-clause-overlong_schema g c schema_text s long = absurd (omega (arith, c.in-Ok.ensures.schema_bounded schema_text s, long))
+
+pub returns-in-Ok-clause-overlong_file : goal.returns-in-Ok-clause-overlong_file
+returns-in-Ok-clause-overlong_file g c schema_text file d s reading f long =
+    let whole = read_whole c.args.all c.args.rules schema_text file c.in-Ok.report.text.items c.in-Ok.report.outcome (c.in-Ok.ensures.due schema_text file s f) d reading in
+    absurd (omega (arith, c.in-Ok.ensures.file_bounded whole file f, long))

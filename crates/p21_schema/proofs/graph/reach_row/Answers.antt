@@ -18,7 +18,7 @@ mark_all-requires c =
     let h = c.requires.neighbors w (at_place c.args.neighbors.now c.loop-neighbor.neighbor-index 0 c.loop-neighbor-test.true) in
     let less : w < length c.args.table.now.items = rw (← c.args.table.now.ok.0, ← (row_count c.args.table.now)) h.0 in
     let r = row_is c.args.table.now w c.index.result.now less c.index.ensures in
-    ap length c.deref_mut-in-loop-neighbor.ensures.value ∙ c.loop-neighbor.invariant.count ∙ sym h.1 ∙ ap length r ∙ sym (ap length c.deref.ensures.value)
+    rw (ap length c.deref_mut-in-loop-neighbor.ensures.value, c.loop-neighbor.invariant.count, c.deref.ensures.value, ← r) h.1
 
 pub loop-neighbor-preserved : goal.loop-neighbor-preserved
 loop-neighbor-preserved c =

@@ -4,9 +4,6 @@ use Rattle.p21_schema.proofs.GraphLemmas.{rows_push}
 use Rattle.p21_schema.proofs.TransposeLemmas.{transposed_more}
 use Rattle.p21_schema.proofs.graph.transposed.Goals as goal
 
-pub marking-requires : goal.marking-requires
-marking-requires c = λ k less. subst (λ (n : ℕ). c.loop-place.place < n) (sym (c.requires k less)) c.loop-place-test.true
-
 pub loop-place-preserved : goal.loop-place-preserved
 loop-place-preserved c =
     let row = c.in_ok-marking.field-0 in

@@ -102,13 +102,3 @@ select_tables-requires c =
     let types_are : c.in_ok-type_names.type_names ≡ map (λ (t : Defined). t.name) s.types = c.in_ok-type_names.ensures ∙ ap (λ (ts : List _). map (λ (t : Defined). t.name) (map plain_type ts)) c.deref-5.ensures.value in
     let found : AreResolved (map (λ (e : Entity). e.name) s.entities) (map (λ (t : Defined). t.name) s.types) c.in_ok-unders.unders.items s.types = rw (← names_are, ← types_are, ← c.deref-7.ensures.value) c.in_ok-unders.ensures in
     (s, ((fits_with (plain_schema c.args.declarations) c.args.rules c.requires), (rw c.deref-9.ensures.value found, c.len.ensures ∙ c.args.declarations.entities.ok.0 ∙ sym (length-map c.args.declarations.entities.items plain_entity))))
-
-pub admitting-requires-clause-columns : goal.admitting-requires-clause-columns
-admitting-requires-clause-columns c =
-    let s = with_rules (plain_schema c.args.declarations) c.args.rules in
-    let h : AreSupertypesNamed (map (λ (e : Entity). e.name) s.entities) (plain_graph c.in_ok-graph.graph) s.entities = named_by plain_entity c.in_ok-entity_names.entity_names (plain_graph c.in_ok-graph.graph) c.deref.result.now c.deref-2.result.now c.args.declarations.entities.items c.in_ok-entity_names.ensures c.deref.ensures.value c.deref-2.ensures.value c.in_ok-graph.ensures in
-    let names_are : c.in_ok-entity_names.entity_names ≡ map (λ (e : Entity). e.name) s.entities = c.in_ok-entity_names.ensures ∙ ap (λ (es : List _). map (λ (e : Entity). e.name) (map plain_entity es)) c.deref.ensures.value in
-    let types_are : c.in_ok-type_names.type_names ≡ map (λ (t : Defined). t.name) s.types = c.in_ok-type_names.ensures ∙ ap (λ (ts : List _). map (λ (t : Defined). t.name) (map plain_type ts)) c.deref-5.ensures.value in
-    let found : AreResolved (map (λ (e : Entity). e.name) s.entities) (map (λ (t : Defined). t.name) s.types) c.in_ok-unders.unders.items s.types = rw (← names_are, ← types_are, ← c.deref-7.ensures.value) c.in_ok-unders.ensures in
-    let selects : AreSelectTables s c.in_ok-selects.selects = c.in_ok-selects.ensures s (fits_with (plain_schema c.args.declarations) c.args.rules c.requires) (rw c.deref-9.ensures.value found) (c.len.ensures ∙ c.args.declarations.entities.ok.0 ∙ sym (length-map c.args.declarations.entities.items plain_entity)) in
-    λ i less. selects.entities.columns i (subst (λ (n : ℕ). i < n) selects.entities.count less) ∙ sym h.count
