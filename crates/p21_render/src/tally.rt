@@ -1,6 +1,7 @@
 //! Counting instances and the records of each keyword.
 
 ghost use Rattle.std.specs.Prelude.{◌≡◌, ℕ, List, ◌++◌, [], ◌∷◌, IfOk, OnOk, map};
+ghost use Rattle.std.specs.Fork.{slice_chunk};
 ghost use Rattle.p21_render.specs.Tally.{CountsOf, IsRaised, IsTallyOf};
 ghost use Rattle.p21_tree.specs.Sentence.{Instance};
 ghost use Rattle.p21_tree.specs.Views.{plain_instance};
@@ -11,7 +12,7 @@ use p21_hash::{HashKey, KeywordHashing};
 use p21_tree::{RawInstance, Record};
 use rayon::current_num_threads;
 use std::alloc::{AllocError, Global};
-use std::thread::{Threads, map_chunks};
+use std::thread::{Threads, map_indices};
 
 /// The fewest instances that are worth a thread of their own.
 const FEWEST: usize = 65536;
@@ -38,15 +39,34 @@ pub(crate) fn tally_by_threads<'a, R: Threads + Sync>(
     ensures { IfOk result (λ tally. IsTallyOf tally (map plain_instance instances.now)) }
 {
     let size = FEWEST.max(instances.len().div_ceil(current_num_threads(rt)));
-    let part = move |_: usize, part: &[RawInstance<'a>]| -> Result<Tally<'a>, AllocError>
-        ensures { IfOk result (λ tally. IsTallyOf tally (map plain_instance part.entry.now)) }
-    { tally_of(alloc, part, key) };
-    let parts = map_chunks(rt, alloc, instances, size, &part)?;
+    let part = move |number: usize| -> Result<Tally, AllocError>
+        ensures { IfOk result (λ tally. IsTallyOf tally (map plain_instance (slice_chunk instances.entry.now size number))) }
+    { tally_of_part(alloc, instances, size, number, key) };
+    let parts = map_indices(rt, alloc, instances.len().div_ceil(size), &part)?;
     let mut tally = empty_tally(alloc, key);
-    for part in parts {
-        add_tally(&mut tally, &part?)?;
+    for part in parts.as_slice() {
+        match part {
+            Ok(part) => add_tally(&mut tally, part)?,
+            Err(_) => return Err(AllocError),
+        }
     }
     Ok(tally)
+}
+
+/// What is counted of the part of this number, from 0, of some instances that are cut in parts of this size. Memory alone can fail.
+fn tally_of_part<'a>(
+    alloc: Global,
+    instances: &[RawInstance<'a>],
+    size: usize,
+    number: usize,
+    key: HashKey,
+) -> Result<Tally<'a>, AllocError>
+    ensures { IfOk result (λ tally. IsTallyOf tally (map plain_instance (slice_chunk instances.now size number))) }
+{
+    let start = number.saturating_mul(size).min(instances.len());
+    let (_, rest) = instances.split_at(start);
+    let (part, _) = rest.split_at(size.min(rest.len()));
+    tally_of(alloc, part, key)
 }
 
 /// What is counted of some instances. Memory alone can fail.
@@ -118,7 +138,7 @@ fn add_counts<'a>(keywords: &mut Keywords<'a>, more: &Keywords<'a>) -> Result<()
 
 /// Counts so many more records of a keyword.
 fn add_count<'a>(keywords: &mut Keywords<'a>, keyword: &'a [u8], count: u64) -> Result<(), AllocError>
-    ensures { OnOk result (IsRaised keywords.old keyword count keywords.new) }
+    ensures { OnOk result (IsRaised keywords.old keyword.entry count keywords.new) }
 {
     if let Some(known) = keywords.get_mut(&keyword) {
         *known = known.saturating_add(count);
