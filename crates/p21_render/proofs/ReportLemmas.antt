@@ -1,17 +1,15 @@
 -- From what is counted to the report text.
 use Rattle.std.proofs.Common.{◌≡◌, ℕ, zero, suc, ◌+◌, ◌-◌, ◌^◌, ◌<◌, ◌↔◌, Bool, true, false, cond, List, [], ◌∷◌, ◌++◌, Some, min, map, length, get_or, refl, sym, ap, subst, ◌∙◌, arith, Bor, append_assoc, append-nil}
-use Rattle.std.specs.Prelude.{All, Contains, slice_get, codes, decimal, OnOk, Result, Ok, Err}
+use Rattle.std.specs.Prelude.{Contains, slice_get, codes, decimal, OnOk, Result, Ok, Err}
 use Rattle.std.specs.Int.{from_bool}
 use Rattle.p21_tree.specs.declared.instances.Record.{Record}
 use Rattle.p21_tree.specs.Views.{plain_record}
 use Rattle.p21_tree.specs.Grammar.{Entry}
 use Rattle.std.specs.List.{flat_map, AllByRecursion, IsDistinct, dedup_from}
-use Rattle.std.proofs.lemmas.List.Elements.{recursion_from_All}
-use Rattle.std.proofs.lemmas.Option.{slice_get-get_or}
 use Rattle.std.specs.List.Sorted.{IsSorted, IsStrictlySortedBy}
 use Rattle.indexmap.specs.IndexMap.{IndexMap, get, keys, IsUnique}
-use Rattle.std.specs.Cmp.Lexicographic.{slice_cmp, bytes_decides, lists_ties, nat_list_cmp_total, nat_list_eq_equiv}
-use Rattle.std.specs.Cmp.{IsEquivalence, IsTotalOrder, on_equiv, on_total, unsigned_ties}
+use Rattle.std.specs.Cmp.Lexicographic.{slice_cmp, bytes_decides, lists_ties, nat_list_cmp_total}
+use Rattle.std.specs.Cmp.{IsTotalOrder, on_total, unsigned_ties}
 use Rattle.std.specs.Ordering.{nat_cmp}
 use Rattle.std.specs.declared.cmp.Ordering.TheVariants.{Less}
 use Rattle.std.proofs.lemmas.Map.Entries.{place_from_lookup, hash_map_get_place}

@@ -96,10 +96,7 @@ fn empty_tally<'a>(alloc: Global, key: HashKey) -> Tally<'a>
 }
 
 /// Counts one more instance.
-fn add_instance<'a>(
-    tally: &mut Tally<'a>,
-    instance: &RawInstance<'a>,
-) -> Result<(), AllocError>
+fn add_instance<'a>(tally: &mut Tally<'a>, instance: &RawInstance<'a>) -> Result<(), AllocError>
     ensures { (is : List Instance) → IsTallyOf tally.old is → OnOk result (IsTallyOf tally.new (is ++ plain_instance instance.now ∷ [])) }
 {
     tally.complex = tally.complex.saturating_add(u64::from(instance.complex));
@@ -137,7 +134,11 @@ fn add_counts<'a>(keywords: &mut Keywords<'a>, more: &Keywords<'a>) -> Result<()
 }
 
 /// Counts so many more records of a keyword.
-fn add_count<'a>(keywords: &mut Keywords<'a>, keyword: &'a [u8], count: u64) -> Result<(), AllocError>
+fn add_count<'a>(
+    keywords: &mut Keywords<'a>,
+    keyword: &'a [u8],
+    count: u64,
+) -> Result<(), AllocError>
     ensures { OnOk result (IsRaised keywords.old keyword.entry count keywords.new) }
 {
     if let Some(known) = keywords.get_mut(&keyword) {

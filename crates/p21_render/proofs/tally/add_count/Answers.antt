@@ -13,7 +13,7 @@ returns-in-Some c = λ q.
     ∙ ap (λ u. cond (key_eq w q) (Some u) (get key_eq m q)) (raised_some (get key_eq m w) c.in-Some.known.now c.args.count v c.in-Some.ensures.value c.saturating_add.ensures)
 
 pub returns-in-Ok : goal.returns-in-Ok
-returns-in-Ok c = 
+returns-in-Ok c =
     let w = c.args.keyword in
     let small : c.args.count < 2 ^ 64 = omega arith in
     subst (λ m. IsRaised m w c.args.count c.insert.new.self) c.get_mut.follows.holds-at-none
