@@ -1,17 +1,15 @@
 -- From what is counted to the report text.
 use Rattle.std.proofs.Common.{◌≡◌, ℕ, zero, suc, ◌+◌, ◌-◌, ◌^◌, ◌<◌, ◌↔◌, Bool, true, false, cond, List, [], ◌∷◌, ◌++◌, Some, min, map, length, get_or, refl, sym, ap, subst, ◌∙◌, arith, Bor, append_assoc, append-nil}
-use Rattle.std.specs.Prelude.{All, Contains, slice_get, codes, decimal, OnOk, Result, Ok, Err}
+use Rattle.std.specs.Prelude.{Contains, slice_get, codes, decimal, OnOk, Result, Ok, Err}
 use Rattle.std.specs.Int.{from_bool}
 use Rattle.p21_tree.specs.declared.instances.Record.{Record}
 use Rattle.p21_tree.specs.Views.{plain_record}
 use Rattle.p21_tree.specs.Grammar.{Entry}
 use Rattle.std.specs.List.{flat_map, AllByRecursion, IsDistinct, dedup_from}
-use Rattle.std.proofs.lemmas.List.Elements.{recursion_from_All}
-use Rattle.std.proofs.lemmas.Option.{slice_get-get_or}
 use Rattle.std.specs.List.Sorted.{IsSorted, IsStrictlySortedBy}
 use Rattle.indexmap.specs.IndexMap.{IndexMap, get, keys, IsUnique}
-use Rattle.std.specs.Cmp.Lexicographic.{slice_cmp, bytes_decides, lists_ties, nat_list_cmp_total, nat_list_eq_equiv}
-use Rattle.std.specs.Cmp.{IsEquivalence, IsTotalOrder, on_equiv, on_total, unsigned_ties}
+use Rattle.std.specs.Cmp.Lexicographic.{slice_cmp, bytes_decides, lists_ties, nat_list_cmp_total}
+use Rattle.std.specs.Cmp.{IsTotalOrder, on_total, unsigned_ties}
 use Rattle.std.specs.Ordering.{nat_cmp}
 use Rattle.std.specs.declared.cmp.Ordering.TheVariants.{Less}
 use Rattle.std.proofs.lemmas.Map.Entries.{place_from_lookup, hash_map_get_place}
@@ -20,6 +18,7 @@ use Rattle.p21_tree.specs.Sentence.{Instance}
 use Rattle.p21_render.specs.Counts.{capped, complex_count, count_line, keyword_count, keywords_of, record_references, reference_count, AreIncreasing, IsCounts}
 use Rattle.p21_render.specs.Tally.{CountsOf, IsTallyOf, entry_lines, kept, key_cmp, key_eq}
 use Rattle.p21_render.specs.declared.tally.Tally.{Tally}
+use Rattle.p21_render.proofs.TallyLemmas.{IsEntryOf, entries_are, key_equiv, some_count}
 
 complex_push : (is : List Instance) (i : Instance) → complex_count (is ++ i ∷ []) ≡ complex_count is + cond i.complex 1 0
 complex_push [] i = omega arith
@@ -33,12 +32,20 @@ keywords_push : (is : List Instance) (i : Instance) → keywords_of (is ++ i ∷
 keywords_push [] i = append-nil (map (λ r. r.keyword) i.records)
 keywords_push (x ∷ is) i = ap (λ l. map (λ r. r.keyword) x.records ++ l) (keywords_push is i) ∙ sym (append_assoc (map (λ r. r.keyword) x.records) (keywords_of is) (map (λ r. r.keyword) i.records))
 
+complex_append : (is js : List Instance) → complex_count (is ++ js) ≡ complex_count is + complex_count js
+complex_append [] js = omega arith
+complex_append (x ∷ is) js = let more = complex_append is js in omega arith
+
+references_append : (is js : List Instance) → reference_count (is ++ js) ≡ reference_count is + reference_count js
+references_append [] js = omega arith
+references_append (x ∷ is) js = let more = references_append is js in omega arith
+
+keywords_append : (is js : List Instance) → keywords_of (is ++ js) ≡ keywords_of is ++ keywords_of js
+keywords_append [] js = refl
+keywords_append (x ∷ is) js = ap (λ l. map (λ r. r.keyword) x.records ++ l) (keywords_append is js) ∙ sym (append_assoc (map (λ r. r.keyword) x.records) (keywords_of is) (keywords_of js))
+
 capped_sum : (sum term next part : ℕ) (total : ℕ) → total ≡ capped sum → part ≡ capped term → next ≡ min (total + part) (2 ^ 64 - 1) → next ≡ capped (sum + term)
 capped_sum sum term next part total e f g = omega arith
-
-kept_value : (n v : ℕ) → kept n ≡ Some v → v ≡ capped n
-kept_value zero v e = cc
-kept_value (suc n) v e = let is : capped (suc n) ≡ v = cc in sym is
 
 -- one more instance
 pub tally_more : (t u : Tally) (is : List Instance) (i : Instance) (one part : ℕ) → IsTallyOf t is → one ≡ cond i.complex 1 0 → u.complex ≡ min (t.complex + one) (2 ^ 64 - 1)
@@ -52,6 +59,15 @@ tally_more t u is i one part h b e p f k = record {
   small true = omega arith
   small false = omega arith
 
+-- the instances of a part behind
+pub tally_both : (t p u : Tally) (is js : List Instance) → IsTallyOf t is → IsTallyOf p js → u.complex ≡ min (t.complex + p.complex) (2 ^ 64 - 1)
+    → u.references ≡ min (t.references + p.references) (2 ^ 64 - 1) → CountsOf u.keywords (keywords_of is ++ keywords_of js) → IsTallyOf u (is ++ js)
+tally_both t p u is js h g e f k = record {
+  complex = capped_sum (complex_count is) (complex_count js) u.complex p.complex t.complex h.complex g.complex e ∙ ap capped (sym (complex_append is js));
+  references = capped_sum (reference_count is) (reference_count js) u.references p.references t.references h.references g.references f ∙ ap capped (sym (references_append is js));
+  keywords = subst (CountsOf u.keywords) (sym (keywords_append is js)) k;
+}
+
 -- the words of the map's entries
 words : List (Bor (List ℕ) × ℕ) → List (List ℕ)
 words [] = []
@@ -61,12 +77,12 @@ words (e ∷ es) = e.0.now ∷ words es
 line_capped : (word : List ℕ) (n : ℕ) → count_line word (capped n) ≡ count_line word n
 line_capped word n = let same : capped (capped n) ≡ capped n = omega arith in ap (λ v. word ++ 32 ∷ (decimal v ++ 10 ∷ [])) same
 
-lines_are : (es : List (Bor (List ℕ) × ℕ)) (ks : List (List ℕ)) → AllByRecursion (λ e. e.1 ≡ capped (keyword_count e.0.now ks)) es
+lines_are : (es : List (Bor (List ℕ) × ℕ)) (ks : List (List ℕ)) → AllByRecursion (IsEntryOf ks) es
     → entry_lines es ≡ flat_map (λ k. count_line k (keyword_count k ks)) (words es)
 unfolding words
 lines_are [] ks h = refl
 lines_are (e ∷ es) ks h =
-    let first : count_line e.0.now e.1 ≡ count_line e.0.now (keyword_count e.0.now ks) = ap (count_line e.0.now) (h.0) ∙ line_capped e.0.now (keyword_count e.0.now ks) in
+    let first : count_line e.0.now e.1 ≡ count_line e.0.now (keyword_count e.0.now ks) = ap (count_line e.0.now) h.0.0 ∙ line_capped e.0.now (keyword_count e.0.now ks) in
     ap (λ l. l ++ entry_lines es) first ∙ ap (λ l. count_line e.0.now (keyword_count e.0.now ks) ++ l) (lines_are es ks h.1)
 
 pub on_ok : {E : Type 0} {T : Type 0} (r : Result T E) (P Q : Type 0) → (P → Q) → OnOk r P → OnOk r Q
@@ -81,19 +97,8 @@ pub plain_words : (rs : List Record) → map (λ r. r.keyword.now) rs ≡ map (�
 plain_words [] = refl
 plain_words (r ∷ rs) = ap (λ l. r.keyword.now ∷ l) (plain_words rs)
 
--- keys are equal by their words
-key_equiv : IsEquivalence key_eq
-key_equiv = on_equiv (λ (b : Bor (List ℕ)). b.now) nat_list_eq_equiv
-
 key_total : IsTotalOrder key_cmp
 key_total = on_total (λ (b : Bor (List ℕ)). b.now) nat_list_cmp_total
-
--- each entry's value is its count
-values_are : {S : Type 0} (m : IndexMap (Bor (List ℕ)) ℕ S) (ks : List (List ℕ)) → CountsOf m ks → IsUnique key_eq m → All (λ e. e.1 ≡ capped (keyword_count e.0.now ks)) m.entries
-values_are m ks counts unique i d less =
-    let e = get_or m.entries i d in
-    let found : get key_eq m e.0 ≡ Some e.1 = hash_map_get_place key_equiv m i e.0 e.1 unique (slice_get-get_or m.entries i d less) in
-    kept_value (keyword_count e.0.now ks) e.1 (sym (counts e.0) ∙ found)
 
 -- keys that differ are all kept where equal neighbours are dropped
 all_kept : (x : Bor (List ℕ)) (xs : List (Bor (List ℕ))) → IsDistinct key_eq (x ∷ xs) → dedup_from key_eq x xs ≡ x ∷ xs
@@ -138,10 +143,6 @@ place_word (x ∷ es) (suc i) e d h = let more = place_word es i e d h in (omega
 key_of : List ℕ → Bor (List ℕ)
 key_of w = record { ref_ptr = (0, 0); now = w }
 
-some_count : (n v : ℕ) → kept n ≡ Some v → 0 < n
-some_count zero v e = cc
-some_count (suc n) v e = omega arith
-
 count_some : (n : ℕ) → 0 < n → (v : ℕ) × (kept n ≡ Some v)
 count_some zero h = absurd (omega arith)
 count_some (suc n) h = (capped (suc n), refl)
@@ -175,7 +176,7 @@ report_text t is n text h sorted unique e spelled =
     let b = count_line (codes "complex") t.complex in
     let c = count_line (codes "references") t.references in
     let d = entry_lines t.keywords.entries in
-    let lines : d ≡ flat_map (λ k. count_line k (keyword_count k ks)) (words t.keywords.entries) = lines_are t.keywords.entries ks (recursion_from_All (λ e. e.1 ≡ capped (keyword_count e.0.now ks)) t.keywords.entries (values_are t.keywords ks h.keywords unique)) in
+    let lines : d ≡ flat_map (λ k. count_line k (keyword_count k ks)) (words t.keywords.entries) = lines_are t.keywords.entries ks (entries_are t.keywords ks h.keywords unique) in
     record {
       keywords = words t.keywords.entries;
       increasing = words_increase t.keywords.entries (keys_increase (keys t.keywords) sorted unique);

@@ -1,7 +1,8 @@
 -- What the code keeps of the records that it has counted.
-use Rattle.std.specs.Prelude.{◌≡◌, ℕ, zero, suc, Bool, List, [], ◌∷◌, ◌++◌, Option, None, Some, nat_eq}
+use Rattle.std.specs.Prelude.{◌≡◌, ℕ, ◌+◌, zero, suc, Bool, List, [], ◌∷◌, ◌++◌, Option, None, Some, nat_eq, if◌then◌else◌}
 use Rattle.std.specs.Borrow.{Bor}
 use Rattle.indexmap.specs.IndexMap.{IndexMap, get}
+use Rattle.std.specs.Option.{option_map_or}
 use Rattle.std.specs.Cmp.Lexicographic.{slice_cmp, pointwise}
 use Rattle.std.specs.Ordering.{nat_cmp}
 use Rattle.std.specs.declared.cmp.Ordering.{Ordering}
@@ -25,6 +26,10 @@ key_cmp a b = slice_cmp nat_cmp a.now b.now
 -- the map has the count of each keyword among these
 abbrev pub CountsOf : {S : Type 0} → IndexMap (Bor (List ℕ)) ℕ S → List (List ℕ) → Type 0
 CountsOf m ks = (k : Bor (List ℕ)) → get key_eq m k ≡ kept (keyword_count k.now ks)
+
+-- the map n is m, where the count of the keyword w has become c more than what m has of it, at most 2 ^ 64 - 1
+abbrev pub IsRaised : {S : Type 0} → IndexMap (Bor (List ℕ)) ℕ S → Bor (List ℕ) → ℕ → IndexMap (Bor (List ℕ)) ℕ S → Type 0
+IsRaised m w c n = (q : Bor (List ℕ)) → get key_eq n q ≡ (if key_eq w q then Some (capped (option_map_or (λ x. x) (get key_eq m w) 0 + c)) else get key_eq m q)
 
 -- what is counted of these instances
 pub record IsTallyOf (t : Tally) (is : List Instance) : Type 0 where

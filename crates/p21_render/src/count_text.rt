@@ -6,11 +6,12 @@ ghost use Rattle.p21_render.specs.Tally.{IsTallyOf, entry_lines, key_cmp, key_eq
 ghost use Rattle.indexmap.specs.IndexMap.{keys, IsUnique};
 ghost use Rattle.p21_tree.specs.Views.{plain_instance};
 
-use crate::tally::{Keywords, Tally, add_instance, empty_tally};
+use crate::tally::{Keywords, Tally, tally_by_threads, tally_of};
 use crate::text::{push, push_number};
 use p21_hash::HashKey;
 use p21_tree::RawInstance;
 use std::alloc::{AllocError, Global};
+use std::thread::Threads;
 
 /// The counts of some instances, a line each: how many there are, how many are complex, how many instance names are
 /// written as parameters, and how many records have each keyword, in byte order. A number above 2^64 - 1 is written as
@@ -30,7 +31,33 @@ pub fn counts_with_key(
 ) -> Result<Vec<u8>, AllocError>
     ensures { IfOk result (λ text. IsCounts (map plain_instance instances.now) text.items) }
 {
-    let mut tally = tally_of(alloc, instances, key)?;
+    let tally = tally_of(alloc, instances, key)?;
+    tally_text(alloc, instances, tally)
+}
+
+/// The same, where many instances are counted by several threads: as many as the machine has processors for. A thread that cannot be
+/// started is done without.
+pub fn counts_by_threads<R: Threads + Sync>(
+    rt: &R,
+    alloc: Global,
+    instances: &[RawInstance<'_>],
+    key: HashKey,
+) -> Result<Vec<u8>, AllocError>
+    ensures { IfOk result (λ text. IsCounts (map plain_instance instances.now) text.items) }
+{
+    let tally = tally_by_threads(rt, alloc, instances, key)?;
+    tally_text(alloc, instances, tally)
+}
+
+/// The lines of what is counted of some instances.
+fn tally_text(
+    alloc: Global,
+    instances: &[RawInstance<'_>],
+    mut tally: Tally<'_>,
+) -> Result<Vec<u8>, AllocError>
+    requires { IsTallyOf tally (map plain_instance instances.now) }
+    ensures { IfOk result (λ text. IsCounts (map plain_instance instances.now) text.items) }
+{
     tally.keywords.sort_keys()?;
     let mut text = Vec::new(alloc);
     push_count(&mut text, b"instances", instances.len() as u64)?;
@@ -38,21 +65,6 @@ pub fn counts_with_key(
     push_count(&mut text, b"references", tally.references)?;
     push_keywords(&mut text, &tally.keywords)?;
     Ok(text)
-}
-
-/// What is counted of some instances.
-fn tally_of<'a>(
-    alloc: Global,
-    instances: &[RawInstance<'a>],
-    key: HashKey,
-) -> Result<Tally<'a>, AllocError>
-    ensures { IfOk result (λ tally. IsTallyOf tally (map plain_instance instances.now)) }
-{
-    let mut tally = empty_tally(alloc, key);
-    for instance in instances {
-        add_instance(&mut tally, instance)?;
-    }
-    Ok(tally)
 }
 
 /// Adds the lines of the keywords.

@@ -9,7 +9,7 @@ mod schema_fault_text;
 mod tally;
 mod text;
 
-pub use count_text::{counts, counts_with_key};
+pub use count_text::{counts, counts_by_threads, counts_with_key};
 pub use fault_text::{fault_line, render_faults};
-pub use reading_text::{render, render_all};
+pub use reading_text::{render, render_all_by_threads, render_by_threads};
 pub use schema_fault_text::schema_fault_line;

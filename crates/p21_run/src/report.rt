@@ -16,7 +16,7 @@ use p21_express::SchemaError;
 use p21_hash::HashKey;
 use p21_lanes::Capacity;
 use p21_reader::{AllFaults, ReadError, Reading, read_all_faults, read_lanes};
-use p21_render::{render, render_all, schema_fault_line};
+use p21_render::{render_all_by_threads, render_by_threads, schema_fault_line};
 use p21_schema::Schema;
 use std::alloc::{AllocError, Global};
 use std::sync::Wait;
@@ -73,7 +73,7 @@ fn full_report_of_file<R: Threads + Wait + Sync, G: Gate + Sync, L: Listener>(
         Ok(all) => {
             listener.hear_checked();
             hear_all(listener, schema, file, &all);
-            let report = report_of_all(alloc, schema, &all)?;
+            let report = report_of_all(rt, alloc, schema, &all)?;
             listener.let_go(all);
             Ok(report)
         }
@@ -96,7 +96,7 @@ fn first_report_of_file<R: Threads + Wait + Sync, G: Gate + Sync, L: Listener>(
         Ok(reading) => {
             listener.hear_checked();
             hear_reading(listener, schema, file, &reading);
-            let report = report_of_reading(alloc, schema, &reading)?;
+            let report = report_of_reading(rt, alloc, schema, &reading)?;
             listener.let_go(reading);
             Ok(report)
         }
@@ -105,7 +105,12 @@ fn first_report_of_file<R: Threads + Wait + Sync, G: Gate + Sync, L: Listener>(
 }
 
 /// The report of a reading that tells all faults. Memory alone can fail.
-fn report_of_all(alloc: Global, schema: &Schema, all: &AllFaults<'_>) -> Result<Report, AllocError>
+fn report_of_all<R: Threads + Sync>(
+    rt: &R,
+    alloc: Global,
+    schema: &Schema,
+    all: &AllFaults<'_>,
+) -> Result<Report, AllocError>
     ensures outcome { IfOk result (λ report. report.outcome ≡ outcome_of (plain_all all.now.answer)) }
     ensures text { IfOk result (λ report. IsAllText schema.now (plain_all all.now.answer) report.text.items) }
 {
@@ -113,7 +118,7 @@ fn report_of_all(alloc: Global, schema: &Schema, all: &AllFaults<'_>) -> Result<
         Ok(_) => Outcome::Complete,
         Err(_) => Outcome::Faulty,
     };
-    let text = render_all(alloc, schema, all)?;
+    let text = render_all_by_threads(rt, alloc, schema, all)?;
     Ok(Report { outcome, text })
 }
 
@@ -137,7 +142,8 @@ fn hear_reading<L: Listener>(
 }
 
 /// The report of a reading. Memory alone can fail.
-fn report_of_reading(
+fn report_of_reading<R: Threads + Sync>(
+    rt: &R,
     alloc: Global,
     schema: &Schema,
     reading: &Reading<'_>,
@@ -145,7 +151,7 @@ fn report_of_reading(
     ensures outcome { IfOk result (λ report. report.outcome ≡ outcome_of (plain_answer reading.now.answer)) }
     ensures text { IfOk result (λ report. IsReadingText schema.now (plain_answer reading.now.answer) report.text.items) }
 {
-    let text = render(alloc, schema, reading)?;
+    let text = render_by_threads(rt, alloc, schema, reading)?;
     Ok(Report {
         outcome: outcome(reading),
         text,

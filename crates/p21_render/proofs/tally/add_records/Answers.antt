@@ -2,6 +2,7 @@ use Rattle.std.proofs.Common.{◌≡◌, List, ℕ, [], ◌∷◌, ◌++◌, map
 use Rattle.std.proofs.lemmas.List.{take_more, map-append}
 use Rattle.p21_tree.specs.declared.instances.Record.{Record}
 use Rattle.p21_render.specs.Tally.{CountsOf}
+use Rattle.p21_render.proofs.TallyLemmas.{counts_more}
 use Rattle.p21_render.proofs.tally.add_records.Goals as goal
 
 one_more : (ks : List (List ℕ)) (rs : List Record) (i : ℕ) (r : Record) → i < length rs → r ≡ get_or rs i r
@@ -13,5 +14,5 @@ one_more ks rs i r h e =
 pub loop-record-preserved : goal.loop-record-preserved
 loop-record-preserved c = λ ks h.
     let before = ks ++ map (λ (r : Record). r.keyword.now) (take c.loop-record.record-index c.args.records.now) in
-    subst (CountsOf c.add_keyword.new.keywords) (one_more ks c.args.records.now c.loop-record.record-index c.record-item.result c.loop-record-test.true c.record-item.is)
-    (c.in_ok-add_keyword.ensures before (c.loop-record.invariant ks h))
+    subst (CountsOf c.add_count.new.keywords) (one_more ks c.args.records.now c.loop-record.record-index c.record-item.result c.loop-record-test.true c.record-item.is)
+    (counts_more c.loop-record.keywords c.add_count.new.keywords c.record-item.result.keyword before (c.loop-record.invariant ks h) c.in_ok-add_count.ensures)

@@ -6,14 +6,14 @@ use Rattle.p21_render.specs.Counts.{count_line}
 use Rattle.p21_render.specs.Tally.{IsTallyOf, entry_lines}
 use Rattle.p21_render.specs.declared.tally.Tally.{Tally}
 use Rattle.p21_render.proofs.ReportLemmas.{report_text}
-use Rattle.p21_render.proofs.count_text.counts_with_key.Goals as goal
+use Rattle.p21_render.proofs.count_text.tally_text.Goals as goal
 
 pub returns : goal.returns
 returns c =
     let is = map plain_instance c.args.instances.now in
-    let before = c.in_ok-tally.ensures in
+    let before = c.requires in
     let keywords = c.sort_keys.new.self in
-    let t : Tally = record { complex = c.in_ok-tally.tally.complex; references = c.in_ok-tally.tally.references; keywords = keywords } in
+    let t : Tally = record { complex = c.args.tally.complex; references = c.args.tally.references; keywords = keywords } in
     let counted : IsTallyOf t is = record { complex = before.complex; references = before.references; keywords = λ k. c.sort_keys.ensures.reordered.2 k ∙ before.keywords k } in
     let a = count_line (codes "instances") (length c.args.instances.now) in
     let b = count_line (codes "complex") t.complex in
