@@ -35,8 +35,8 @@ pub(crate) fn say_bad_token(said: &mut Vec<u8>, file: &[u8], at: usize) -> Resul
             said,
             &[Part::Words("A string begins here, and no quote closes it")],
         )?;
-    } else if let Token::Str(body) = wanted.behind {
-        say_behind(said, body)?;
+    } else if matches!(wanted.behind, Token::Str(_)) {
+        say_behind(said, wanted.behind)?;
         say_byte(said, "the byte ", byte)?;
         say(
             said,
@@ -99,7 +99,7 @@ fn hint(byte: u8) -> &'static str {
         b'"' => ": a binary that is not closed, or that holds what it may not hold",
         b'.' => ": an enumeration that is not closed, or that holds what it may not hold",
         b'#' => ": an instance name without digits, or above 18446744073709551615",
-        b'a'..=b'z' => ": words are in upper case",
+        b'a'..=b'z' => ": words are in upper case, and strings stand in quotes",
         0xEF => ": the byte order mark begins with it, which may not stand here",
         _ => "",
     }
@@ -117,16 +117,12 @@ pub(crate) fn say_unexpected(
     let stands = &file[lexed.start..lexed.after];
     let wanted = wanted(file, at);
     if let Some(name) = wanted.unfinished {
-        say_unfinished(said, file, at, name)?;
+        say_unfinished(said, file, lexed.start, name)?;
         say_front(said, stands)?;
         say(said, &[Part::Words("`.")])?;
         return Ok(wanted.to);
     }
-    if let Token::Str(body) = wanted.behind {
-        say_behind(said, body)?;
-    } else {
-        say(said, &[Part::Words("Here stands ")])?;
-    }
+    say_behind(said, wanted.behind)?;
     say(said, &[Part::Words("`")])?;
     say_front(said, stands)?;
     say(said, &[Part::Words("`")])?;
@@ -151,11 +147,21 @@ fn say_unfinished(said: &mut Vec<u8>, file: &[u8], at: usize, name: u64) -> Resu
     say(said, &[Part::Words(" stands `")])
 }
 
-/// Adds that something stands behind a string.
-fn say_behind(said: &mut Vec<u8>, body: &[u8]) -> Result<(), AllocError> {
-    say(said, &[Part::Words("Behind the string '")])?;
-    say_front(said, body)?;
-    say(said, &[Part::Words("' stands ")])
+/// Adds that something stands behind a token.
+fn say_behind(said: &mut Vec<u8>, token: Token<'_>) -> Result<(), AllocError> {
+    match token {
+        Token::Str(body) => {
+            say(said, &[Part::Words("Behind the string '")])?;
+            say_front(said, body)?;
+            say(said, &[Part::Words("' stands ")])
+        }
+        Token::Keyword(word) | Token::UserKeyword(word) => {
+            say(said, &[Part::Words("Behind the word ")])?;
+            say_front(said, word)?;
+            say(said, &[Part::Words(" stands ")])
+        }
+        _ => say(said, &[Part::Words("Here stands ")]),
+    }
 }
 
 /// Adds what is wanted.
