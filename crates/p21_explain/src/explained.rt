@@ -60,7 +60,7 @@ fn say_fault(
 {
     match kind {
         FaultKind::BadToken => say_bad_token(said, subject.file, at)?,
-        FaultKind::Unexpected => say_unexpected(said, subject.file, at)?,
+        FaultKind::Unexpected => return say_unexpected(said, subject.file, at),
         FaultKind::Truncated => say_truncated(said, subject.file, at)?,
         FaultKind::TooDeep => say_too_deep(said)?,
         FaultKind::HeaderEntities => return say_header_entities(said, subject.file, at),

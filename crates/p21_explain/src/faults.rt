@@ -234,16 +234,16 @@ fn say_unknown(
     let keywords = keywords(alloc, piece.bytes)?;
     for (rec, keyword) in keywords.iter().enumerate() {
         if subject.schema.entity(keyword).is_none() {
-            say_subject(said, piece)?;
-            say(said, &[Part::Words(" is ")])?;
+            let rec = rec as u64;
+            say_record(said, piece, rec)?;
             say_no_entity(alloc, said, subject, keyword)?;
-            return Ok(place_in(piece.bytes, Spot::Keyword { rec: rec as u64 }));
+            return Ok(place_in(piece.bytes, Spot::Keyword { rec }));
         }
     }
     Ok(0)
 }
 
-/// Adds that a keyword is no entity.
+/// Adds that a keyword, which was named, is no entity.
 fn say_no_entity(
     alloc: Global,
     said: &mut Vec<u8>,
@@ -251,8 +251,6 @@ fn say_no_entity(
     keyword: &[u8],
 ) -> Result<(), AllocError> {
     let declared = subject.schema.declared();
-    say(said, &[Part::Words(article(keyword))])?;
-    say_front(said, keyword)?;
     say(
         said,
         &[
