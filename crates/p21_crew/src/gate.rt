@@ -4,6 +4,10 @@
 pub trait Gate {
     /// Called by the worker of a lane before it reads the piece of a number.
     fn enter(&self, lane: u32, number: u64);
+
+    /// Called when all workers have ended, by a reading that goes on with what they read: its references are looked at next. Where it is
+    /// not written out, it does nothing.
+    fn close(&self) {}
 }
 
 /// The gate that lets each worker pass at once.

@@ -85,6 +85,7 @@ pub fn read_all_faults<'a, G: Gate + Sync, R: Threads + Wait + Sync>(
     let Ok(run) = judge_pieces(rt, alloc, &work, gate, pieces, gathering, lanes, capacity) else {
         return Err(ReadError::Memory);
     };
+    gate.close();
     let Ok(answer) = conclude(rt, alloc, schema, file, run.tail as usize, run.gatherer) else {
         return Err(ReadError::Memory);
     };

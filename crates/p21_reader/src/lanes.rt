@@ -94,6 +94,7 @@ pub fn read_lanes_by<'a, J: Judge + Sync, G: Gate + Sync, R: Threads + Wait + Sy
     let Ok(run) = run_crew(rt, alloc, &work, gate, pieces, gathering, lanes, capacity) else {
         return Err(ReadError::Memory);
     };
+    gate.close();
     let answer = conclude::<J, R>(rt, schema, judge, file, run.tail as usize, run.gatherer);
     Ok(Reading {
         answer,

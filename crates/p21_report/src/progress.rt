@@ -31,6 +31,8 @@ pub(crate) enum Stage {
     File { bytes: u64 },
     /// The instances are read: about so many hundredths of the bytes.
     Instances { share: u64, bytes: u64 },
+    /// The references are followed.
+    References,
     /// The report is made.
     Report,
 }
@@ -119,6 +121,10 @@ impl<C: Clock, P: Write> Gate for Progress<C, P> {
             self.tell_piece(number);
         }
     }
+
+    fn close(&self) {
+        self.tell(Stage::References);
+    }
 }
 
 impl<P: Write> Line<P> {
@@ -145,6 +151,7 @@ impl<P: Write> Line<P> {
                 "p21check: instances, about {share} % of {} MB",
                 bytes / MEGABYTE,
             ),
+            Stage::References => write!(self.out, "p21check: references"),
             Stage::Report => write!(self.out, "p21check: report"),
         }
     }
