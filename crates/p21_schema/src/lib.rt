@@ -2,6 +2,7 @@
 #![tactic(auto)]
 
 mod ancestry;
+mod bindings;
 mod declarations;
 mod graph;
 mod ids;
@@ -15,6 +16,7 @@ mod schema;
 mod selects;
 mod under;
 
+pub use bindings::Binding;
 pub use declarations::{Declaration, Form};
 pub use ids::{AttrId, EntityId, TypeId};
 pub use p21_express::{Bounds, Width};

