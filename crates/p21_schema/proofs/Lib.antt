@@ -15,3 +15,5 @@ pub mod WalkLemmas
 pub mod RangeLemmas
 pub mod WithinLemmas
 pub mod SharedLemmas
+pub mod StepLemmas
+pub mod SpanLemmas
