@@ -17,3 +17,4 @@ pub mod WithinLemmas
 pub mod SharedLemmas
 pub mod StepLemmas
 pub mod SpanLemmas
+pub mod BindingLemmas

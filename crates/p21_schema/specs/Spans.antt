@@ -4,6 +4,8 @@ use Rattle.p21_express.specs.WellFormed.{IsIn}
 use Rattle.p21_schema.specs.Graph.{rows_of}
 use Rattle.p21_schema.specs.Ranges.{Covers, IsInRange}
 use Rattle.p21_schema.specs.Steps.{step_at, AreRising}
+use Rattle.p21_schema.specs.declared.bindings.Binding.{Binding}
+use Rattle.p21_schema.specs.declared.bindings.Binding.TheVariants as binding
 use Rattle.p21_schema.specs.declared.declarations.Declaration.{Declaration as Coded}
 use Rattle.p21_schema.specs.declared.declarations.Form.{Form as CodedForm}
 use Rattle.p21_schema.specs.declared.declarations.Form.TheVariants as coded
@@ -90,3 +92,10 @@ pub record AreMet (reach : Reach) (ds : List Coded) (steps : List Step) : Type 0
 pub record IsBindingTable {A : Type 0} (reach : Reach) (lists : List (List Coded)) (table : List (Option (Vec Step A))) : Type 0 where
   pub count : length table ≡ length lists
   pub rows : (i : ℕ) → i < length lists → IfSome (get_or table i None) (λ (steps : Vec Step A). AreMet reach (get_or lists i []) steps.items)
+
+-- what binds an attribute of these declarations at a place
+abbrev pub IsBindingBy : Reach → List Coded → ℕ → Binding → Type 0
+IsBindingBy reach ds p binding.Derived = (k : ℕ) × ((k < length ds) × (Covers (row_at reach (get_or ds k no_declaration)) p × (explicit_form (get_or ds k no_declaration).form ≡ false)))
+IsBindingBy reach ds p (binding.By c) = (k : ℕ) × (IsLowestBy reach ds p k × ((get_or ds k no_declaration ≡ c.now) × (explicit_form c.now.form ≡ true)))
+IsBindingBy reach ds p binding.Free = IsMetAt reach ds p None
+IsBindingBy reach ds p binding.Unsaid = Unit {0}

@@ -2,12 +2,13 @@
 
 ghost use Rattle.std.specs.Prelude.{◌<◌, ℕ, [], length, get_or, IfOk, IfSome};
 ghost use Rattle.p21_schema.specs.Graph.{rows_of};
-ghost use Rattle.p21_schema.specs.Spans.{AreWithin, AreMet, IsBindingTable};
+ghost use Rattle.p21_schema.specs.Spans.{AreWithin, AreMet, IsBindingTable, IsBindingBy};
+ghost use Rattle.p21_schema.specs.declared.reach.Reach.{Reach as Reached};
 
-use crate::declarations::Declaration;
+use crate::declarations::{Declaration, Form};
 use crate::reach::Reach;
 use crate::spans::ordered_spans;
-use crate::steps::{Step, steps};
+use crate::steps::{Step, first_there, steps};
 use std::alloc::{AllocError, Global};
 
 /// What binds an attribute in an instance of one entity, which is of that entity and of its ancestors.
@@ -56,4 +57,23 @@ pub(crate) fn all_bindings(
         table.push(steps_of(alloc, descents, declarations)?)?;
     }
     Ok(table)
+}
+
+/// What binds an attribute of these declarations at the place of an entity.
+pub(crate) fn binding_at<'a>(
+    declarations: &'a [Declaration],
+    steps: &[Step],
+    place: usize,
+) -> Binding<'a>
+    requires { (reach : Reached) × AreMet reach declarations.now steps.now }
+    ensures { (reach : Reached) → AreMet reach declarations.entry.now steps.now → IsBindingBy reach declarations.entry.now place result }
+{
+    let Some(position) = first_there(steps, place) else {
+        return Binding::Free;
+    };
+    let declaration = &declarations[position];
+    match declaration.form {
+        Form::Derived => Binding::Derived,
+        Form::Explicit { .. } => Binding::By(declaration),
+    }
 }
