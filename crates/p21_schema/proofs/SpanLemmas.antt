@@ -1,7 +1,7 @@
 -- The spans of declarations.
-use Rattle.std.proofs.Common.{◌≡◌, ℕ, zero, suc, ◌+◌, ◌<◌, ◌≤◌, ◌↔◌, Bool, true, false, cond, leb, ltb, ◌&&◌, List, [], ◌∷◌, ◌++◌, ◌⊎◌, Option, Some, None, IfSome, length, get_or, refl, sym, ap, ◌∙◌, subst, inl, inr, ⊎_elim, arith}
+use Rattle.std.proofs.Common.{◌≡◌, ℕ, suc, ◌+◌, ◌<◌, ◌≤◌, ◌↔◌, Bool, true, false, cond, leb, ltb, ◌&&◌, List, [], ◌∷◌, ◌++◌, ◌⊎◌, Option, Some, None, length, get_or, refl, sym, ap, ◌∙◌, subst, inl, inr, ⊎_elim, arith}
 use Rattle.std.specs.List.Sorted.{IsPermutation}
-use Rattle.std.proofs.lemmas.Bool.{false≢true, cases_eq, cases_lt, le-leb, lt-ltb, leb-true, ltb-true}
+use Rattle.std.proofs.lemmas.Bool.{false≢true, cases_eq, le-leb, lt-ltb, leb-true, ltb-true}
 use Rattle.std.proofs.lemmas.List.Sorted.{IsPermutation-sym}
 use Rattle.std.proofs.lemmas.List.{get_or_append_left, get_or_push}
 use Rattle.p21_express.specs.WellFormed.{IsIn}
@@ -10,11 +10,10 @@ use Rattle.p21_schema.specs.declared.ranges.Range.{Range}
 use Rattle.p21_schema.specs.declared.reach.Reach.{Reach}
 use Rattle.p21_schema.specs.declared.spans.Span.{Span}
 use Rattle.p21_schema.specs.declared.steps.Step.{Step}
-use Rattle.p21_schema.specs.Graph.{rows_of}
 use Rattle.p21_schema.specs.Ranges.{Covers, IsInRange}
-use Rattle.p21_schema.specs.Spans.{no_declaration, explicit_form, row_at, place_at, IsRangeOf, IsInSpan, IsSpanOf, AreSpans, no_span, IsBefore, AreInOrder, IsAbove, IsLowestBy, IsMetAt, AreMet}
+use Rattle.p21_schema.specs.Spans.{no_declaration, explicit_form, row_at, place_at, IsRangeOf, IsInSpan, IsSpanOf, AreSpans, no_span, IsBefore, AreInOrder, IsMetAt, AreMet}
 use Rattle.p21_schema.specs.Steps.{holds, first_at, AreForward, step_at, AreRising}
-use Rattle.p21_schema.proofs.Members.{place_of, at_place, in_either, in_left, in_right}
+use Rattle.p21_schema.proofs.Members.{in_either, in_left, in_right}
 use Rattle.p21_schema.proofs.RangeLemmas.{covers_one, in_permuted}
 
 -- a list of one

@@ -1,6 +1,5 @@
-use Rattle.std.proofs.Common.{◌≡◌, ◌+◌, ◌-◌, ◌<◌, List, [], get_or, sym, ◌∙◌, subst, arith, length}
+use Rattle.std.proofs.Common.{◌≡◌, ◌-◌, ◌<◌, [], get_or, sym, ◌∙◌, subst, arith, length}
 use Rattle.std.proofs.lemmas.List.{get_or_default}
-use Rattle.p21_schema.specs.declared.ranges.Range.{Range}
 use Rattle.p21_schema.specs.Graph.{rows_of}
 use Rattle.p21_schema.proofs.GraphLemmas.{row_is, row_count}
 use Rattle.p21_schema.proofs.SpanLemmas.{one_range}

@@ -1,5 +1,5 @@
-use Rattle.std.proofs.Common.{◌≡◌, ◌+◌, ◌-◌, ◌<◌, ◌≤◌, ℕ, suc, None, length, get_or, sym, subst, arith}
-use Rattle.p21_schema.specs.Steps.{no_step, step_at}
+use Rattle.std.proofs.Common.{◌≡◌, ◌-◌, ◌<◌, ℕ, suc, None, get_or, sym, subst, arith}
+use Rattle.p21_schema.specs.Steps.{no_step}
 use Rattle.p21_schema.proofs.StepLemmas.{last_step}
 use Rattle.p21_schema.proofs.steps.first_there.Goals as goal
 

@@ -1,7 +1,7 @@
 use Rattle.std.proofs.Common.{◌≡◌, ◌∷◌, ◌<◌, ◌+◌, List, length, get_or, drop, subst, arith}
 use Rattle.std.proofs.lemmas.List.{drop_more}
 use Rattle.p21_schema.specs.declared.steps.Step.{Step}
-use Rattle.p21_schema.specs.Steps.{no_step, AreRising, IsMerging, GoesFirst}
+use Rattle.p21_schema.specs.Steps.{no_step, IsMerging, GoesFirst}
 use Rattle.p21_schema.proofs.StepLemmas.{merge_first, merge_second, rising_behind}
 use Rattle.p21_schema.proofs.steps.merged.Goals as goal
 
