@@ -13,6 +13,8 @@ pub mod Under
 pub mod Declaration
 pub mod DeclarationTable
 pub mod Binding
+pub mod Steps
+pub mod Spans
 pub mod Select
 pub mod SelectItems
 pub mod SelectTable

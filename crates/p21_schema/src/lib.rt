@@ -14,6 +14,8 @@ mod rows;
 mod rules;
 mod schema;
 mod selects;
+mod spans;
+mod steps;
 mod under;
 
 pub use bindings::Binding;
