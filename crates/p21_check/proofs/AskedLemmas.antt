@@ -219,7 +219,7 @@ at_last s named InSet o cs ds i p W first are all h b = finish first (best_iff s
   finish (Err e) b = b.finds.0
 
 -- the only declaration
-asked_only : (s : Schema) (InSet : List ℕ → Type 0) (o : Origin) (d : Declaration) (p : Tree) (w : Wanted) → AreDeclarations s o (d ∷ []) → AsksAsCounted s InSet (d ∷ []) d w → (k : ℕ) (r : Reference) → AskedBy s InSet o p k r ↔ Asks s w p k r
+pub asked_only : (s : Schema) (InSet : List ℕ → Type 0) (o : Origin) (d : Declaration) (p : Tree) (w : Wanted) → AreDeclarations s o (d ∷ []) → AsksAsCounted s InSet (d ∷ []) d w → (k : ℕ) (r : Reference) → AskedBy s InSet o p k r ↔ Asks s w p k r
 asked_only s InSet o d p w are a k r = (there, back) where
   there : AskedBy s InSet o p k r → Asks s w p k r
   there h =
@@ -231,17 +231,20 @@ asked_only s InSet o d p w are a k r = (there, back) where
       let f = (a.same p k r).1 h in
       record { declaration = d; counts = counts_there s InSet o (d ∷ []) are (inl refl) f.counts; refers = f.refers }
 
-pub only_answered : (s : Schema) (named : ℕ → Option Instance) (InSet : List ℕ → Type 0) (o : Origin) (d : Declaration) (p : Tree) (w : Wanted) → AreDeclarations s o (d ∷ []) → AsksAsCounted s InSet (d ∷ []) d w → EachIsAnswered s named (Asks s w p) → EachIsAnswered s named (AskedBy s InSet o p)
-only_answered s named InSet o d p w are a h k r x = h k r ((asked_only s InSet o d p w are a k r).0 x)
-
-pub only_first : (s : Schema) (named : ℕ → Option Instance) (InSet : List ℕ → Type 0) (o : Origin) (d : Declaration) (p : Tree) (w : Wanted) (f : FirstBad) → AreDeclarations s o (d ∷ []) → AsksAsCounted s InSet (d ∷ []) d w → FindsBad s named (Asks s asked.Nothing p) (Asks s w p) (Err f) → IsFirst s named (AskedBy s InSet o p) f.bad
-only_first s named InSet o d p w f are a h = record {
+-- where the same is asked, the same is found
+pub found_alike : (s : Schema) (named : ℕ → Option Instance) (A B : ℕ → Reference → Type 0) (found : Result (Unit {0}) Bad) → ((k : ℕ) (r : Reference) → A k r ↔ B k r) → FindsFirst s named B found → FindsFirst s named A found
+found_alike s named A B (Ok u) same h = λ k r a. h k r ((same k r).0 a)
+found_alike s named A B (Err e) same h = record {
   place = h.place;
   reference = h.reference;
-  asked_ = (asked_only s InSet o d p w are a h.place h.reference).1 (second f.second h.asked_);
+  asked_ = (same h.place h.reference).1 h.asked_;
   bad_ = h.bad_;
-  before = λ j r less x. h.before_other j r less ((asked_only s InSet o d p w are a j r).0 x);
-} where
+  before = λ j r less a. h.before j r less ((same j r).0 a);
+}
+
+-- a fault beside nothing
+pub first_beside : (s : Schema) (named : ℕ → Option Instance) (p : Tree) (w : Wanted) (f : FirstBad) → FindsBad s named (Asks s asked.Nothing p) (Asks s w p) (Err f) → IsFirst s named (Asks s w p) f.bad
+first_beside s named p w f h = record { place = h.place; reference = h.reference; asked_ = second f.second h.asked_; bad_ = h.bad_; before = h.before_other } where
   second : (b : Bool) → chosen b (Asks s asked.Nothing p) (Asks s w p) h.place h.reference → Asks s w p h.place h.reference
   second false x = elim x [ ]
   second true x = x

@@ -29,6 +29,7 @@ pub mod AdmitsLemmas
 pub mod JudgeLemmas
 pub mod WalkLemmas
 pub mod AskedLemmas
+pub mod BoundLemmas
 pub mod EntryLemmas
 pub mod AskerLemmas
 pub mod RecordLemmas

@@ -7,6 +7,7 @@ pub mod Known
 pub mod Attributes
 pub mod LocalFault
 pub mod Sets
+pub mod Bound
 pub mod Instances
 pub mod Header
 pub mod SchemaName

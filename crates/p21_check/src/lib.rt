@@ -2,6 +2,7 @@
 #![tactic(auto)]
 
 mod attributes;
+mod binding;
 mod bounds;
 mod complex;
 mod conform;

@@ -15,15 +15,17 @@ ghost use Rattle.p21_check.specs.Instances.{simple_instance, complex_instance};
 ghost use Rattle.p21_check.specs.EntityOf.{IsSimpleEntity};
 ghost use Rattle.p21_check.specs.LocalFault.{IsLocalFault};
 ghost use Rattle.p21_check.specs.References.{IsReferenceFault};
+ghost use Rattle.p21_check.specs.Wanted.{Asks, IsAsked};
 
 use crate::attributes::{attribute, attribute_count};
+use crate::binding::binding;
 use crate::entity_of::{EntityOf, simple_entity};
 use crate::entity_set::{EntitySet, is_in_set};
 use crate::judge::{Entities, Keywords};
 use crate::slot::{counts, is_derived};
 use crate::walk::{Bad, Judge, may_refer, walk};
 use crate::wanted::{Wanted, wanted_by};
-use p21_schema::{AttrId, Declaration, EntityId, Form, Schema};
+use p21_schema::{AttrId, Binding, Declaration, EntityId, Form, Schema};
 use p21_tree::{FaultKind, Param, RawInstance, Record};
 use std::marker::PhantomData;
 
@@ -186,10 +188,31 @@ fn parameter<J: Judge>(
     if let [only] = declarations {
         return against_only(schema, set, only, param, judge);
     }
-    if is_derived(schema, set, declarations) {
-        return Ok(());
+    match binding(schema, set, attribute) {
+        Binding::Derived | Binding::Free => Ok(()),
+        Binding::By(lowest) => {
+            let wanted = asked_by_form(schema, &lowest.form);
+            against(schema, wanted, param, judge)
+        }
+        Binding::Unsaid => against_all(schema, set, declarations, param, judge),
     }
-    against_each(schema, set, declarations, param, judge)
+}
+
+/// Looks for the first reference at fault in a parameter, of those that are asked for.
+fn against<'s, J: Judge>(
+    schema: &'s Schema,
+    wanted: Wanted<'s>,
+    param: &Param<'_>,
+    judge: &J,
+) -> Result<(), Bad>
+    requires same { J.table judge.now ≡ schema.now }
+    requires wanted { IsAsked schema.now wanted }
+    ensures { FindsFirst schema.entry.now (J.named judge.now) (Asks schema.entry.now wanted.entry (plain param.now)) result }
+{
+    match walk(schema, judge, Wanted::Nothing, wanted, param) {
+        Ok(()) => Ok(()),
+        Err(found) => Err(found.bad),
+    }
 }
 
 /// Looks for the first reference at fault in a parameter for an attribute that is declared once.
@@ -206,10 +229,26 @@ fn against_only<J: Judge>(
     ensures { (o : Origin) → (d : Declared) → AreDeclarations schema.now o (d ∷ []) → IsResolvedDeclaration schema.now only.now d → FindsFirst schema.now (J.named judge.now) (AskedBy schema.now (HasEntity schema.now set.now) o (plain param.now)) result }
 {
     let wanted = asked_by_only(schema, set, only);
-    match walk(schema, judge, Wanted::Nothing, wanted, param) {
-        Ok(()) => Ok(()),
-        Err(found) => Err(found.bad),
+    against(schema, wanted, param, judge)
+}
+
+/// Looks for the first reference at fault in a parameter, by a look at each declaration of its attribute.
+fn against_all<J: Judge>(
+    schema: &Schema,
+    set: &EntitySet<'_, '_>,
+    declarations: &[Declaration],
+    param: &Param<'_>,
+    judge: &J,
+) -> Result<(), Bad>
+    requires same { J.table judge.now ≡ schema.now }
+    requires set { IsSetOf schema.now set.now }
+    requires declarations { (ds : List Declared) × AreResolvedIn schema.now declarations.now ds }
+    ensures { (o : Origin) → (ds : List Declared) → AreDeclarations schema.now o ds → AreResolvedIn schema.now declarations.now ds → FindsFirst schema.now (J.named judge.now) (AskedBy schema.now (HasEntity schema.now set.now) o (plain param.now)) result }
+{
+    if is_derived(schema, set, declarations) {
+        return Ok(());
     }
+    against_each(schema, set, declarations, param, judge)
 }
 
 /// Looks for the first reference at fault in a parameter for an attribute that is not derived, against each declaration that

@@ -10,10 +10,11 @@ ghost use Rattle.p21_schema.specs.Row.{IsAttributeOf, attribute_at};
 ghost use Rattle.p21_check.specs.Slot.{FitsSlot};
 ghost use Rattle.p21_check.specs.Sets.{HasEntity, IsSetOf, AnyIn, Derives, IsNotDerived, IsAgainBelow, FitsForm, CountsAmong, FitsCounting, EachIn};
 
+use crate::binding::binding;
 use crate::conform::is_element;
 use crate::entity_set::{EntitySet, is_below, is_in_set};
 use crate::simple;
-use p21_schema::{AttrId, Declaration, EntityId, Form, Schema};
+use p21_schema::{AttrId, Binding, Declaration, EntityId, Form, Schema};
 use p21_tree::Param;
 
 /// Whether a parameter may be given for an attribute of an instance with this entity set: `*` alone for a derived one; for
@@ -34,10 +35,11 @@ pub(crate) fn fits_slot(
     if let [only] = declarations {
         return fits_only(schema, set, only, param);
     }
-    if is_derived(schema, set, declarations) {
-        simple::is_derived(param)
-    } else {
-        fits_each(schema, set, declarations, param)
+    match binding(schema, set, attribute) {
+        Binding::Derived => simple::is_derived(param),
+        Binding::By(lowest) => fits_form(schema, &lowest.form, param),
+        Binding::Free => true,
+        Binding::Unsaid => fits_by_each(schema, set, declarations, param),
     }
 }
 
@@ -60,6 +62,25 @@ fn fits_only(
     match &only.form {
         Form::Derived => simple::is_derived(param),
         Form::Explicit { optional, texpr } => is_element(schema, texpr, *optional, param),
+    }
+}
+
+/// Whether a parameter may be given for an attribute that has these declarations, by a look at each of them.
+fn fits_by_each(
+    schema: &Schema,
+    set: &EntitySet<'_, '_>,
+    declarations: &[Declaration],
+    param: &Param<'_>,
+) -> bool
+    requires set { IsSetOf schema.now set.now }
+    requires declarations { (ds : List Declared) × AreResolvedIn schema.now declarations.now ds }
+    requires bodies { HasBodies (plain param.now) }
+    ensures { (o : Origin) → (ds : List Declared) → AreDeclarations schema.now o ds → AreResolvedIn schema.now declarations.now ds → (IsTrue result ↔ FitsSlot schema.now (HasEntity schema.now set.now) o (plain param.now)) }
+{
+    if is_derived(schema, set, declarations) {
+        simple::is_derived(param)
+    } else {
+        fits_each(schema, set, declarations, param)
     }
 }
 

@@ -18,6 +18,11 @@ ENTITY Special SUBTYPE OF (Item); END_ENTITY;\n\
 ENTITY Owner; Owns : Special; END_ENTITY;\n\
 ENTITY Lender SUBTYPE OF (Owner); SELF\\Owner.Owns : Item; END_ENTITY;\n\
 ENTITY Heir SUBTYPE OF (Owner); DERIVE SELF\\Owner.Owns : Special := ?; END_ENTITY;\n\
+ENTITY Keeper SUBTYPE OF (Lender); END_ENTITY;\n\
+ENTITY Warden SUBTYPE OF (Keeper); SELF\\Lender.Owns : Special; END_ENTITY;\n\
+ENTITY Guard SUBTYPE OF (Owner); END_ENTITY;\n\
+ENTITY Orphan SUBTYPE OF (Heir); END_ENTITY;\n\
+ENTITY Twice SUBTYPE OF (Lender, Warden); END_ENTITY;\n\
 ENTITY Group; Members : LIST OF Item; Sizes : LIST OF REAL; END_ENTITY;\n\
 END_SCHEMA;";
 
@@ -93,7 +98,7 @@ fn references_among_two(rt: HostRuntime) -> Result<(), Fail> {
     let alloc = rt.alloc();
     let wrong = |attr, name| Some(FaultKind::WrongReference { rec: 0, attr, name });
     let missing = |attr, name| Some(FaultKind::MissingReference { rec: 0, attr, name });
-    let rows: [(&[u8], &[u8], Option<FaultKind>); 9] = [
+    let rows: [(&[u8], &[u8], Option<FaultKind>); 18] = [
         (b"SPECIAL", b"#1=OWNER(#2);", None),
         (b"ITEM", b"#1=OWNER(#2);", wrong(0, 2)),
         (b"ITEM", b"#1=OWNER(#3);", None),
@@ -103,6 +108,15 @@ fn references_among_two(rt: HostRuntime) -> Result<(), Fail> {
         (b"ITEM", b"#1=(HEIR()LENDER()OWNER(*));", None),
         (b"SPECIAL", b"#1=GROUP((#2,#3),(1.,2.));", None),
         (b"OWNER", b"#1=GROUP((#3,#2,#4),());", wrong(0, 2)),
+        (b"ITEM", b"#1=KEEPER(#2);", None),
+        (b"OWNER", b"#1=KEEPER(#2);", wrong(0, 2)),
+        (b"ITEM", b"#1=WARDEN(#2);", wrong(0, 2)),
+        (b"SPECIAL", b"#1=WARDEN(#2);", None),
+        (b"ITEM", b"#1=GUARD(#2);", wrong(0, 2)),
+        (b"SPECIAL", b"#1=GUARD(#4);", missing(0, 4)),
+        (b"ITEM", b"#1=ORPHAN(*);", None),
+        (b"ITEM", b"#1=TWICE(#2);", wrong(0, 2)),
+        (b"SPECIAL", b"#1=TWICE(#2);", None),
     ];
     for (entity, text, want) in rows {
         assert_eq!(rt; fault_among(alloc, entity, text)?, want);

@@ -33,6 +33,9 @@ ENTITY strict SUBTYPE OF (base); SELF\\base.s : LIST OF UNIQUE one; END_ENTITY;\
 ENTITY wide SUBTYPE OF (base); SELF\\base.s : LIST OF one; END_ENTITY;\n\
 ENTITY lax SUBTYPE OF (strict); SELF\\strict.s : LIST OF one; END_ENTITY;\n\
 ENTITY worked_out SUBTYPE OF (strict); DERIVE SELF\\strict.s : LIST OF UNIQUE one := []; END_ENTITY;\n\
+ENTITY below_strict SUBTYPE OF (strict); END_ENTITY;\n\
+ENTITY below_lax SUBTYPE OF (lax); END_ENTITY;\n\
+ENTITY below_both SUBTYPE OF (wide, strict); END_ENTITY;\n\
 END_SCHEMA;\n";
 
 /// The fault of the instance that a text spells.
@@ -119,7 +122,7 @@ fn typed_parameters(rt: HostRuntime) -> Result<(), Fail> {
     check(&rt, rt.alloc(), &TYPED_PARAMETERS)
 }
 
-const DECLARED_AGAIN: [Row; 8] = [
+const DECLARED_AGAIN: [Row; 12] = [
     (b"#1=BASE((#1,#1));", None),
     (b"#1=STRICT((#1,#1));", REPEATED),
     (b"#1=LAX((#1,#1));", None),
@@ -131,6 +134,10 @@ const DECLARED_AGAIN: [Row; 8] = [
     ),
     (b"#1=WORKED_OUT(*);", None),
     (b"#1=BASE($);", None),
+    (b"#1=BELOW_STRICT((#1,#1));", REPEATED),
+    (b"#1=BELOW_STRICT((#1,#2));", None),
+    (b"#1=BELOW_LAX((#1,#1));", None),
+    (b"#1=BELOW_BOTH((#1,#1));", REPEATED),
 ];
 
 #[test]

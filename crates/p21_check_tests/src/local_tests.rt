@@ -84,6 +84,24 @@ ENTITY other_part SUBTYPE OF (whole); SELF\\whole.v : NUMBER; SELF\\whole.o : NU
 ENTITY lower_part SUBTYPE OF (one_part); SELF\\one_part.v : REAL; END_ENTITY;\n\
 END_SCHEMA;\n";
 
+/// A schema in which one attribute is declared again and again: along a chain, beside it, in DERIVE and below that.
+const AGAIN: &[u8] = b"SCHEMA again;\n\
+ENTITY top; v : OPTIONAL NUMBER; w : OPTIONAL NUMBER; END_ENTITY;\n\
+ENTITY first SUBTYPE OF (top); END_ENTITY;\n\
+ENTITY second SUBTYPE OF (first); SELF\\top.v : NUMBER; END_ENTITY;\n\
+ENTITY third SUBTYPE OF (second); END_ENTITY;\n\
+ENTITY fourth SUBTYPE OF (third); SELF\\second.v : INTEGER; END_ENTITY;\n\
+ENTITY fifth SUBTYPE OF (fourth); END_ENTITY;\n\
+ENTITY beside SUBTYPE OF (top); SELF\\top.v : REAL; END_ENTITY;\n\
+ENTITY below_beside SUBTYPE OF (beside); SELF\\top.w : REAL; END_ENTITY;\n\
+ENTITY plain SUBTYPE OF (top); END_ENTITY;\n\
+ENTITY derived SUBTYPE OF (third); DERIVE SELF\\second.v : INTEGER := 1; END_ENTITY;\n\
+ENTITY below_derived SUBTYPE OF (derived); END_ENTITY;\n\
+ENTITY explicit SUBTYPE OF (derived); SELF\\derived.v : INTEGER; END_ENTITY;\n\
+ENTITY below_two SUBTYPE OF (fourth, beside); END_ENTITY;\n\
+ENTITY below_one SUBTYPE OF (second, plain); END_ENTITY;\n\
+END_SCHEMA;\n";
+
 /// The fault of the instance that a text spells.
 fn fault(alloc: Global, schema: &Schema, text: &[u8]) -> Result<Option<FaultKind>, Fail> {
     let piece = Piece {
@@ -439,4 +457,72 @@ const TWO_THAT_COUNT: [Row; 10] = [
 #[test]
 fn two_that_count(rt: HostRuntime) -> Result<(), Fail> {
     check(&rt, rt.alloc(), LARGE, &TWO_THAT_COUNT)
+}
+
+const BAD_FIRST: Option<FaultKind> = Some(FaultKind::BadAttribute { rec: 0, attr: 0 });
+
+const ALONG_A_CHAIN: [Row; 14] = [
+    (b"#1=TOP($,$);", None),
+    (b"#1=FIRST($,$);", None),
+    (b"#1=FIRST(*,$);", BAD_FIRST),
+    (b"#1=SECOND($,$);", BAD_FIRST),
+    (b"#1=SECOND(1.,$);", None),
+    (b"#1=THIRD($,$);", BAD_FIRST),
+    (b"#1=THIRD(1.,$);", None),
+    (b"#1=FOURTH(1.,$);", BAD_FIRST),
+    (b"#1=FOURTH(1,$);", None),
+    (b"#1=FIFTH(1.,$);", BAD_FIRST),
+    (b"#1=FIFTH(*,$);", BAD_FIRST),
+    (b"#1=FIFTH(1,$);", None),
+    (b"#1=(FIRST()SECOND()THIRD()TOP(1.,$));", None),
+    (b"#1=(TOP(1.,$)FIRST()SECOND()THIRD()FOURTH());", BAD_FIRST),
+];
+
+#[test]
+fn along_a_chain(rt: HostRuntime) -> Result<(), Fail> {
+    check(&rt, rt.alloc(), AGAIN, &ALONG_A_CHAIN)
+}
+
+const BESIDE_A_CHAIN: [Row; 12] = [
+    (b"#1=BESIDE(1.,$);", None),
+    (b"#1=BESIDE(1,$);", BAD_FIRST),
+    (b"#1=BELOW_BESIDE(1.,2.);", None),
+    (b"#1=BELOW_BESIDE(1,2.);", BAD_FIRST),
+    (
+        b"#1=BELOW_BESIDE(1.,2);",
+        Some(FaultKind::BadAttribute { rec: 0, attr: 1 }),
+    ),
+    (b"#1=PLAIN($,2);", None),
+    (b"#1=BELOW_ONE(1,$);", None),
+    (b"#1=BELOW_ONE($,$);", BAD_FIRST),
+    // Two that count here ask for what nothing is.
+    (b"#1=BELOW_TWO(1,$);", BAD_FIRST),
+    (b"#1=BELOW_TWO(1.,$);", BAD_FIRST),
+    (b"#1=(TOP(1.,$)BESIDE()PLAIN());", None),
+    (b"#1=(TOP(1,$)BESIDE()FIRST());", BAD_FIRST),
+];
+
+#[test]
+fn beside_a_chain(rt: HostRuntime) -> Result<(), Fail> {
+    check(&rt, rt.alloc(), AGAIN, &BESIDE_A_CHAIN)
+}
+
+const BELOW_DERIVE: [Row; 9] = [
+    (b"#1=DERIVED(*,$);", None),
+    (b"#1=DERIVED(1,$);", BAD_FIRST),
+    (b"#1=DERIVED($,$);", BAD_FIRST),
+    (b"#1=BELOW_DERIVED(*,$);", None),
+    (b"#1=BELOW_DERIVED(1,$);", BAD_FIRST),
+    (b"#1=EXPLICIT(*,$);", None),
+    (b"#1=EXPLICIT(1,$);", BAD_FIRST),
+    (b"#1=THIRD(*,$);", BAD_FIRST),
+    (
+        b"#1=(TOP(*,$)FIRST()SECOND()THIRD()FOURTH()DERIVED());",
+        None,
+    ),
+];
+
+#[test]
+fn below_derive(rt: HostRuntime) -> Result<(), Fail> {
+    check(&rt, rt.alloc(), AGAIN, &BELOW_DERIVE)
 }

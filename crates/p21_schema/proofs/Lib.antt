@@ -15,3 +15,6 @@ pub mod WalkLemmas
 pub mod RangeLemmas
 pub mod WithinLemmas
 pub mod SharedLemmas
+pub mod StepLemmas
+pub mod SpanLemmas
+pub mod BindingLemmas

@@ -12,6 +12,9 @@ pub mod Resolved
 pub mod Under
 pub mod Declaration
 pub mod DeclarationTable
+pub mod Binding
+pub mod Steps
+pub mod Spans
 pub mod Select
 pub mod SelectItems
 pub mod SelectTable

@@ -2,6 +2,7 @@
 #![tactic(auto)]
 
 mod ancestry;
+mod bindings;
 mod declarations;
 mod graph;
 mod ids;
@@ -13,8 +14,11 @@ mod rows;
 mod rules;
 mod schema;
 mod selects;
+mod spans;
+mod steps;
 mod under;
 
+pub use bindings::Binding;
 pub use declarations::{Declaration, Form};
 pub use ids::{AttrId, EntityId, TypeId};
 pub use p21_express::{Bounds, Width};

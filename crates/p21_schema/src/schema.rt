@@ -3,6 +3,7 @@
 ghost use Rattle.std.specs.Prelude.{◌≡◌, ◌<◌, ◌↔◌, List, Some, length, slice_get, IfOk, IsTrue, MatchOption};
 
 use crate::ancestry::{descents, supertype_ids, supertypes};
+use crate::bindings::{Binding, all_bindings, binding_at};
 use crate::declarations::{Declaration, Known, all_declarations};
 use crate::graph::order;
 use crate::ids::{AttrId, EntityId, TypeId};
@@ -13,6 +14,7 @@ use crate::resolved::Resolved;
 use crate::rows::{Own, Rows, own_attributes};
 use crate::rules::Rules;
 use crate::selects::{Selects, select_tables};
+use crate::steps::Step;
 use crate::under::{resolved, type_ends};
 use p21_express::Declarations;
 use p21_hash::HashKey;
@@ -32,6 +34,9 @@ pub struct Schema {
     rows: Rows,
     /// For each attribute its declarations.
     attributes: Vec<Vec<Declaration>>,
+    /// For each attribute that is declared more than once which of its declarations is met at each place of the descents, where they
+    /// can be told apart.
+    bindings: Vec<Option<Vec<Step>>>,
     /// The place of the type at which the way from each type ends, by the names that alone stand under types.
     ends: Vec<usize>,
     unders: Vec<Resolved>,
@@ -67,6 +72,7 @@ impl Drop for Schema {
             own: _,
             rows: _,
             attributes: _,
+            bindings: _,
             ends: _,
             unders: _,
             selects: _,
@@ -86,6 +92,7 @@ impl Schema {
     ghost use Rattle.p21_schema.specs.Ancestry.{NameEntities, IsA};
     ghost use Rattle.p21_schema.specs.Row.{IsRow, IsAttributeOf, attribute_at, own_attributes};
     ghost use Rattle.p21_schema.specs.Declaration.{Declaration as Declared, AreDeclarations, AreResolvedIn};
+    ghost use Rattle.p21_schema.specs.Binding.{IsBinding};
     ghost use Rattle.p21_schema.specs.Rules.{with_rules};
     ghost use Rattle.p21_schema.specs.Select.{SelectReaches, ReachesA, ReachesType, ReachesEntity};
 
@@ -131,6 +138,7 @@ impl Schema {
             own: &own,
         };
         let attributes = all_declarations(alloc, &known, lists)?;
+        let bindings = all_bindings(alloc, &descents, &attributes)?;
         let selects = select_tables(alloc, &unders, declarations.entities.len(), &descents)?;
         Ok(Schema {
             declarations,
@@ -142,6 +150,7 @@ impl Schema {
             own,
             rows,
             attributes,
+            bindings,
             ends,
             unders,
             selects,
@@ -279,6 +288,19 @@ impl Schema {
         ensures { (ds : List Declared) × (AreDeclarations self.now (attribute_at self.now attribute) ds × AreResolvedIn self.now result.now ds) }
     {
         &self.attributes[attribute.index]
+    }
+
+    /// What binds an attribute in an instance of one entity, which is of that entity and of its ancestors.
+    pub fn binding(&self, attribute: AttrId, entity: EntityId) -> Binding<'_>
+        requires attribute { IsAttributeOf self.now attribute }
+        requires entity { IsEntityOf self.now entity }
+        ensures { (ds : List Declared) → AreDeclarations self.now (attribute_at self.now attribute) ds → IsBinding self.now entity ds result }
+    {
+        let Some(steps) = &self.bindings[attribute.index] else {
+            return Binding::Unsaid;
+        };
+        let at = self.descents.places[entity.index];
+        binding_at(&self.attributes[attribute.index], steps, at)
     }
 
     /// The defined or enumeration type of this name that the SELECT reaches, or `None` where it reaches none. A SELECT

@@ -1,14 +1,14 @@
 use Rattle.p21_tree.specs.Plain.{plain}
+use Rattle.p21_check.specs.Asked.{AskedBy}
 use Rattle.p21_check.specs.Sets.{HasEntity}
-use Rattle.p21_check.proofs.AskedLemmas.{only_answered, only_first}
+use Rattle.p21_check.specs.Wanted.{Asks}
+use Rattle.p21_check.proofs.AskedLemmas.{asked_only, found_alike}
 use Rattle.p21_check.proofs.references.against_only.Goals as goal
 
-pub returns-in-Ok : goal.returns-in-Ok
-returns-in-Ok g c o d are is =
+pub returns : goal.returns
+returns g c o d are is =
     let s = c.args.schema.now in
-    only_answered s (g.J.Judge.named c.args.judge.now) (HasEntity s c.args.set.now) o d (plain c.args.param.now) c.asked_by_only-wanted.result are (c.asked_by_only-wanted.ensures d is) c.in-Ok.ensures.1
-
-pub returns-in-Err : goal.returns-in-Err
-returns-in-Err g c o d are is =
-    let s = c.args.schema.now in
-    only_first s (g.J.Judge.named c.args.judge.now) (HasEntity s c.args.set.now) o d (plain c.args.param.now) c.asked_by_only-wanted.result c.in-Err.found are (c.asked_by_only-wanted.ensures d is) c.in-Err.ensures
+    let set = HasEntity s c.args.set.now in
+    let p = plain c.args.param.now in
+    let w = c.asked_by_only-wanted.result in
+    found_alike s (g.J.Judge.named c.args.judge.now) (AskedBy s set o p) (Asks s w p) c.against.result (asked_only s set o d p w are (c.asked_by_only-wanted.ensures d is)) c.against.ensures

@@ -1,23 +1,26 @@
-use Rattle.std.proofs.Common.{sym, ◌∙◌}
-use Rattle.std.proofs.lemmas.Bool.{false≢true}
+use Rattle.std.proofs.Common.{refl}
 use Rattle.p21_tree.specs.Plain.{plain}
 use Rattle.p21_schema.specs.Row.{attribute_at}
 use Rattle.p21_check.specs.Sets.{HasEntity}
 use Rattle.p21_check.proofs.Tests.{both}
-use Rattle.p21_check.proofs.SlotLemmas.{derived_there, derived_among, fits_derived, fits_by_each}
+use Rattle.p21_check.proofs.BoundLemmas.{derived_fits, alone_fits, none_fits}
 use Rattle.p21_check.proofs.slot.fits_slot.Goals as goal
 
-pub returns-then-is_derived : goal.returns-then-is_derived
-returns-then-is_derived c =
+pub returns-in-Derived : goal.returns-in-Derived
+returns-in-Derived c =
+    let s = c.args.schema.now in
     let ds = c.declarations-declarations.ensures in
-    let o = attribute_at c.args.schema.now c.args.attribute in
-    let derived = derived_there c.args.schema.now (HasEntity c.args.schema.now c.args.set.now) o ds.0 ds.1.0 ((c.is_derived.ensures ds.0 ds.1.1).0 c.if-is_derived.true) in
-    both c.is_derived-then-is_derived.ensures (fits_derived c.args.schema.now (HasEntity c.args.schema.now c.args.set.now) o ds.0 ds.1.0 (plain c.args.param.now) derived)
+    both c.is_derived.ensures (derived_fits s (HasEntity s c.args.set.now) (attribute_at s c.args.attribute) ds.0 ds.1.0 (c.in-Derived.ensures ds.0 ds.1.0) (plain c.args.param.now))
 
-pub returns-else-is_derived : goal.returns-else-is_derived
-returns-else-is_derived c =
+pub returns-in-By : goal.returns-in-By
+returns-in-By c =
+    let s = c.args.schema.now in
     let ds = c.declarations-declarations.ensures in
-    let o = attribute_at c.args.schema.now c.args.attribute in
-    both (c.fits_each.ensures ds.0 ds.1.1)
-    (fits_by_each c.args.schema.now (HasEntity c.args.schema.now c.args.set.now) o ds.0 ds.1.0 (plain c.args.param.now)
-    (λ k. false≢true (sym c.if-is_derived.false ∙ (c.is_derived.ensures ds.0 ds.1.1).1 (derived_among c.args.schema.now (HasEntity c.args.schema.now c.args.set.now) o ds.0 ds.1.0 k))))
+    let d = c.in-By.ensures ds.0 ds.1.0 in
+    both (c.fits_form.ensures d.0.form d.1.0.form) (alone_fits s (HasEntity s c.args.set.now) (attribute_at s c.args.attribute) ds.0 ds.1.0 d.0 d.1.1 (plain c.args.param.now))
+
+pub returns-in-Free : goal.returns-in-Free
+returns-in-Free c =
+    let s = c.args.schema.now in
+    let ds = c.declarations-declarations.ensures in
+    (λ _. none_fits s (HasEntity s c.args.set.now) (attribute_at s c.args.attribute) ds.0 ds.1.0 (c.in-Free.ensures ds.0 ds.1.0) (plain c.args.param.now), λ _. refl)

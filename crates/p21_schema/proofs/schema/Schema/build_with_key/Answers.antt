@@ -3,12 +3,14 @@ use Rattle.std.proofs.lemmas.List.{length-map}
 use Rattle.p21_express.specs.Schema.{Entity, Defined}
 use Rattle.p21_express.specs.Plain.{plain_schema, plain_entity, plain_type}
 use Rattle.p21_schema.specs.Rules.{with_rules}
-use Rattle.p21_schema.specs.Graph.{plain_graph}
+use Rattle.p21_schema.specs.Declaration.{written}
+use Rattle.p21_schema.specs.Graph.{plain_graph, rows_of}
 use Rattle.p21_schema.specs.Ancestry.{AreSupertypesNamed, IsDescentTable}
 use Rattle.p21_schema.specs.SelectTable.{AreSelectTables}
 use Rattle.p21_schema.specs.Under.{AreResolved}
 use Rattle.p21_schema.proofs.RuleLemmas.{fits_with, own_with}
 use Rattle.p21_schema.proofs.AncestryLemmas.{named_by, distinct_entities, supertypes_known, edges_below, no_cycle, supertype_table}
+use Rattle.p21_schema.proofs.BindingLemmas.{within_rows}
 use Rattle.p21_schema.proofs.DeclarationLemmas.{empty_at}
 use Rattle.p21_schema.proofs.UnderLemmas.{distinct_types, other_known, unders_known}
 use Rattle.p21_schema.proofs.schema.Schema.build_with_key.Goals as goal
@@ -56,6 +58,7 @@ invariant_of-result c =
     record {
       types = types_are;
       attributes = c.in_ok-attributes.ensures;
+      bindings = c.in_ok-bindings.ensures;
       selects = selects;
       ends = c.in_ok-ends.ensures s (ap (λ (ts : List _). map plain_type ts) (sym c.deref-6.ensures.value));
       resolved = found;
@@ -94,6 +97,14 @@ all_declarations-requires-clause-known c =
 
 pub all_declarations-requires-clause-empty : goal.all_declarations-requires-clause-empty
 all_declarations-requires-clause-empty c = λ i. ap (λ (u : List _). get_or u i []) c.in_ok-own.ensures.lists ∙ empty_at _ i
+
+pub all_bindings-requires : goal.all_bindings-requires
+all_bindings-requires c =
+    let s = with_rules (plain_schema c.args.declarations) c.args.rules in
+    let g = plain_graph c.in_ok-graph.graph in
+    let formed = fits_with (plain_schema c.args.declarations) c.args.rules c.requires in
+    let h : AreSupertypesNamed (map (λ (e : Entity). e.name) s.entities) g s.entities = named_by plain_entity c.in_ok-entity_names.entity_names g c.deref.result.now c.deref-2.result.now c.args.declarations.entities.items c.in_ok-entity_names.ensures c.deref.ensures.value c.deref-2.ensures.value c.in_ok-graph.ensures in
+    within_rows s (written s.entities) (rows_of c.in_ok-attributes.attributes) c.in_ok-descents.descents c.in_ok-attributes.ensures (c.in_ok-descents.ensures s formed h)
 
 pub select_tables-requires : goal.select_tables-requires
 select_tables-requires c =
