@@ -1,10 +1,21 @@
 //! What names an entity, an attribute or a type of a schema.
 
+ghost use Rattle.std.specs.Prelude.{◌≡◌};
+
 /// An entity of a schema.
 #[derive(Clone, Copy, Debug, PartialEq, Eq)]
 pub struct EntityId {
     /// Its place among the entities, in the order of the text.
     pub(crate) index: usize,
+}
+
+impl EntityId {
+    /// Its place among the entities of its schema, in the order of the text.
+    pub fn place(self) -> usize
+        ensures { result ≡ self.index }
+    {
+        self.index
+    }
 }
 
 /// An explicit attribute of a schema, as it is newly declared.

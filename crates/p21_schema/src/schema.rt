@@ -208,6 +208,14 @@ impl Schema {
             .map(|index| EntityId { index })
     }
 
+    /// The name of an entity.
+    pub fn name_of(&self, entity: EntityId) -> &[u8]
+        requires { IsEntityOf self.now entity }
+        ensures { result.now ≡ entity_name self.now entity }
+    {
+        &self.declarations.entities[entity.index].name
+    }
+
     /// Whether ABSTRACT SUPERTYPE stands behind the entity's name.
     pub fn is_abstract(&self, entity: EntityId) -> bool
         requires { IsEntityOf self.now entity }
