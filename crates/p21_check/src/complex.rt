@@ -96,7 +96,7 @@ fn check_whole(
 }
 
 /// Whether the keyword of a record is no entity.
-fn has_unknown(schema: &Schema, records: &[Record<'_>]) -> bool
+pub(crate) fn has_unknown(schema: &Schema, records: &[Record<'_>]) -> bool
     ensures some { IsTrue result → AnyIn records.now (IsUnknown schema.now) }
     ensures none { result ≡ false → EachIn records.now (NamesEntity schema.now) }
 {
@@ -143,7 +143,7 @@ fn lacks_entity(
 }
 
 /// Whether two records have one keyword. If not, the marks are then those of the entities that they name.
-fn marks_twice(schema: &Schema, marks: &mut [u8], records: &[Record<'_>]) -> bool
+pub(crate) fn marks_twice(schema: &Schema, marks: &mut [u8], records: &[Record<'_>]) -> bool
     requires known { EachIn records.now (NamesEntity schema.now) }
     requires marks { 0 < length marks.old }
     ensures length { length marks.new ≡ length marks.old }
