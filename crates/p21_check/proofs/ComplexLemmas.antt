@@ -1,5 +1,5 @@
 -- What a complex instance has, by its records.
-use Rattle.std.proofs.Common.{◌≡◌, ◌≢◌, ◌⊎◌, ◌↔◌, ⊎_elim, inl, inr, ℕ, zero, suc, ◌<◌, ◌≤◌, true, List, [], ◌∷◌, Some, map, length, get_or, take, refl, sym, ap, subst, ◌∙◌, arith, Bor}
+use Rattle.std.proofs.Common.{◌≡◌, ◌≢◌, ◌⊎◌, ◌↔◌, ⊎_elim, inl, inr, ℕ, zero, suc, ◌+◌, ◌<◌, ◌≤◌, true, List, [], ◌∷◌, ◌++◌, Some, map, length, get_or, take, refl, sym, ap, subst, ◌∙◌, arith, Bor}
 use Rattle.std.specs.Prelude.{slice_get}
 use Rattle.std.proofs.lemmas.Bool.{false≢true}
 use Rattle.p21_express.specs.Schema.{Schema, Entity}
@@ -8,19 +8,22 @@ use Rattle.p21_tree.specs.Grammar.{Entry}
 use Rattle.p21_tree.specs.Views.{plain_record}
 use Rattle.p21_tree.specs.declared.instances.Record.{Record}
 use Rattle.p21_schema.specs.declared.ids.EntityId.{EntityId}
+use Rattle.p21_schema.specs.Ancestry.{NameEntities}
+use Rattle.p21_check.proofs.AnyLemmas.{in_both, any_taken}
 use Rattle.p21_schema.specs.Place.{entity_at, entity_name, IsEntityOf}
 use Rattle.p21_check.specs.EntitySet.{IsInSet, keywords}
 use Rattle.p21_check.specs.EntitySet as sets
 use Rattle.p21_check.specs.LocalFault.{IsAbstract, HasUnknownEntity, HasAbstractEntity, IsBadComplex, NamesTwice, LacksSupertype, LacksSubtype}
+use Rattle.p21_check.specs.declared.entity_set.EntitySet.{EntitySet}
 use Rattle.p21_check.specs.declared.entity_set.EntitySet.TheVariants as set
-use Rattle.p21_check.specs.Sets.{HasEntity, keywords_of, AnyIn, EachIn}
+use Rattle.p21_check.specs.Sets.{HasEntity, IsSetOfRecords, keywords_of, AnyIn, EachIn}
 use Rattle.p21_tree.specs.Plain.{plain_all}
 use Rattle.p21_express.specs.WellFormed.{Origin}
 use Rattle.p21_check.specs.Attributes.{AreAttributes}
 use Rattle.p21_check.specs.LocalFault.{HasWrongCount, HasBadAttribute, HasRepeatedReference}
 use Rattle.p21_check.proofs.DistinctLemmas.{repeated_at, repeating_at, repeating_along}
 use Rattle.p21_check.proofs.InstanceLemmas.{wrong_at, not_wrong_at, bad_at, unfit_at, unfit_along}
-use Rattle.p21_check.specs.Instances.{complex_instance, IsUnfitAt, IsRepeatingAt, NamesEntity, IsUnknown, LacksAbove, LacksBelow, IsNamedBefore}
+use Rattle.p21_check.specs.Instances.{complex_instance, IsUnfitAt, IsRepeatingAt, NamesEntity, IsUnknown, LacksAbove, IsSubtypeRecord, LacksBelow, IsNamedBefore}
 use Rattle.p21_check.proofs.TypeLemmas.{in_map}
 use Rattle.p21_check.proofs.ElementLemmas.{count_all}
 use Rattle.p21_check.proofs.AttributeLemmas.{one_entity, entity_there}
@@ -107,6 +110,42 @@ module _ (s : Schema) (w : IsWellFormed s) (e : EntityId) (known : IsEntityOf s 
     λ h. let p = out_of_map (entity_name s) ids h.0 ((supertype_by h.0).1 h.1.0) in (p.0, p.1, subst P (sym p.2) h.1.1),
   )
 
+-- ---- marks
+
+module _ (s : Schema) (one : (a b : EntityId) → IsEntityOf s a → IsEntityOf s b → entity_name s a ≡ entity_name s b → a ≡ b) (rs : List Record) (k : ℕ) (d : Record) (less : k < length rs) (x : EntityId) (known : IsEntityOf s x) (named : entity_name s x ≡ (get_or rs k d).keyword.now) (es : List EntityId) where
+  -- the entity of one record more
+  pub marks_more : ((e : EntityId) → IsEntityOf s e → IsIn es e ↔ IsIn (keywords_of (take k rs)) (entity_name s e)) → (e : EntityId) → IsEntityOf s e → IsIn (x ∷ es) e ↔ IsIn (keywords_of (take (k + 1) rs)) (entity_name s e)
+  marks_more so_far e of =
+      let n = entity_name s e in
+      let taken = any_taken (λ (r : Record). r.keyword.now ≡ n) rs k d less in (
+        λ h. let a : AnyIn (take (k + 1) rs) (λ (r : Record). r.keyword.now ≡ n) = taken.1 (⊎_elim
+            (λ (f : x ≡ e). inr (sym named ∙ ap (entity_name s) f))
+            (λ (i : IsIn es e). inl (out_of_map (λ (r : Record). r.keyword.now) (take k rs) n ((so_far e of).0 i))) h) in
+            subst (IsIn (keywords_of (take (k + 1) rs))) a.2 (in_map (λ (r : Record). r.keyword.now) (take (k + 1) rs) a.0 a.1),
+        λ h. ⊎_elim
+            (λ (a : AnyIn (take k rs) (λ (r : Record). r.keyword.now ≡ n)). inr ((so_far e of).1 (subst (IsIn (keywords_of (take k rs))) a.2 (in_map (λ (r : Record). r.keyword.now) (take k rs) a.0 a.1))))
+            (λ (f : (get_or rs k d).keyword.now ≡ n). inl (one x e known of (named ∙ f)))
+            (taken.0 (out_of_map (λ (r : Record). r.keyword.now) (take (k + 1) rs) n h)),
+      )
+
+  -- the entities above one record more
+  pub above_more : IsWellFormed s → (ids : List EntityId) → NameEntities s ids (entity_at s x).supertypes → ((e : EntityId) → IsEntityOf s e → IsIn es e ↔ AnyIn (take k rs) (IsSubtypeRecord s (entity_name s e))) → (e : EntityId) → IsEntityOf s e → IsIn (ids ++ es) e ↔ AnyIn (take (k + 1) rs) (IsSubtypeRecord s (entity_name s e))
+  above_more w ids are so_far e of =
+      let n = entity_name s e in
+      let taken = any_taken (IsSubtypeRecord s n) rs k d less in
+      let by = supertype_by s w x known ids are.named n in
+      let parts = in_both ids es e in (
+        λ h. taken.1 (⊎_elim
+            (λ (i : IsIn ids e). inr (subst (λ m. IsSupertype s m n) named (by.0 (in_map (entity_name s) ids e i))))
+            (λ (i : IsIn es e). inl ((so_far e of).0 i)) (parts.0 h)),
+        λ h. parts.1 (⊎_elim
+            (λ (a : AnyIn (take k rs) (IsSubtypeRecord s n)). inr ((so_far e of).1 a))
+            (λ (f : IsSubtypeRecord s n (get_or rs k d)).
+            let p = out_of_map (entity_name s) ids n (by.1 (subst (λ m. IsSupertype s m n) (sym named) f)) in
+            inl (subst (IsIn ids) (one p.0 e (are.known p.0 p.1) of p.2) p.1))
+            (taken.0 h)),
+      )
+
 -- ---- the instance
 
 module _ (s : Schema) (name at : ℕ) (rs : List Record) where
@@ -138,16 +177,19 @@ module _ (s : Schema) (name at : ℕ) (rs : List Record) where
   pub complex_set : (b : Bor (List Record)) → b.now ≡ rs → (n : List ℕ) → HasEntity s (set.Complex b) n ↔ IsInSet s (complex_instance name at rs) n
   complex_set b e n = subst (λ l. (IsIn (keywords_of l) n × IsEntity s n) ↔ IsInSet s (complex_instance name at rs) n) (sym e) ((λ h. sets.named (in_keywords n h.0) h.1), set_back)
 
+  pub set_by : (u : EntitySet) → IsSetOfRecords s u rs → (n : List ℕ) → HasEntity s u n ↔ IsInSet s (complex_instance name at rs) n
+  set_by u is n = (λ h. let k = (is n).0 h in sets.named (in_keywords n k.0) k.1, λ h. (is n).1 (set_back h))
+
   pub twice_by : ((k : ℕ) × IsNamedBefore (keywords_of rs) k) ↔ NamesTwice (complex_instance name at rs)
   twice_by = (
     λ h. record { keyword = h.1.0; first = h.1.1; second = h.0; before = h.1.2; there = subst (λ l. slice_get l h.1.1 ≡ Some h.1.0) (sym (written rs)) h.1.3; again = subst (λ l. slice_get l h.0 ≡ Some h.1.0) (sym (written rs)) h.1.4 },
     λ h. (h.second, (h.keyword, h.first, h.before, subst (λ l. slice_get l h.first ≡ Some h.keyword) (written rs) h.there, subst (λ l. slice_get l h.second ≡ Some h.keyword) (written rs) h.again)),
   )
 
-  pub above_by : AnyIn rs (LacksAbove s (IsInSet s (complex_instance name at rs))) ↔ LacksSupertype s (complex_instance name at rs)
-  above_by = (
-    λ h. record { keyword = h.0.keyword.now; supertype = h.2.0; written = keyword_of h.0 h.1; above = h.2.1.0; lacking = h.2.1.1 },
-    λ h. let r = record_of h.keyword h.written in (r.0, r.1, (h.supertype, (subst (λ n. IsSupertype s n h.supertype) (sym r.2) h.above, h.lacking))),
+  pub above_by : (u : EntitySet) → IsSetOfRecords s u rs → AnyIn rs (LacksAbove s (HasEntity s u)) ↔ LacksSupertype s (complex_instance name at rs)
+  above_by u is = (
+    λ h. record { keyword = h.0.keyword.now; supertype = h.2.0; written = keyword_of h.0 h.1; above = h.2.1.0; lacking = λ k. h.2.1.1 ((set_by u is h.2.0).1 k) },
+    λ h. let r = record_of h.keyword h.written in (r.0, r.1, (h.supertype, (subst (λ n. IsSupertype s n h.supertype) (sym r.2) h.above, λ k. h.lacking ((set_by u is h.supertype).0 k)))),
   )
 
   pub below_by : AnyIn rs (LacksBelow s rs) ↔ LacksSubtype s (complex_instance name at rs)
@@ -183,17 +225,17 @@ module _ (s : Schema) (w : IsWellFormed s) (name at : ℕ) (rs : List Record) (k
   pub right_here : length x.params ≡ length os → ¬ (HasWrongCount s (complex_instance name at rs) k)
   right_here h = not_wrong_at s w (complex_instance name at rs) k (plain_record x) there os are (count_all x.params ∙ h)
 
-  pub bad_here : (a : ℕ) (b : Bor (List Record)) → b.now ≡ rs → IsUnfitAt s (HasEntity s (set.Complex b)) os (plain_all x.params) a → HasBadAttribute s (complex_instance name at rs) k a
-  bad_here a b e u = bad_at s w (complex_instance name at rs) k (plain_record x) there os are a (unfit_along s (HasEntity s (set.Complex b)) (IsInSet s (complex_instance name at rs)) os (plain_all x.params) a (complex_set s name at rs b e) u)
+  pub bad_here : (a : ℕ) (u : EntitySet) → IsSetOfRecords s u rs → IsUnfitAt s (HasEntity s u) os (plain_all x.params) a → HasBadAttribute s (complex_instance name at rs) k a
+  bad_here a v is_set u = bad_at s w (complex_instance name at rs) k (plain_record x) there os are a (unfit_along s (HasEntity s v) (IsInSet s (complex_instance name at rs)) os (plain_all x.params) a (set_by s name at rs v is_set) u)
 
-  pub unfit_there : (a : ℕ) (b : Bor (List Record)) → b.now ≡ rs → HasBadAttribute s (complex_instance name at rs) k a → IsUnfitAt s (HasEntity s (set.Complex b)) os (plain_all x.params) a
-  unfit_there a b e u = unfit_along s (IsInSet s (complex_instance name at rs)) (HasEntity s (set.Complex b)) os (plain_all x.params) a (λ n. ((complex_set s name at rs b e n).1, (complex_set s name at rs b e n).0)) (unfit_at s w (complex_instance name at rs) k (plain_record x) there os are a u)
+  pub unfit_there : (a : ℕ) (u : EntitySet) → IsSetOfRecords s u rs → HasBadAttribute s (complex_instance name at rs) k a → IsUnfitAt s (HasEntity s u) os (plain_all x.params) a
+  unfit_there a v is_set u = unfit_along s (IsInSet s (complex_instance name at rs)) (HasEntity s v) os (plain_all x.params) a (λ n. ((set_by s name at rs v is_set n).1, (set_by s name at rs v is_set n).0)) (unfit_at s w (complex_instance name at rs) k (plain_record x) there os are a u)
 
-  pub repeated_here : s.distinct ≡ true → (a : ℕ) (b : Bor (List Record)) → b.now ≡ rs → IsRepeatingAt s (HasEntity s (set.Complex b)) os (plain_all x.params) a → HasRepeatedReference s (complex_instance name at rs) k a
-  repeated_here ruled a b e u = repeated_at s w (complex_instance name at rs) k (plain_record x) there os are ruled a (repeating_along s (HasEntity s (set.Complex b)) (IsInSet s (complex_instance name at rs)) os (plain_all x.params) a (complex_set s name at rs b e) u)
+  pub repeated_here : s.distinct ≡ true → (a : ℕ) (u : EntitySet) → IsSetOfRecords s u rs → IsRepeatingAt s (HasEntity s u) os (plain_all x.params) a → HasRepeatedReference s (complex_instance name at rs) k a
+  repeated_here ruled a v is_set u = repeated_at s w (complex_instance name at rs) k (plain_record x) there os are ruled a (repeating_along s (HasEntity s v) (IsInSet s (complex_instance name at rs)) os (plain_all x.params) a (set_by s name at rs v is_set) u)
 
-  pub repeating_there : (a : ℕ) (b : Bor (List Record)) → b.now ≡ rs → HasRepeatedReference s (complex_instance name at rs) k a → IsRepeatingAt s (HasEntity s (set.Complex b)) os (plain_all x.params) a
-  repeating_there a b e u = repeating_along s (IsInSet s (complex_instance name at rs)) (HasEntity s (set.Complex b)) os (plain_all x.params) a (λ n. ((complex_set s name at rs b e n).1, (complex_set s name at rs b e n).0)) (repeating_at s w (complex_instance name at rs) k (plain_record x) there os are a u)
+  pub repeating_there : (a : ℕ) (u : EntitySet) → IsSetOfRecords s u rs → HasRepeatedReference s (complex_instance name at rs) k a → IsRepeatingAt s (HasEntity s u) os (plain_all x.params) a
+  repeating_there a v is_set u = repeating_along s (IsInSet s (complex_instance name at rs)) (HasEntity s v) os (plain_all x.params) a (λ n. ((set_by s name at rs v is_set n).1, (set_by s name at rs v is_set n).0)) (repeating_at s w (complex_instance name at rs) k (plain_record x) there os are a u)
 
 pub no_wrong_behind : (s : Schema) (name at : ℕ) (rs : List Record) (k : ℕ) → length rs ≤ k → ¬ (HasWrongCount s (complex_instance name at rs) k)
 no_wrong_behind s name at rs k h x = let less = record_below rs k x.entry x.there in absurd (omega arith)

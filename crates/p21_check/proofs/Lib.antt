@@ -39,3 +39,4 @@ pub mod RepeatedNameLemmas
 pub mod RepeatsLemmas
 pub mod ListsLemmas
 pub mod DistinctLemmas
+pub mod MarkLemmas

@@ -3,6 +3,7 @@ pub mod Slot
 pub mod Conforms
 pub mod Repeats
 pub mod RepeatedNames
+pub mod Marks
 pub mod Known
 pub mod Attributes
 pub mod LocalFault

@@ -1,16 +1,16 @@
 //! The fault that a complex instance has by itself.
 
-ghost use Rattle.std.specs.Prelude.{◌≡◌, ◌<◌, ◌↔◌, ◌⊎◌, ℕ, List, Some, Bool, true, false, IsTrue, MatchOption, get_or};
+ghost use Rattle.std.specs.Prelude.{◌≡◌, ◌<◌, ◌↔◌, ◌⊎◌, ℕ, List, Some, Bool, true, false, length, IsTrue, MatchOption, get_or};
 ghost use Rattle.p21_express.specs.WellFormed.{IsIn, IsEntity, IsSupertype};
 ghost use Rattle.p21_schema.specs.Place.{IsEntityOf, entity_name};
-ghost use Rattle.p21_check.specs.EntitySet.{IsInSet};
 ghost use Rattle.p21_check.specs.LocalFault.{IsAbstract, LacksSupertype, LacksSubtype, IsBadComplex};
-ghost use Rattle.p21_check.specs.Instances.{IsAnswer, complex_instance, IsFirstWrong, IsFirstBadAttribute, NamesEntity, IsUnknown, HasRightCount, LacksAbove, IsSubtypeRecord, LacksBelow, IsNamedBefore};
-ghost use Rattle.p21_check.specs.Sets.{keywords_of, HasEntity, AnyIn, EachIn};
+ghost use Rattle.p21_check.specs.Instances.{IsAnswer, complex_instance, IsFirstWrong, IsFirstBadAttribute, NamesEntity, IsUnknown, HasRightCount, LacksAbove, IsSubtypeRecord, LacksBelow, IsNamedBefore, AreMarksAbove};
+ghost use Rattle.p21_check.specs.Sets.{keywords_of, HasEntity, IsSetOf, IsSetOfRecords, AreMarksOfRecords, AnyIn, EachIn};
 
 use crate::attributes::{attribute_count, first_unfit};
 use crate::distinct::check_complex_distinct;
-use crate::entity_set::{EntitySet, is_in_set};
+use crate::entity_set::{EntitySet, is_in_set, is_marked};
+use crate::marks::{FEW, FEW_MARKS, MANY_MARKS, Told, clear, look, put, put_all};
 use p21_schema::{EntityId, Schema};
 use p21_tree::{FaultKind, Record};
 
@@ -21,23 +21,82 @@ pub(crate) fn check_complex(schema: &Schema, records: &[Record<'_>]) -> Result<(
     if has_unknown(schema, records) {
         return Err(FaultKind::UnknownEntity);
     }
-    if is_bad_complex(schema, records) {
+    if records.len() <= FEW {
+        check_few(schema, records)
+    } else {
+        check_many(schema, records)
+    }
+}
+
+// A function pays at its beginning for all its tables, so those of each length stand in one of its own.
+
+fn check_few(schema: &Schema, records: &[Record<'_>]) -> Result<(), FaultKind>
+    requires { EachIn records.now (NamesEntity schema.now) }
+    ensures { (name : ℕ) → (at : ℕ) → IsAnswer schema.now (complex_instance name at records.now) result }
+{
+    let mut marks = [0; FEW_MARKS];
+    let mut above = [0; FEW_MARKS];
+    check_known(schema, &mut marks, &mut above, records)
+}
+
+fn check_many(schema: &Schema, records: &[Record<'_>]) -> Result<(), FaultKind>
+    requires { EachIn records.now (NamesEntity schema.now) }
+    ensures { (name : ℕ) → (at : ℕ) → IsAnswer schema.now (complex_instance name at records.now) result }
+{
+    let mut marks = [0; MANY_MARKS];
+    let mut above = [0; MANY_MARKS];
+    check_known(schema, &mut marks, &mut above, records)
+}
+
+/// Checks a complex instance whose keywords are entities, with a table for the marks of these, and one for those of the entities
+/// above them.
+fn check_known(
+    schema: &Schema,
+    marks: &mut [u8],
+    above: &mut [u8],
+    records: &[Record<'_>],
+) -> Result<(), FaultKind>
+    requires known { EachIn records.now (NamesEntity schema.now) }
+    requires marks { 0 < length marks.old }
+    requires above { 0 < length above.old }
+    ensures { (name : ℕ) → (at : ℕ) → IsAnswer schema.now (complex_instance name at records.now) result }
+{
+    if marks_twice(schema, marks, records) {
         return Err(FaultKind::BadComplex);
     }
+    let set = EntitySet::Marked { records, marks };
+    if lacks_entity(schema, &set, above, records) {
+        return Err(FaultKind::BadComplex);
+    }
+    check_whole(schema, &set, records)
+}
+
+/// Checks a complex instance that has no fault as a whole.
+fn check_whole(
+    schema: &Schema,
+    set: &EntitySet<'_, '_>,
+    records: &[Record<'_>],
+) -> Result<(), FaultKind>
+    requires known { EachIn records.now (NamesEntity schema.now) }
+    requires whole { (name : ℕ) → (at : ℕ) → ¬ (IsBadComplex schema.now (complex_instance name at records.now)) }
+    requires set { IsSetOf schema.now set.now }
+    requires of { IsSetOfRecords schema.now set.now records.now }
+    ensures { (name : ℕ) → (at : ℕ) → IsAnswer schema.now (complex_instance name at records.now) result }
+{
     if let Some(rec) = first_wrong_count(schema, records) {
         return Err(FaultKind::WrongCount { rec: rec as u64 });
     }
-    match first_bad_attribute(schema, records) {
+    match first_bad_attribute(schema, set, records) {
         Some((rec, attr)) => Err(FaultKind::BadAttribute {
             rec: rec as u64,
             attr: attr as u64,
         }),
-        None => check_complex_distinct(schema, records),
+        None => check_complex_distinct(schema, set, records),
     }
 }
 
 /// Whether the keyword of a record is no entity.
-fn has_unknown(schema: &Schema, records: &[Record<'_>]) -> bool
+pub(crate) fn has_unknown(schema: &Schema, records: &[Record<'_>]) -> bool
     ensures some { IsTrue result → AnyIn records.now (IsUnknown schema.now) }
     ensures none { result ≡ false → EachIn records.now (NamesEntity schema.now) }
 {
@@ -66,53 +125,67 @@ pub(crate) fn known(schema: &Schema, name: &[u8]) -> EntityId
     schema.entity(name).unwrap()
 }
 
-/// Whether the instance names an entity twice, or without one of its supertypes, or an abstract one without a subtype.
-fn is_bad_complex(schema: &Schema, records: &[Record<'_>]) -> bool
-    requires { EachIn records.now (NamesEntity schema.now) }
-    ensures { (name : ℕ) → (at : ℕ) → (IsTrue result ↔ IsBadComplex schema.now (complex_instance name at records.now)) }
-{
-    names_twice(records) || lacks_entity(schema, records)
-}
-
-/// Whether an entity stands without one of its supertypes, or an abstract one without a subtype.
-fn lacks_entity(schema: &Schema, records: &[Record<'_>]) -> bool
-    requires { EachIn records.now (NamesEntity schema.now) }
+/// Whether an entity stands without one of its supertypes, or an abstract one without a subtype. The table is for marks.
+fn lacks_entity(
+    schema: &Schema,
+    set: &EntitySet<'_, '_>,
+    above: &mut [u8],
+    records: &[Record<'_>],
+) -> bool
+    requires known { EachIn records.now (NamesEntity schema.now) }
+    requires set { IsSetOf schema.now set.now }
+    requires of { IsSetOfRecords schema.now set.now records.now }
+    requires above { 0 < length above.old }
     ensures { (name : ℕ) → (at : ℕ) → (IsTrue result ↔ (LacksSupertype schema.now (complex_instance name at records.now) ⊎ LacksSubtype schema.now (complex_instance name at records.now))) }
 {
-    lacks_supertype(schema, records) || lacks_subtype(schema, records)
+    mark_supertypes(schema, above, records);
+    lacks_supertype(schema, set, records) || lacks_subtype(schema, above, records)
 }
 
-/// Whether two records have one keyword.
-fn names_twice(records: &[Record<'_>]) -> bool
-    ensures { IsTrue result ↔ ((k : ℕ) × IsNamedBefore (keywords_of records.now) k) }
+/// Whether two records have one keyword. If not, the marks are then those of the entities that they name.
+pub(crate) fn marks_twice(schema: &Schema, marks: &mut [u8], records: &[Record<'_>]) -> bool
+    requires known { EachIn records.now (NamesEntity schema.now) }
+    requires marks { 0 < length marks.old }
+    ensures length { length marks.new ≡ length marks.old }
+    ensures twice { IsTrue result ↔ ((k : ℕ) × IsNamedBefore (keywords_of records.now) k) }
+    ensures marked { result ≡ false → AreMarksOfRecords schema.now marks.new records.now }
 {
+    schema.one_id();
+    clear(marks);
     for k in 0..records.len() {
-        if has_keyword(&records[..k], records[k].keyword) {
+        let entity = known(schema, records[k].keyword);
+        if is_marked(schema, marks, &records[..k], entity) {
             return true;
         }
+        put(marks, entity);
     }
     false
 }
 
-/// Whether a record has this keyword.
-fn has_keyword(records: &[Record<'_>], keyword: &[u8]) -> bool
-    ensures { IsTrue result ↔ IsIn (keywords_of records.now) keyword.now }
+/// Marks the entities that those of the records name in SUBTYPE OF, and no others.
+fn mark_supertypes(schema: &Schema, above: &mut [u8], records: &[Record<'_>])
+    requires known { EachIn records.now (NamesEntity schema.now) }
+    requires above { 0 < length above.old }
+    ensures length { length above.new ≡ length above.old }
+    ensures marked { AreMarksAbove schema.now above.new records.now }
 {
+    schema.fits();
+    schema.one_id();
+    clear(above);
     for record in records {
-        if record.keyword == keyword {
-            return true;
-        }
+        let entity = known(schema, record.keyword);
+        put_all(above, schema.supertypes(entity));
     }
-    false
 }
 
 /// Whether an entity stands without one of its supertypes.
-fn lacks_supertype(schema: &Schema, records: &[Record<'_>]) -> bool
-    requires { EachIn records.now (NamesEntity schema.now) }
-    ensures { (name : ℕ) → (at : ℕ) → (IsTrue result ↔ AnyIn records.now (LacksAbove schema.now (IsInSet schema.now (complex_instance name at records.now)))) }
+fn lacks_supertype(schema: &Schema, set: &EntitySet<'_, '_>, records: &[Record<'_>]) -> bool
+    requires known { EachIn records.now (NamesEntity schema.now) }
+    requires set { IsSetOf schema.now set.now }
+    ensures { IsTrue result ↔ AnyIn records.now (LacksAbove schema.now (HasEntity schema.now set.now)) }
 {
     for record in records {
-        if lacks_above(schema, records, known(schema, record.keyword)) {
+        if lacks_above(schema, set, known(schema, record.keyword)) {
             return true;
         }
     }
@@ -120,27 +193,30 @@ fn lacks_supertype(schema: &Schema, records: &[Record<'_>]) -> bool
 }
 
 /// Whether this entity does.
-fn lacks_above(schema: &Schema, records: &[Record<'_>], entity: EntityId) -> bool
-    requires { IsEntityOf schema.now entity }
-    ensures { (name : ℕ) → (at : ℕ) → (IsTrue result ↔ ((m : List ℕ) × (IsSupertype schema.now (entity_name schema.now entity) m × ¬ (IsInSet schema.now (complex_instance name at records.now) m)))) }
+fn lacks_above(schema: &Schema, set: &EntitySet<'_, '_>, entity: EntityId) -> bool
+    requires set { IsSetOf schema.now set.now }
+    requires entity { IsEntityOf schema.now entity }
+    ensures { IsTrue result ↔ ((m : List ℕ) × (IsSupertype schema.now (entity_name schema.now entity) m × ¬ (HasEntity schema.now set.now m))) }
 {
     schema.fits();
     let supertypes = schema.supertypes(entity);
     for supertype in supertypes {
-        if !is_in_set(schema, &EntitySet::Complex(records), *supertype) {
+        if !is_in_set(schema, set, *supertype) {
             return true;
         }
     }
     false
 }
 
-/// Whether an abstract entity stands without a subtype.
-fn lacks_subtype(schema: &Schema, records: &[Record<'_>]) -> bool
-    requires { EachIn records.now (NamesEntity schema.now) }
+/// Whether an abstract entity stands without a subtype, by the marks of the entities above.
+fn lacks_subtype(schema: &Schema, above: &[u8], records: &[Record<'_>]) -> bool
+    requires known { EachIn records.now (NamesEntity schema.now) }
+    requires above { 0 < length above.now }
+    requires marked { AreMarksAbove schema.now above.now records.now }
     ensures { IsTrue result ↔ AnyIn records.now (LacksBelow schema.now records.now) }
 {
     for record in records {
-        if lacks_below(schema, records, known(schema, record.keyword)) {
+        if lacks_below(schema, above, records, known(schema, record.keyword)) {
             return true;
         }
     }
@@ -148,13 +224,30 @@ fn lacks_subtype(schema: &Schema, records: &[Record<'_>]) -> bool
 }
 
 /// Whether this entity does.
-fn lacks_below(schema: &Schema, records: &[Record<'_>], entity: EntityId) -> bool
+fn lacks_below(schema: &Schema, above: &[u8], records: &[Record<'_>], entity: EntityId) -> bool
     requires entity { IsEntityOf schema.now entity }
     requires known { EachIn records.now (NamesEntity schema.now) }
+    requires above { 0 < length above.now }
+    requires marked { AreMarksAbove schema.now above.now records.now }
     ensures { IsTrue result ↔ (IsAbstract schema.now (entity_name schema.now entity) × ¬ (AnyIn records.now (IsSubtypeRecord schema.now (entity_name schema.now entity)))) }
 {
     schema.fits();
-    schema.is_abstract(entity) && !has_subtype(schema, records, entity)
+    schema.is_abstract(entity) && !has_subtype_by(schema, above, records, entity)
+}
+
+/// Whether a record is of a subtype, by the marks of the entities above.
+fn has_subtype_by(schema: &Schema, above: &[u8], records: &[Record<'_>], entity: EntityId) -> bool
+    requires entity { IsEntityOf schema.now entity }
+    requires known { EachIn records.now (NamesEntity schema.now) }
+    requires above { 0 < length above.now }
+    requires marked { AreMarksAbove schema.now above.now records.now }
+    ensures { IsTrue result ↔ AnyIn records.now (IsSubtypeRecord schema.now (entity_name schema.now entity)) }
+{
+    match look(above, entity) {
+        Told::Absent => false,
+        Told::Present => true,
+        Told::Unknown => has_subtype(schema, records, entity),
+    }
 }
 
 /// Whether a record is of a subtype.
@@ -206,17 +299,22 @@ fn first_wrong_count(schema: &Schema, records: &[Record<'_>]) -> Option<usize>
 }
 
 /// The place of the first record with a parameter that does not fit, and of that parameter.
-fn first_bad_attribute(schema: &Schema, records: &[Record<'_>]) -> Option<(usize, usize)>
+fn first_bad_attribute(
+    schema: &Schema,
+    set: &EntitySet<'_, '_>,
+    records: &[Record<'_>],
+) -> Option<(usize, usize)>
     requires known { EachIn records.now (NamesEntity schema.now) }
     requires right { EachIn records.now (HasRightCount schema.now) }
+    requires set { IsSetOf schema.now set.now }
+    requires of { IsSetOfRecords schema.now set.now records.now }
     ensures { (name : ℕ) → (at : ℕ) → IsFirstBadAttribute schema.now (complex_instance name at records.now) result }
 {
     schema.fits();
-    let set = EntitySet::Complex(records);
     for k in 0..records.len() {
         let record = &records[k];
         let entity = known(schema, record.keyword);
-        if let Some(attr) = first_unfit(schema, &set, true, entity, record.params.as_slice()) {
+        if let Some(attr) = first_unfit(schema, set, true, entity, record.params.as_slice()) {
             return Some((k, attr));
         }
     }

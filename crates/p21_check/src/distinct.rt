@@ -10,7 +10,7 @@ ghost use Rattle.p21_schema.specs.Row.{IsAttributeOf, attribute_at};
 ghost use Rattle.p21_check.specs.Attributes.{AreAttributes};
 ghost use Rattle.p21_check.specs.Instances.{complex_instance, simple_instance, HasRightCount, IsDistinctAnswer, IsFirstRepeating, NamesEntity};
 ghost use Rattle.p21_check.specs.Repeats.{RepeatsByForm, RepeatsInSlot};
-ghost use Rattle.p21_check.specs.Sets.{AnyIn, CountsAmong, EachIn, HasEntity, IsNotDerived, IsSetOf, RepeatsCounting};
+ghost use Rattle.p21_check.specs.Sets.{AnyIn, CountsAmong, EachIn, HasEntity, IsNotDerived, IsSetOf, IsSetOfRecords, RepeatsCounting};
 
 use crate::attributes::attribute;
 use crate::binding::binding;
@@ -47,24 +47,26 @@ pub(crate) fn check_simple_distinct(
     }
 }
 
-/// The first repeated reference of a complex instance, by its records.
+/// The first repeated reference of a complex instance, by its records and the set of what they name.
 pub(crate) fn check_complex_distinct(
     schema: &Schema,
+    set: &EntitySet<'_, '_>,
     records: &[Record<'_>],
 ) -> Result<(), FaultKind>
     requires known { EachIn records.now (NamesEntity schema.now) }
     requires right { EachIn records.now (HasRightCount schema.now) }
+    requires set { IsSetOf schema.now set.now }
+    requires of { IsSetOfRecords schema.now set.now records.now }
     ensures { (name : ℕ) → (at : ℕ) → IsDistinctAnswer schema.now (complex_instance name at records.now) result }
 {
     schema.fits();
     if !schema.distinct() {
         return Ok(());
     }
-    let set = EntitySet::Complex(records);
     for rec in 0..records.len() {
         let record = &records[rec];
         let entity = known(schema, record.keyword);
-        if let Some(attr) = first_repeating(schema, &set, true, entity, record.params.as_slice()) {
+        if let Some(attr) = first_repeating(schema, set, true, entity, record.params.as_slice()) {
             return Err(FaultKind::RepeatedReference {
                 rec: rec as u64,
                 attr: attr as u64,

@@ -14,6 +14,7 @@ mod judge;
 mod laws;
 mod lists;
 mod local;
+mod marks;
 mod references;
 mod repeated_names;
 mod repeats;

@@ -9,7 +9,7 @@ ghost use Rattle.p21_tree.specs.Plain.{plain, plain_all};
 ghost use Rattle.p21_schema.specs.Declaration.{Declaration as Declared, Form as DeclaredForm, AreDeclarations, AreResolvedIn, IsResolvedDeclaration, IsResolvedForm};
 ghost use Rattle.p21_schema.specs.Place.{IsEntityOf, entity_name};
 ghost use Rattle.p21_schema.specs.Row.{IsAttributeOf, attribute_at};
-ghost use Rattle.p21_check.specs.Sets.{HasEntity, IsNotDerived, IsSetOf};
+ghost use Rattle.p21_check.specs.Sets.{HasEntity, IsSetOfRecords, IsNotDerived, IsSetOf};
 ghost use Rattle.p21_check.specs.Asked.{AsksAsCounted, AsksByForm, AskedBy, FindsFirst, FindsInRecord, IsReferenceAnswer};
 ghost use Rattle.p21_check.specs.Instances.{simple_instance, complex_instance};
 ghost use Rattle.p21_check.specs.EntityOf.{IsSimpleEntity};
@@ -19,9 +19,11 @@ ghost use Rattle.p21_check.specs.Wanted.{Asks, IsAsked};
 
 use crate::attributes::{attribute, attribute_count};
 use crate::binding::binding;
+use crate::complex::{has_unknown, marks_twice};
 use crate::entity_of::{EntityOf, simple_entity};
 use crate::entity_set::{EntitySet, is_in_set};
 use crate::judge::{Entities, Keywords};
+use crate::marks::{FEW, MANY_MARKS};
 use crate::slot::{counts, is_derived};
 use crate::walk::{Bad, Judge, may_refer, walk};
 use crate::wanted::{Wanted, wanted_by};
@@ -125,13 +127,58 @@ fn complex_references<J: Judge>(
     requires local { (name : ℕ) × (at : ℕ) × IsLocalFault schema.now (complex_instance name at records.now) None }
     ensures { (name : ℕ) → (at : ℕ) → IsReferenceAnswer schema.now (J.named judge.now) (complex_instance name at records.now) result }
 {
+    if records.len() <= FEW {
+        return records_references(schema, &EntitySet::Complex(records), records, judge);
+    }
+    many_references(schema, records, judge)
+}
+
+// A function pays at its beginning for its table, so this stands in one of its own.
+
+/// The first reference at fault of a complex instance of many records.
+fn many_references<J: Judge>(
+    schema: &Schema,
+    records: &[Record<'_>],
+    judge: &J,
+) -> Result<(), FaultKind>
+    requires same { J.table judge.now ≡ schema.now }
+    requires local { (name : ℕ) × (at : ℕ) × IsLocalFault schema.now (complex_instance name at records.now) None }
+    ensures { (name : ℕ) → (at : ℕ) → IsReferenceAnswer schema.now (J.named judge.now) (complex_instance name at records.now) result }
+{
+    let mut marks = [0; MANY_MARKS];
+    // Neither is so, since the instance has no fault by itself.
+    if has_unknown(schema, records) {
+        return Ok(());
+    }
+    if marks_twice(schema, &mut marks, records) {
+        return Ok(());
+    }
+    let set = EntitySet::Marked {
+        records,
+        marks: &marks,
+    };
+    records_references(schema, &set, records, judge)
+}
+
+/// The first reference at fault of a complex instance, by its records and the set of what they name.
+fn records_references<J: Judge>(
+    schema: &Schema,
+    set: &EntitySet<'_, '_>,
+    records: &[Record<'_>],
+    judge: &J,
+) -> Result<(), FaultKind>
+    requires same { J.table judge.now ≡ schema.now }
+    requires local { (name : ℕ) × (at : ℕ) × IsLocalFault schema.now (complex_instance name at records.now) None }
+    requires set { IsSetOf schema.now set.now }
+    requires of { IsSetOfRecords schema.now set.now records.now }
+    ensures { (name : ℕ) → (at : ℕ) → IsReferenceAnswer schema.now (J.named judge.now) (complex_instance name at records.now) result }
+{
     schema.fits();
-    let set = EntitySet::Complex(records);
     for (rec, record) in records.iter().enumerate() {
         let Some(own) = schema.entity(record.keyword) else {
             return Ok(());
         };
-        if let Err(kind) = entry(schema, &set, true, own, rec as u64, record, judge) {
+        if let Err(kind) = entry(schema, set, true, own, rec as u64, record, judge) {
             return Err(kind);
         }
     }

@@ -10,4 +10,6 @@ mod header_tests;
 #[cfg(test)]
 mod local_tests;
 #[cfg(test)]
+mod many_records_tests;
+#[cfg(test)]
 mod tables;

@@ -12,7 +12,7 @@ use Rattle.p21_check.proofs.complex.lacks_subtype.Goals as goal
 pub known-requires : goal.known-requires
 known-requires c =
     let x = c.record-item.result in
-    c.requires x (subst (IsIn c.args.records.now) (sym c.record-item.is) (at_index c.args.records.now c.loop-record.record-index x c.loop-record-test.true))
+    c.requires.known x (subst (IsIn c.args.records.now) (sym c.record-item.is) (at_index c.args.records.now c.loop-record.record-index x c.loop-record-test.true))
 
 pub returns-then-lacks_below : goal.returns-then-lacks_below
 returns-then-lacks_below c =

@@ -4,7 +4,6 @@ use Rattle.p21_tree.specs.Plain.{plain_all}
 use Rattle.p21_tree.specs.declared.params.Param.{Param}
 use Rattle.p21_schema.specs.Place.{entity_name}
 use Rattle.p21_check.specs.LocalFault.{HasRepeatedReference}
-use Rattle.p21_check.specs.declared.entity_set.EntitySet.TheVariants as set
 use Rattle.p21_check.specs.Attributes.{AreAttributes}
 use Rattle.p21_check.specs.Sets.{HasEntity}
 use Rattle.p21_check.specs.Instances.{complex_instance, IsFirstRepeating}
@@ -45,15 +44,15 @@ returns-in-Some c = λ name at.
     let among : IsIn rs x = subst (IsIn rs) (sym c.index-records-rec.is) (at_index rs k x less) in
     let right = c.requires.right x among in
     let are : AreAttributes c.args.schema.now true (entity_name c.args.schema.now c.known-entity.result) right.0 = subst (λ n. AreAttributes c.args.schema.now true n right.0) (sym c.known-entity.ensures.1) right.1.0 in
-    let found = subst (λ (l : List Param). IsFirstRepeating c.args.schema.now (HasEntity c.args.schema.now (set.Complex c.args.records)) right.0 (plain_all l) (Some c.in-Some.attr)) c.as_slice.ensures (c.in-Some.ensures right.0 are) in
+    let found = subst (λ (l : List Param). IsFirstRepeating c.args.schema.now (HasEntity c.args.schema.now c.args.set.now) right.0 (plain_all l) (Some c.in-Some.attr)) c.as_slice.ensures (c.in-Some.ensures right.0 are) in
     let ruled : c.args.schema.now.distinct ≡ true = sym c.distinct.ensures ∙ c.if-not-distinct.false in
     record {
       rec_ = k;
       attr = c.in-Some.attr;
       is = refl;
-      repeated = repeated_here c.args.schema.now c.fits.ensures name at rs k x less c.index-records-rec.is right.0 right.1.0 ruled c.in-Some.attr c.args.records refl found.0;
+      repeated = repeated_here c.args.schema.now c.fits.ensures name at rs k x less c.index-records-rec.is right.0 right.1.0 ruled c.in-Some.attr c.args.set.now c.requires.of found.0;
       records = c.loop-rec.invariant name at;
-      attributes = λ b h bad. found.1 b h (repeating_there c.args.schema.now c.fits.ensures name at rs k x less c.index-records-rec.is right.0 right.1.0 b c.args.records refl bad);
+      attributes = λ b h bad. found.1 b h (repeating_there c.args.schema.now c.fits.ensures name at rs k x less c.index-records-rec.is right.0 right.1.0 b c.args.set.now c.requires.of bad);
     }
 
 pub loop-rec-preserved : goal.loop-rec-preserved
@@ -65,9 +64,9 @@ loop-rec-preserved c = λ name at q b h bad.
     let among : IsIn rs x = subst (IsIn rs) (sym c.index-records-rec.is) (at_index rs k x less) in
     let right = c.requires.right x among in
     let are : AreAttributes c.args.schema.now true (entity_name c.args.schema.now c.known-entity.result) right.0 = subst (λ n. AreAttributes c.args.schema.now true n right.0) (sym c.known-entity.ensures.1) right.1.0 in
-    let none = subst (λ (l : List Param). IsFirstRepeating c.args.schema.now (HasEntity c.args.schema.now (set.Complex c.args.records)) right.0 (plain_all l) None) c.as_slice.ensures (c.in_default.ensures right.0 are) in
+    let none = subst (λ (l : List Param). IsFirstRepeating c.args.schema.now (HasEntity c.args.schema.now c.args.set.now) right.0 (plain_all l) None) c.as_slice.ensures (c.in_default.ensures right.0 are) in
     none_more (λ (q : ℕ). (b : ℕ) × HasRepeatedReference c.args.schema.now (complex_instance name at rs) q b) k (λ q l u. c.loop-rec.invariant name at q u.0 l u.1)
-    (λ u. none u.0 (repeating_there c.args.schema.now c.fits.ensures name at rs k x less c.index-records-rec.is right.0 right.1.0 u.0 c.args.records refl u.1)) q h (b, bad)
+    (λ u. none u.0 (repeating_there c.args.schema.now c.fits.ensures name at rs k x less c.index-records-rec.is right.0 right.1.0 u.0 c.args.set.now c.requires.of u.1)) q h (b, bad)
 
 pub returns : goal.returns
 returns c = λ name at q b bad.

@@ -2,7 +2,7 @@ use Rattle.std.proofs.Common.{ℕ, ◌<◌}
 use Rattle.p21_tree.specs.declared.faults.FaultKind.{FaultKind}
 use Rattle.p21_check.specs.Instances.{complex_instance}
 use Rattle.p21_check.specs.References.{HasFaultAt}
-use Rattle.p21_check.proofs.references.complex_references.Given as goal
+use Rattle.p21_check.proofs.references.records_references.Given as goal
 
 -- the records before this one have no fault
 abbrev pub invariant-loop-rec : goal.invariant-loop-rec

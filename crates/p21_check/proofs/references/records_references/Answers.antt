@@ -2,13 +2,12 @@ use Rattle.std.proofs.Common.{◌≡◌, ◌≤◌, Some, refl, sym, ap, subst, 
 use Rattle.std.specs.Prelude.{slice_get}
 use Rattle.std.proofs.lemmas.List.{length-map}
 use Rattle.p21_tree.specs.Views.{plain_record}
-use Rattle.p21_check.specs.declared.entity_set.EntitySet.TheVariants as set
 use Rattle.p21_check.specs.Sets.{HasEntity}
 use Rattle.p21_check.specs.Instances.{complex_instance}
 use Rattle.p21_check.proofs.ElementLemmas.{count_all}
-use Rattle.p21_check.proofs.ComplexLemmas.{complex_set, record_at}
+use Rattle.p21_check.proofs.ComplexLemmas.{set_by, record_at}
 use Rattle.p21_check.proofs.RecordLemmas.{record_known, record_counted, none_in_record, first_in_record, one_more, all_before}
-use Rattle.p21_check.proofs.references.complex_references.Goals as goal
+use Rattle.p21_check.proofs.references.records_references.Goals as goal
 
 pub returns-in_default : goal.returns-in_default
 returns-in_default g c name at =
@@ -42,7 +41,7 @@ returns-in-Err g c name at =
     let q = c.loop-rec.rec in
     let there : slice_get i.records q ≡ Some e = record_at rs q d c.loop-rec-test.true ∙ ap (λ r. Some (plain_record r)) (sym c.index-records-rec.is) in
     let some = c.in-Err.ensures.attributes in
-    first_in_record s c.fits.ensures (g.J.Judge.named c.args.judge.now) i (HasEntity s (set.Complex c.args.records)) (complex_set s name at rs c.args.records refl) q e there some.0 c.in-Err.kind some.1 (c.loop-rec.invariant name at) (c.in-Err.ensures.found some.0 some.1)
+    first_in_record s c.fits.ensures (g.J.Judge.named c.args.judge.now) i (HasEntity s c.args.set.now) (set_by s name at rs c.args.set.now c.requires.of) q e there some.0 c.in-Err.kind some.1 (c.loop-rec.invariant name at) (c.in-Err.ensures.found some.0 some.1)
 
 pub loop-rec-preserved : goal.loop-rec-preserved
 loop-rec-preserved g c name at =
@@ -54,7 +53,7 @@ loop-rec-preserved g c name at =
     let q = c.loop-rec.rec in
     let named = g.J.Judge.named c.args.judge.now in
     let there : slice_get i.records q ≡ Some e = record_at rs q d c.loop-rec-test.true ∙ ap (λ r. Some (plain_record r)) (sym c.index-records-rec.is) in
-    one_more s named i q (c.loop-rec.invariant name at) (none_in_record s c.fits.ensures named i (HasEntity s (set.Complex c.args.records)) (complex_set s name at rs c.args.records refl) q e there c.in_default-entry.ensures.found)
+    one_more s named i q (c.loop-rec.invariant name at) (none_in_record s c.fits.ensures named i (HasEntity s c.args.set.now) (set_by s name at rs c.args.set.now c.requires.of) q e there c.in_default-entry.ensures.found)
 
 pub returns : goal.returns
 returns g c name at =
