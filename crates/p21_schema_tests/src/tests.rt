@@ -544,3 +544,21 @@ fn memory_or_the_answer(rt: HostRuntime) -> Result<(), Fail> {
     }
     Ok(())
 }
+
+/// The same of what binds attributes.
+#[test]
+fn memory_or_the_answer_of_bindings(rt: HostRuntime) -> Result<(), Fail> {
+    let declarations = match read_declarations(rt.alloc(), BOUND) {
+        Ok(declarations) => declarations,
+        Err(error) => {
+            assert_eq!(rt; error, SchemaError::Memory);
+            return Ok(());
+        }
+    };
+    if let Ok(schema) = Schema::build(rt.alloc(), declarations, Rules { distinct: true }) {
+        assert!(rt; is_bound(&schema, b"A", b"F", Bound::By(b"C"))?);
+        assert!(rt; is_bound(&schema, b"A", b"G", Bound::Derived)?);
+        assert!(rt; is_bound(&schema, b"K", b"N", Bound::Unsaid)?);
+    }
+    Ok(())
+}
