@@ -5,7 +5,7 @@ use p21_check::check_local;
 use p21_schema::Schema;
 use p21_tree::{FaultKind, Piece, read_piece};
 use std::alloc::{AllocError, Global};
-use std::test::{Fail, assert_eq};
+use std::test::Fail;
 
 /// More than the marks of an instance of few records.
 const ENTITIES: u64 = 1100;
@@ -31,9 +31,17 @@ fn numbered(
 
 /// The table of many entities below one, and of an abstract one with its subtype.
 fn many(alloc: Global) -> Result<Schema, Fail> {
-    let entities = numbered(alloc, b"ENTITY E", b" SUBTYPE OF (A); END_ENTITY;", 0, ENTITIES)?;
+    let entities = numbered(
+        alloc,
+        b"ENTITY E",
+        b" SUBTYPE OF (A); END_ENTITY;",
+        0,
+        ENTITIES,
+    )?;
     let mut text = Vec::new(alloc);
-    text.extend_from_slice(b"SCHEMA MANY; ENTITY A; END_ENTITY; ENTITY P ABSTRACT SUPERTYPE; END_ENTITY;")?;
+    text.extend_from_slice(
+        b"SCHEMA MANY; ENTITY A; END_ENTITY; ENTITY P ABSTRACT SUPERTYPE; END_ENTITY;",
+    )?;
     text.extend_from_slice(&entities)?;
     text.extend_from_slice(b"ENTITY C SUBTYPE OF (P); END_ENTITY; END_SCHEMA;")?;
     Ok(table(alloc, &text).ok_or("a schema")?)
@@ -84,7 +92,11 @@ fn many_records(rt: HostRuntime) -> Result<(), Fail> {
         (b"E1024()A()", (0, 17), b"E0000()", bad),
     ];
     for (front, numbers, back, want) in rows {
-        assert_eq!(rt; fault(alloc, &schema, front, numbers, back)?, want, "{front:?} {numbers:?} {back:?}");
+        assert_eq!(rt;
+            fault(alloc, &schema, front, numbers, back)?,
+            want,
+            "{front:?} {numbers:?} {back:?}"
+        );
     }
     Ok(())
 }
