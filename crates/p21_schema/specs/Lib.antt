@@ -15,3 +15,5 @@ pub mod DeclarationTable
 pub mod Select
 pub mod SelectItems
 pub mod SelectTable
+pub mod Items
+pub mod ItemTable

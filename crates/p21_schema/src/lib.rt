@@ -5,6 +5,7 @@ mod ancestry;
 mod declarations;
 mod graph;
 mod ids;
+mod items;
 mod names;
 mod ranges;
 mod reach;

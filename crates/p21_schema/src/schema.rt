@@ -6,6 +6,7 @@ use crate::ancestry::{descents, supertype_ids, supertypes};
 use crate::declarations::{Declaration, Known, all_declarations};
 use crate::graph::order;
 use crate::ids::{AttrId, EntityId, TypeId};
+use crate::items::{is_among, item_rows};
 use crate::names::{Names, entity_names, type_names};
 use crate::ranges::covers;
 use crate::reach::Reach;
@@ -35,6 +36,8 @@ pub struct Schema {
     /// The place of the type at which the way from each type ends, by the names that alone stand under types.
     ends: Vec<usize>,
     unders: Vec<Resolved>,
+    /// For each type the items of its ENUMERATION in the order of their bytes.
+    items: Vec<Vec<Vec<u8>>>,
     selects: Selects,
 }
 
@@ -69,6 +72,7 @@ impl Drop for Schema {
             attributes: _,
             ends: _,
             unders: _,
+            items: _,
             selects: _,
         } = self;
     }
@@ -82,6 +86,7 @@ impl Schema {
     ghost use Rattle.p21_schema.specs.declared.ids.TypeId.{TypeId};
     ghost use Rattle.p21_schema.specs.Place.{entity_at, entity_name, IsEntityOf, type_name, IsTypeOf};
     ghost use Rattle.p21_schema.specs.Under.{StandsUnder, IsResolvedIn};
+    ghost use Rattle.p21_schema.specs.Items.{HasItem};
     ghost use Rattle.p21_express.specs.Schema.{Underlying};
     ghost use Rattle.p21_schema.specs.Ancestry.{NameEntities, IsA};
     ghost use Rattle.p21_schema.specs.Row.{IsRow, IsAttributeOf, attribute_at, own_attributes};
@@ -132,6 +137,7 @@ impl Schema {
         };
         let attributes = all_declarations(alloc, &known, lists)?;
         let selects = select_tables(alloc, &unders, declarations.entities.len(), &descents)?;
+        let items = item_rows(alloc, &declarations.types)?;
         Ok(Schema {
             declarations,
             rules,
@@ -144,6 +150,7 @@ impl Schema {
             attributes,
             ends,
             unders,
+            items,
             selects,
         })
     }
@@ -270,6 +277,14 @@ impl Schema {
         ensures { (under : Underlying) × (StandsUnder self.now (type_name self.now id) under × IsResolvedIn self.now result.now under) }
     {
         &self.unders[self.ends[id.index]]
+    }
+
+    /// Whether an ENUMERATION stands under the type, and the name is one of its items.
+    pub fn has_item(&self, id: TypeId, name: &[u8]) -> bool
+        requires { IsTypeOf self.now id }
+        ensures { IsTrue result ↔ HasItem self.now (type_name self.now id) name.now }
+    {
+        is_among(&self.items[self.ends[id.index]], name)
     }
 
     /// All declarations of an attribute, in the order of the text: the one that newly declares it, and each that declares it
