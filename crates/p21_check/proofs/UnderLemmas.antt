@@ -13,6 +13,7 @@ use Rattle.p21_schema.specs.declared.resolved.Resolved.TheVariants as resolved
 use Rattle.p21_schema.specs.Resolved.{resolved_expr}
 use Rattle.p21_schema.specs.Under.{StandsUnder, IsNoName, IsResolvedIn}
 use Rattle.p21_schema.specs.Under as under
+use Rattle.p21_schema.specs.Items.{IsItemOf, HasItem}
 use Rattle.p21_check.specs.Conforms.{Conforms}
 use Rattle.p21_check.specs.Known.{IsExpr}
 use Rattle.p21_check.proofs.Sizes.{rank, low, low_rank}
@@ -45,11 +46,19 @@ plain_there s x (type.items ns) h = absurd h
 plain_there s x (type.select ns) h = absurd h
 plain_there s x (type.plain e) h = (e, refl, h)
 
+item_conforms : (s : Schema) → IsWellFormed s → (n x : List ℕ) (t : Tree) (u : Underlying) → t ≡ tree.enumeration x → StandsUnder s n u → IsItemOf u x → Conforms s (type.named n) t
+item_conforms s w n x t (type.items ns) e stands i = (under_by s w t stands).0 (x, e, i)
+item_conforms s w n x t (type.select ns) e stands i = absurd i
+item_conforms s w n x t (type.plain y) e stands i = absurd i
+
 module _ (s : Schema) (w : IsWellFormed s) (n : List ℕ) (r : Resolved) (u : Underlying) (stands : StandsUnder s n u) (is : IsResolvedIn s r u) where
-  pub by_items : (v : Vec (Vec ℕ Global) Global) (ns : List (Vec ℕ Global)) (t : Tree) → r ≡ resolved.Items v → ns ≡ v.items → ((x : List ℕ) × (t ≡ tree.enumeration x) × IsIn (map (λ (y : Vec ℕ Global). y.items) ns) x) ↔ Conforms s (type.named n) t
-  by_items v ns t e f =
-      let found : type.items (map (λ (y : Vec ℕ Global). y.items) ns) ≡ u = ap (λ l. type.items (map (λ (y : Vec ℕ Global). y.items) l)) f ∙ items_there s v u (subst (λ x. IsResolvedIn s x u) e is) in
-      subst (λ x. FitsUnder s n x t ↔ Conforms s (type.named n) t) (sym found) (under_by s w t stands)
+  pub by_items : (v : Vec (Vec ℕ Global) Global) (t : Tree) → r ≡ resolved.Items v → ((x : List ℕ) × (t ≡ tree.enumeration x) × HasItem s n x) ↔ Conforms s (type.named n) t
+  by_items v t e =
+      let found : type.items (map (λ (y : Vec ℕ Global). y.items) v.items) ≡ u = items_there s v u (subst (λ x. IsResolvedIn s x u) e is) in
+      let there : FitsUnder s n (type.items (map (λ (y : Vec ℕ Global). y.items) v.items)) t ↔ Conforms s (type.named n) t = subst (λ x. FitsUnder s n x t ↔ Conforms s (type.named n) t) (sym found) (under_by s w t stands) in (
+        λ h. item_conforms s w n h.0 t h.2.under h.1 h.2.stands h.2.item,
+        λ c. let h = there.1 c in (h.0, h.1, record { under = type.items (map (λ (y : Vec ℕ Global). y.items) v.items); stands = subst (StandsUnder s n) (sym found) stands; item = h.2 }),
+      )
 
   pub is_select : (v : Vec Target Global) → r ≡ resolved.Select v → IsSelect s n
   is_select v e =

@@ -1,12 +1,13 @@
 //! Whether a parameter conforms to a type.
 
-ghost use Rattle.std.specs.Prelude.{◌≡◌, ◌↔◌, ℕ, List, Bool, true, IsTrue, map};
+ghost use Rattle.std.specs.Prelude.{◌≡◌, ◌↔◌, ℕ, List, Bool, true, IsTrue};
 ghost use Rattle.p21_tree.specs.Tree.{absent, enumeration};
 ghost use Rattle.p21_express.specs.Schema.{Expr, Aggregate, array, aggregate, named};
-ghost use Rattle.p21_express.specs.WellFormed.{IsIn, IsSelect};
+ghost use Rattle.p21_express.specs.WellFormed.{IsSelect};
 ghost use Rattle.p21_tree.specs.Plain.{plain, plain_all};
 ghost use Rattle.p21_tree.specs.Bodies.{HasBodies, AllHaveBodies};
 ghost use Rattle.p21_schema.specs.Place.{IsTypeOf, type_name};
+ghost use Rattle.p21_schema.specs.Items.{HasItem};
 ghost use Rattle.p21_check.specs.Conforms.{Conforms, AreElements};
 ghost use Rattle.p21_check.specs.Known.{IsExpr, IsKnownExpr, IsTarget, IsKnownTarget, IsCollection, IsElement};
 
@@ -145,7 +146,7 @@ fn is_defined(schema: &Schema, id: TypeId, param: &Param<'_>) -> bool
 {
     schema.fits();
     match schema.under(id) {
-        Resolved::Items(names) => is_item(names, param),
+        Resolved::Items(_) => is_item(schema, id, param),
         Resolved::Select(_) => is_selected(schema, id, param),
         Resolved::Plain(texpr) => conforms(schema, texpr, param),
     }
@@ -170,24 +171,13 @@ fn is_selected(schema: &Schema, select: TypeId, param: &Param<'_>) -> bool
     }
 }
 
-/// Whether a parameter is an enumeration by one of these names.
-fn is_item(names: &[Vec<u8>], param: &Param<'_>) -> bool
-    ensures { IsTrue result ↔ ((v : List ℕ) × (plain param.now ≡ enumeration v) × IsIn (map (λ n. n.items) names.now) v) }
+/// Whether a parameter is an enumeration by an item of the type.
+fn is_item(schema: &Schema, id: TypeId, param: &Param<'_>) -> bool
+    requires { IsTypeOf schema.now id }
+    ensures { IsTrue result ↔ ((v : List ℕ) × (plain param.now ≡ enumeration v) × HasItem schema.now (type_name schema.now id) v) }
 {
     match param {
-        Param::Enumeration(name) => has_name(names, name),
+        Param::Enumeration(name) => schema.has_item(id, name),
         _ => false,
     }
-}
-
-/// Whether the name is one of these.
-fn has_name(names: &[Vec<u8>], name: &[u8]) -> bool
-    ensures { IsTrue result ↔ IsIn (map (λ n. n.items) names.now) name.now }
-{
-    for other in names {
-        if other.as_slice() == name {
-            return true;
-        }
-    }
-    false
 }

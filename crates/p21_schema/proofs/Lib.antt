@@ -7,6 +7,7 @@ pub mod AncestryLemmas
 pub mod RowLemmas
 pub mod UnderLemmas
 pub mod IdLemmas
+pub mod ItemLemmas
 pub mod DeclarationLemmas
 pub mod SelectLemmas
 pub mod Examples

@@ -18,3 +18,5 @@ pub mod Spans
 pub mod Select
 pub mod SelectItems
 pub mod SelectTable
+pub mod Items
+pub mod ItemTable

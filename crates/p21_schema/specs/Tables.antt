@@ -8,6 +8,7 @@ use Rattle.p21_schema.specs.Graph.{rows_of}
 use Rattle.p21_schema.specs.Rules.{with_rules}
 use Rattle.p21_schema.specs.RowTable.{IsOwnTable, IsRowTable}
 use Rattle.p21_schema.specs.Under.{AreEnds, AreResolved}
+use Rattle.p21_schema.specs.ItemTable.{AreNamesRows}
 use Rattle.p21_schema.specs.Ancestry.{IsSupertypeTable, IsDescentTable}
 use Rattle.p21_schema.specs.Declaration.{written}
 use Rattle.p21_schema.specs.DeclarationTable.{IsDeclarationTable}
@@ -30,4 +31,5 @@ pub record AreTables (a : Inside) : Type 0 where
   pub bindings : IsBindingTable a.descents (rows_of a.attributes) a.bindings.items
   pub ends : AreEnds (schema_of a) a.ends.items
   pub resolved : AreResolved (map (λ e. e.name) (schema_of a).entities) (map (λ t. t.name) (schema_of a).types) a.unders.items (schema_of a).types
+  pub items : AreNamesRows a.items.items (schema_of a).types
   pub selects : AreSelectTables (schema_of a) a.descents a.selects

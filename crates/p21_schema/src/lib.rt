@@ -6,6 +6,7 @@ mod bindings;
 mod declarations;
 mod graph;
 mod ids;
+mod items;
 mod names;
 mod ranges;
 mod reach;

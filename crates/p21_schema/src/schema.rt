@@ -7,6 +7,7 @@ use crate::bindings::{Binding, all_bindings, binding_at};
 use crate::declarations::{Declaration, Known, all_declarations};
 use crate::graph::order;
 use crate::ids::{AttrId, EntityId, TypeId};
+use crate::items::{is_among, item_rows};
 use crate::names::{Names, entity_names, type_names};
 use crate::ranges::covers;
 use crate::reach::Reach;
@@ -40,6 +41,8 @@ pub struct Schema {
     /// The place of the type at which the way from each type ends, by the names that alone stand under types.
     ends: Vec<usize>,
     unders: Vec<Resolved>,
+    /// For each type the items of its ENUMERATION in the order of their bytes.
+    items: Vec<Vec<Vec<u8>>>,
     selects: Selects,
 }
 
@@ -75,6 +78,7 @@ impl Drop for Schema {
             bindings: _,
             ends: _,
             unders: _,
+            items: _,
             selects: _,
         } = self;
     }
@@ -88,6 +92,7 @@ impl Schema {
     ghost use Rattle.p21_schema.specs.declared.ids.TypeId.{TypeId};
     ghost use Rattle.p21_schema.specs.Place.{entity_at, entity_name, IsEntityOf, type_name, IsTypeOf};
     ghost use Rattle.p21_schema.specs.Under.{StandsUnder, IsResolvedIn};
+    ghost use Rattle.p21_schema.specs.Items.{HasItem};
     ghost use Rattle.p21_express.specs.Schema.{Underlying};
     ghost use Rattle.p21_schema.specs.Ancestry.{NameEntities, IsA};
     ghost use Rattle.p21_schema.specs.Row.{IsRow, IsAttributeOf, attribute_at, own_attributes};
@@ -140,6 +145,7 @@ impl Schema {
         let attributes = all_declarations(alloc, &known, lists)?;
         let bindings = all_bindings(alloc, &descents, &attributes)?;
         let selects = select_tables(alloc, &unders, declarations.entities.len(), &descents)?;
+        let items = item_rows(alloc, &declarations.types)?;
         Ok(Schema {
             declarations,
             rules,
@@ -153,6 +159,7 @@ impl Schema {
             bindings,
             ends,
             unders,
+            items,
             selects,
         })
     }
@@ -287,6 +294,14 @@ impl Schema {
         ensures { (under : Underlying) × (StandsUnder self.now (type_name self.now id) under × IsResolvedIn self.now result.now under) }
     {
         &self.unders[self.ends[id.index]]
+    }
+
+    /// Whether an ENUMERATION stands under the type, and the name is one of its items.
+    pub fn has_item(&self, id: TypeId, name: &[u8]) -> bool
+        requires { IsTypeOf self.now id }
+        ensures { IsTrue result ↔ HasItem self.now (type_name self.now id) name.now }
+    {
+        is_among(&self.items[self.ends[id.index]], name)
     }
 
     /// All declarations of an attribute, in the order of the text: the one that newly declares it, and each that declares it

@@ -117,7 +117,7 @@ fn targets(
 }
 
 /// The same names once more.
-fn copied(alloc: Global, names: &[Vec<u8>]) -> Result<Vec<Vec<u8>>, AllocError>
+pub(crate) fn copied(alloc: Global, names: &[Vec<u8>]) -> Result<Vec<Vec<u8>>, AllocError>
     ensures { IfOk result (λ found. map (λ n. n.items) found.items ≡ map (λ n. n.items) names.now) }
 {
     let mut copies = Vec::with_capacity(alloc, names.len())?;

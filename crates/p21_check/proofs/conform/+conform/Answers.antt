@@ -140,7 +140,7 @@ is_defined-conforms-requires t c =
 pub is_defined-returns-in-Items : goal.is_defined-returns-in-Items
 is_defined-returns-in-Items t c =
     let u = c.under.ensures in
-    both c.is_item.ensures (by_items c.args.schema.now c.fits.ensures (type_name c.args.schema.now c.args.id) c.under.result.now u.0 u.1.0 u.1.1 c.in-Items.names c.deref.result.now (plain c.args.param.now) c.in-Items.is c.deref.ensures.value)
+    both c.is_item.ensures (by_items c.args.schema.now c.fits.ensures (type_name c.args.schema.now c.args.id) c.under.result.now u.0 u.1.0 u.1.1 c.in-Items.field-0 (plain c.args.param.now) c.in-Items.is)
 
 pub is_defined-returns-in-Plain : goal.is_defined-returns-in-Plain
 is_defined-returns-in-Plain t c =

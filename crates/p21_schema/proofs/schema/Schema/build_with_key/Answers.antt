@@ -62,6 +62,7 @@ invariant_of-result c =
       selects = selects;
       ends = c.in_ok-ends.ensures s (ap (λ (ts : List _). map plain_type ts) (sym c.deref-6.ensures.value));
       resolved = found;
+      items = rw (← c.deref-10.ensures.value) c.in_ok-items.ensures;
       own = own_with (plain_schema c.args.declarations) c.args.rules _ c.in_ok-own.ensures.own;
       rows = c.in_ok-rows.ensures s (fits_with (plain_schema c.args.declarations) c.args.rules c.requires) h (rw c.deref-3.ensures.value (own_with (plain_schema c.args.declarations) c.args.rules _ c.in_ok-own.ensures.own));
       well_formed = fits_with (plain_schema c.args.declarations) c.args.rules c.requires;
