@@ -1,14 +1,10 @@
 -- Marks of entities in a table.
-use Rattle.std.proofs.Common.{◌≡◌, ◌↔◌, ◌⊎◌, ⊎_elim, inl, inr, ℕ, ◌+◌, ◌*◌, ◌/◌, ◌%◌, ◌<◌, ◌≤◌, List, [], ◌∷◌, ◌++◌, length, get_or, set, take, refl, sym, ap, subst, ◌∙◌, arith}
-use Rattle.std.specs.Prelude.{min}
-use Rattle.std.proofs.Math.Nat.{div-add-mod, min-eq_left, min-eq_right}
-use Rattle.std.proofs.lemmas.Bool.{cases_eq, cases_lt}
-use Rattle.std.proofs.lemmas.List.{get_or-set_other, get_or-set_same, set-get_or, take_more}
+use Rattle.std.proofs.Common.{◌≡◌, ◌↔◌, ⊎_elim, inl, inr, ℕ, ◌+◌, ◌<◌, List, [], ◌∷◌, ◌++◌, length, get_or, take}
+use Rattle.std.proofs.lemmas.List.{take_more}
 use Rattle.p21_express.specs.WellFormed.{IsIn}
 use Rattle.p21_check.proofs.AnyLemmas.{in_both}
 use Rattle.p21_schema.specs.declared.ids.EntityId.{EntityId}
-use Rattle.p21_schema.specs.Ancestry.{entity_id}
-use Rattle.p21_check.specs.Marks.{place_in, mark_of, mark_at, AreMarksIn}
+use Rattle.p21_check.specs.Marks.{AreMarksIn}
 
 -- the same entities in another order
 pub marks_alike : (n : ℕ) (marks : List ℕ) (es fs : List EntityId) → ((e : EntityId) → IsIn es e ↔ IsIn fs e) → AreMarksIn n marks es → AreMarksIn n marks fs
