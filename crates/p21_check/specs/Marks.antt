@@ -9,7 +9,7 @@ use Rattle.p21_check.specs.declared.marks.Told.TheVariants as told
 abbrev pub place_in : ℕ → EntityId → ℕ
 place_in count e = e.index % count
 
--- the mark of an entity: the how-manieth it is of those that share its place; from the 255th on it is 255
+-- the mark of an entity: its number, from one, among those that share its place; 255 stands for all behind the 254th
 abbrev pub mark_of : ℕ → EntityId → ℕ
 mark_of count e = min (e.index / count) 254 + 1
 

@@ -10,7 +10,7 @@ ghost use Rattle.p21_check.specs.Sets.{keywords_of, HasEntity, IsSetOf, IsSetOfR
 use crate::attributes::{attribute_count, first_unfit};
 use crate::distinct::check_complex_distinct;
 use crate::entity_set::{EntitySet, is_in_set, is_marked};
-use crate::marks::{FEW, FEW_MARKS, MANY_MARKS, Told, clear, look, put, put_all};
+use crate::marks::{FEW, FEW_MARKS, MANY_MARKS, SOME, SOME_MARKS, Told, clear, look, put, put_all};
 use p21_schema::{EntityId, Schema};
 use p21_tree::{FaultKind, Record};
 
@@ -23,13 +23,16 @@ pub(crate) fn check_complex(schema: &Schema, records: &[Record<'_>]) -> Result<(
     }
     if records.len() <= FEW {
         check_few(schema, records)
+    } else if records.len() <= SOME {
+        check_some(schema, records)
     } else {
         check_many(schema, records)
     }
 }
 
-// A function pays at its beginning for all its tables, so those of each length stand in one of its own.
+// A function pays at its beginning for all its tables, so those of each length stand in one of its own, which stays one.
 
+#[inline(never)]
 fn check_few(schema: &Schema, records: &[Record<'_>]) -> Result<(), FaultKind>
     requires { EachIn records.now (NamesEntity schema.now) }
     ensures { (name : ℕ) → (at : ℕ) → IsAnswer schema.now (complex_instance name at records.now) result }
@@ -39,6 +42,17 @@ fn check_few(schema: &Schema, records: &[Record<'_>]) -> Result<(), FaultKind>
     check_known(schema, &mut marks, &mut above, records)
 }
 
+#[inline(never)]
+fn check_some(schema: &Schema, records: &[Record<'_>]) -> Result<(), FaultKind>
+    requires { EachIn records.now (NamesEntity schema.now) }
+    ensures { (name : ℕ) → (at : ℕ) → IsAnswer schema.now (complex_instance name at records.now) result }
+{
+    let mut marks = [0; SOME_MARKS];
+    let mut above = [0; SOME_MARKS];
+    check_known(schema, &mut marks, &mut above, records)
+}
+
+#[inline(never)]
 fn check_many(schema: &Schema, records: &[Record<'_>]) -> Result<(), FaultKind>
     requires { EachIn records.now (NamesEntity schema.now) }
     ensures { (name : ℕ) → (at : ℕ) → IsAnswer schema.now (complex_instance name at records.now) result }

@@ -12,6 +12,11 @@ pub(crate) const FEW: usize = 64;
 
 pub(crate) const FEW_MARKS: usize = 1024;
 
+/// The same of an instance of some records.
+pub(crate) const SOME: usize = 1024;
+
+pub(crate) const SOME_MARKS: usize = 16384;
+
 /// How many marks a table for an instance of more records has.
 pub(crate) const MANY_MARKS: usize = 262144;
 
@@ -88,7 +93,7 @@ fn place_of(entity: EntityId, count: usize) -> usize
     entity.place() % count
 }
 
-/// The mark of an entity: the how-manieth it is of those that share its place; from the 255th on it is 255.
+/// The mark of an entity: its number, from one, among those that share its place; 255 stands for all behind the 254th.
 fn mark_of(entity: EntityId, count: usize) -> u8
     requires { 0 < count }
     ensures { result ≡ own_mark count entity }

@@ -1,6 +1,6 @@
 //! The references of an instance.
 
-ghost use Rattle.std.specs.Prelude.{◌≡◌, ℕ, List, [], ◌∷◌, Option, Some, None, length, option_map, MatchResult, OnErr};
+ghost use Rattle.std.specs.Prelude.{◌≡◌, ◌<◌, ℕ, List, [], ◌∷◌, Option, Some, None, length, option_map, MatchResult, OnErr};
 ghost use Rattle.p21_tree.specs.Sentence.{Instance};
 ghost use Rattle.p21_tree.specs.Views.{plain_instance, plain_record};
 ghost use Rattle.p21_express.specs.WellFormed.{Origin};
@@ -23,7 +23,7 @@ use crate::complex::{has_unknown, marks_twice};
 use crate::entity_of::{EntityOf, simple_entity};
 use crate::entity_set::{EntitySet, is_in_set};
 use crate::judge::{Entities, Keywords};
-use crate::marks::{FEW, MANY_MARKS};
+use crate::marks::{FEW, MANY_MARKS, SOME, SOME_MARKS};
 use crate::slot::{counts, is_derived};
 use crate::walk::{Bad, Judge, may_refer, walk};
 use crate::wanted::{Wanted, wanted_by};
@@ -130,12 +130,29 @@ fn complex_references<J: Judge>(
     if records.len() <= FEW {
         return records_references(schema, &EntitySet::Complex(records), records, judge);
     }
+    if records.len() <= SOME {
+        return some_references(schema, records, judge);
+    }
     many_references(schema, records, judge)
 }
 
-// A function pays at its beginning for its table, so this stands in one of its own.
+// A function pays at its beginning for its table, so each stands in one of its own, which stays one.
 
-/// The first reference at fault of a complex instance of many records.
+#[inline(never)]
+fn some_references<J: Judge>(
+    schema: &Schema,
+    records: &[Record<'_>],
+    judge: &J,
+) -> Result<(), FaultKind>
+    requires same { J.table judge.now ≡ schema.now }
+    requires local { (name : ℕ) × (at : ℕ) × IsLocalFault schema.now (complex_instance name at records.now) None }
+    ensures { (name : ℕ) → (at : ℕ) → IsReferenceAnswer schema.now (J.named judge.now) (complex_instance name at records.now) result }
+{
+    let mut marks = [0; SOME_MARKS];
+    marked_references(schema, &mut marks, records, judge)
+}
+
+#[inline(never)]
 fn many_references<J: Judge>(
     schema: &Schema,
     records: &[Record<'_>],
@@ -146,17 +163,29 @@ fn many_references<J: Judge>(
     ensures { (name : ℕ) → (at : ℕ) → IsReferenceAnswer schema.now (J.named judge.now) (complex_instance name at records.now) result }
 {
     let mut marks = [0; MANY_MARKS];
+    marked_references(schema, &mut marks, records, judge)
+}
+
+/// The first reference at fault of a complex instance, with a table for the marks of the entities that its records name.
+fn marked_references<J: Judge>(
+    schema: &Schema,
+    marks: &mut [u8],
+    records: &[Record<'_>],
+    judge: &J,
+) -> Result<(), FaultKind>
+    requires marks { 0 < length marks.old }
+    requires same { J.table judge.now ≡ schema.now }
+    requires local { (name : ℕ) × (at : ℕ) × IsLocalFault schema.now (complex_instance name at records.now) None }
+    ensures { (name : ℕ) → (at : ℕ) → IsReferenceAnswer schema.now (J.named judge.now) (complex_instance name at records.now) result }
+{
     // Neither is so, since the instance has no fault by itself.
     if has_unknown(schema, records) {
         return Ok(());
     }
-    if marks_twice(schema, &mut marks, records) {
+    if marks_twice(schema, marks, records) {
         return Ok(());
     }
-    let set = EntitySet::Marked {
-        records,
-        marks: &marks,
-    };
+    let set = EntitySet::Marked { records, marks };
     records_references(schema, &set, records, judge)
 }
 

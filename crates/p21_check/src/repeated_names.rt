@@ -38,8 +38,9 @@ pub(crate) fn repeats_name(elements: &[Param<'_>]) -> bool
     repeats_among_many(elements)
 }
 
-// A function pays at its beginning for all its tables, so each table stands in one of its own.
+// A function pays at its beginning for all its tables, so each table stands in one of its own, which stays one.
 
+#[inline(never)]
 fn repeats_among_few(elements: &[Param<'_>]) -> bool
     ensures { IsTrue result ↔ HasTwice (names_of elements.now) }
 {
@@ -48,6 +49,7 @@ fn repeats_among_few(elements: &[Param<'_>]) -> bool
     repeats_by(&mut table, &mut marks, elements)
 }
 
+#[inline(never)]
 fn repeats_among_some(elements: &[Param<'_>]) -> bool
     ensures { IsTrue result ↔ HasTwice (names_of elements.now) }
 {
@@ -56,6 +58,7 @@ fn repeats_among_some(elements: &[Param<'_>]) -> bool
     repeats_by(&mut table, &mut marks, elements)
 }
 
+#[inline(never)]
 fn repeats_among_many(elements: &[Param<'_>]) -> bool
     ensures { IsTrue result ↔ HasTwice (names_of elements.now) }
 {

@@ -5,8 +5,8 @@ pub trait Gate {
     /// Called by the worker of a lane before it reads the piece of a number.
     fn enter(&self, lane: u32, number: u64);
 
-    /// Called when all workers have ended, by a reading that goes on with what they read: its references are looked at next. Where it is
-    /// not written out, it does nothing.
+    /// Called when all workers have ended, by a reading that goes on with what they read: where no instance has a fault by itself, the
+    /// references are looked at next. Where it is not written out, it does nothing.
     fn close(&self) {}
 }
 

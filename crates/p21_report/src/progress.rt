@@ -75,6 +75,16 @@ impl<C: Clock, P: Write> Progress<C, P> {
 
     /// Tells what the run is at, where this is shown, and nobody told it a moment ago.
     pub(crate) fn tell(&self, stage: Stage) {
+        self.write(stage, false);
+    }
+
+    /// Tells what the run is at, where this is shown, however long ago it was told.
+    fn tell_at_once(&self, stage: Stage) {
+        self.write(stage, true);
+    }
+
+    /// Tells what the run is at, where this is shown and nobody else tells it, at once or where the line is due.
+    fn write(&self, stage: Stage, at_once: bool) {
         if !self.is_shown {
             return;
         }
@@ -84,7 +94,7 @@ impl<C: Clock, P: Write> Progress<C, P> {
         let Ok(now) = Instant::now(&self.clock) else {
             return;
         };
-        if line.is_due(now) {
+        if at_once || line.is_due(now) {
             line.last = Some(now);
             line.rewrite(stage);
         }
@@ -123,7 +133,7 @@ impl<C: Clock, P: Write> Gate for Progress<C, P> {
     }
 
     fn close(&self) {
-        self.tell(Stage::References);
+        self.tell_at_once(Stage::References);
     }
 }
 

@@ -1,7 +1,7 @@
 use Rattle.std.proofs.Common.{inl}
 use Rattle.p21_tree.specs.declared.faults.FaultKind.TheVariants as kind
 use Rattle.p21_check.proofs.ComplexLemmas.{complex_unknown, twice_by, bad_by}
-use Rattle.p21_check.proofs.references.many_references.Goals as goal
+use Rattle.p21_check.proofs.references.marked_references.Goals as goal
 
 pub returns-then-has_unknown : goal.returns-then-has_unknown
 returns-then-has_unknown g c = λ name at.
