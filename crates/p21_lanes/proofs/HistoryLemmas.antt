@@ -1,10 +1,7 @@
 -- Lemmas on a lane's history: one more message at the back, and two lists that end together.
-use Rattle.std.proofs.Common.{◌≡◌, ◌+◌, ◌≤◌, ℕ, zero, suc, Bool, true, false, List, [], ◌∷◌, ◌++◌, length, take, length-append}
-use Rattle.std.proofs.Common.{refl, ap, sym, subst, ◌∙◌, arith}
-use Rattle.rtrb.specs.Fifo.{Allowed}
-use Rattle.p21_lanes.specs.declared.history.Message.{Message}
-use Rattle.p21_lanes.specs.declared.history.Message.TheVariants.{Item, End}
-use Rattle.p21_lanes.specs.History.{items_of, has_end, messages, EndIsLast}
+use Rattle.std.proofs.Common.{◌≡◌, ◌+◌, ◌≤◌, suc, Bool, true, false, List, [], ◌∷◌, ◌++◌, length, length-append}
+use Rattle.std.proofs.Common.{refl, ap, sym, ◌∙◌, arith}
+use Rattle.p21_lanes.specs.History.{Message, Item, End, items_of, has_end, messages, EndIsLast}
 
 module _ {T : Type 0} where
   pub items_of-item : (ms : List (Message T)) (x : T) → items_of (ms ++ Item x ∷ []) ≡ items_of ms ++ x ∷ []
@@ -81,7 +78,7 @@ module _ {T : Type 0} where
       messages-whole (items_of received) (items_of sent) rest begins
 
   -- an end that comes first comes alone
-  alone : (xs : List T) (ms : List (Message T)) → End ∷ ms ≡ messages xs true → ms ≡ []
+  pub alone : (xs : List T) (ms : List (Message T)) → End ∷ ms ≡ messages xs true → ms ≡ []
   alone [] ms form = cc
   alone (x ∷ xs) ms form = cc
 
@@ -98,7 +95,7 @@ module _ {T : Type 0} where
       let empty : length (ms ++ last ∷ []) ≡ 0 = ap length none in
       absurd (omega arith)
 
--- more messages at the back, and the beginnings of lists of messages
+-- more messages at the back
 module _ {T : Type 0} where
   pub items_of-append : (before ms : List (Message T)) → items_of (before ++ ms) ≡ items_of before ++ items_of ms
   items_of-append [] ms = refl
@@ -134,71 +131,3 @@ module _ {T : Type 0} where
       let front : before ≡ messages (items_of before) false = rw (← none) form in
       let joined : before ++ ms ≡ messages (items_of before) false ++ messages (items_of ms) (has_end ms) = cc in
       rw (items_of-append before ms, has_end-append before ms none) (joined ∙ messages-append (items_of before) (items_of ms) (has_end ms))
-
-  -- no beginning of items alone has an end
-  pub has_end-take : (n : ℕ) (xs : List T) → has_end (take n (messages xs false)) ≡ false
-  has_end-take zero xs = refl
-  has_end-take (suc n) [] = refl
-  has_end-take (suc n) (x ∷ xs) = has_end-take n xs
-
-  -- what is sent under the promise of a ring is items and at most one end, the end last
-  pub allowed_form : (past ms : List (Message T)) → Allowed (λ before m. has_end before ≡ false) past ms → EndIsLast ms
-  allowed_form past [] allowed = refl
-  allowed_form past (Item x ∷ ms) allowed = ap (λ ns. Item x ∷ ns) (allowed_form (past ++ Item x ∷ []) ms allowed.1)
-  allowed_form past (End ∷ []) allowed = refl
-  allowed_form past (End ∷ m ∷ ms) allowed =
-      let ended = has_end-end past in
-      let open_ = allowed.1.0 in
-      cc
-
-  -- before the last of such messages stand items alone
-  pub front_form : (before : List (Message T)) (last : Message T) → EndIsLast (before ++ last ∷ []) → before ≡ messages (items_of before) false
-  front_form [] last form = refl
-  front_form (Item x ∷ before) last form =
-      let rest : EndIsLast (before ++ last ∷ []) = cc in
-      ap (λ ms. Item x ∷ ms) (front_form before last rest)
-  front_form (End ∷ before) last form =
-      let none = no_end_before (End ∷ before) last form in
-      cc
-
-  -- messages that the promise of the ring allows are taken behind others, of which none is the end
-  pub record TakenBehind (before ms after : List (Message T)) : Type 0 where
-    pub form : EndIsLast after
-    pub items : items_of after ≡ items_of before ++ items_of ms
-    pub ended : has_end after ≡ has_end ms
-    pub messages_are : after ≡ before ++ messages (items_of ms) (has_end after)
-
-  pub taken_behind : (before ms after : List (Message T)) → EndIsLast before → has_end before ≡ false → Allowed (λ before m. has_end before ≡ false) before ms → after ≡ before ++ ms → TakenBehind before ms after
-  taken_behind before ms after form none allowed is =
-      let more = allowed_form before ms allowed in
-      let ended : has_end after ≡ has_end ms = ap has_end is ∙ has_end-append before ms none in
-      record {
-        form = subst (λ (ns : List (Message T)). EndIsLast ns) (sym is) (EndIsLast-append before ms form none more);
-        items = ap items_of is ∙ items_of-append before ms;
-        ended = ended;
-        messages_are = is ∙ ap (λ ns. before ++ ns) (rw ended more);
-      }
-
--- one more message at the back: the items, the end and the form
-pub ruleset one_more = (
-  items_of-item,
-  items_of-end,
-  has_end-item,
-  has_end-end,
-  length-items_of-item,
-  length-items_of,
-  EndIsLast-item,
-  EndIsLast-end,
-)
-
--- more messages at the back: the items, the end and the form
-pub ruleset more_messages = (
-  items_of-append,
-  has_end-append,
-  items_of-messages,
-  has_end-messages,
-  length-messages,
-  length-append,
-  EndIsLast-append,
-  has_end-take,
-)

@@ -1,2 +1,2 @@
 pub mod HistoryLemmas
-pub mod BatchLemmas
+pub mod ParcelLemmas

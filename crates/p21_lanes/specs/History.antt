@@ -1,7 +1,12 @@
 -- The history of a lane: a list of the messages sent, and a list of the messages received.
-use Rattle.std.specs.Prelude.{◌≡◌, Bool, true, false, List, [], ◌∷◌, ◌++◌}
-use Rattle.p21_lanes.specs.declared.history.Message.{Message}
-use Rattle.p21_lanes.specs.declared.history.Message.TheVariants.{Item, End}
+use Rattle.std.specs.Prelude.{◌≡◌, ◌-◌, Bool, true, false, List, [], ◌∷◌, ◌++◌, length, take}
+use Rattle.p21_lanes.specs.declared.history.Parcel.{Parcel}
+use Rattle.p21_lanes.specs.declared.history.Parcel.TheVariants.{One, Together, Last}
+
+-- a message of a lane: an item, or the end
+pub data Message (T : Type 0) : Type 0 where
+  Item : T → Message T
+  End : Message T
 
 module _ {T : Type 0} where
   -- the items among the messages, in order
@@ -21,6 +26,21 @@ module _ {T : Type 0} where
   messages [] false = []
   messages [] true = End ∷ []
   messages (x ∷ xs) ended = Item x ∷ messages xs ended
+
+  -- the messages in what takes the places of a ring, in order: items that were offered together take one place
+  abbrev pub messages_in : List (Parcel T) → List (Message T)
+  messages_in [] = []
+  messages_in (One x ∷ ps) = Item x ∷ messages_in ps
+  messages_in (Together v ∷ ps) = messages v.items false ++ messages_in ps
+  messages_in (Last ∷ ps) = End ∷ messages_in ps
+
+  -- the messages without the last of them, as many as there are such items
+  abbrev pub without_last : List (Message T) → List T → List (Message T)
+  without_last ms xs = take (length ms - length xs) ms
+
+  -- these items are the last of the messages
+  abbrev pub EndsWith : List (Message T) → List T → Type 0
+  EndsWith ms xs = ms ≡ without_last ms xs ++ messages xs false
 
   -- the messages are items and at most one end, and the end is the last of them
   abbrev pub EndIsLast : List (Message T) → Type 0

@@ -1,14 +1,13 @@
 -- What a contract sees of the end of a lane that offers items.
 use Rattle.std.specs.Prelude.{◌≡◌, ℕ, Bool, List, length}
 use Rattle.rtrb.specs.Ring.{sent as pushed, producer_capacity, SameProducer}
-use Rattle.p21_lanes.specs.declared.history.Message.{Message}
 use Rattle.p21_lanes.specs.declared.lane_in.LaneIn.{LaneIn}
-use Rattle.p21_lanes.specs.History.{items_of, has_end}
+use Rattle.p21_lanes.specs.History.{Message, messages_in, items_of, has_end}
 
 module _ {T : Type 0} where
   -- the messages that were sent, oldest first
   abbrev pub sent : LaneIn T → List (Message T)
-  sent i = pushed i.producer
+  sent i = messages_in (pushed i.producer)
 
   -- the items that were accepted, oldest first
   abbrev pub accepted : LaneIn T → List T

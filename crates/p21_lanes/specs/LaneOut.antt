@@ -1,17 +1,17 @@
 -- What a contract sees of the end of a lane that takes items.
 use Rattle.std.specs.Prelude.{◌≡◌, Bool, true, false, List, [], ◌∷◌, ◌++◌, if◌then◌else◌}
 use Rattle.rtrb.specs.Ring.{received as popped, SameConsumer}
-use Rattle.p21_lanes.specs.declared.history.Message.{Message}
-use Rattle.p21_lanes.specs.declared.history.Message.TheVariants.{Item, End}
+use Rattle.std.specs.Vec.Iter.{into_iter_items}
 use Rattle.p21_lanes.specs.declared.lane_out.LaneOut.{LaneOut}
 use Rattle.p21_lanes.specs.declared.lane_out.Taken.{Taken}
 use Rattle.p21_lanes.specs.declared.lane_out.Taken.TheVariants.{Item as TakenItem, Ended, Nothing}
-use Rattle.p21_lanes.specs.History.{items_of, has_end, messages}
+use Rattle.p21_lanes.specs.History.{Message, Item, End, messages_in, without_last, items_of, has_end}
 
 module _ {T : Type 0} where
-  -- the messages that were received, oldest first
+  -- The messages that were received, oldest first: of items that left the ring together those that are kept to be taken next do not
+  -- count yet.
   abbrev pub received : LaneOut T → List (Message T)
-  received o = popped o.consumer
+  received o = without_last (messages_in (popped o.consumer)) (into_iter_items o.together)
 
   -- the items that were taken, oldest first
   abbrev pub taken : LaneOut T → List T
@@ -38,8 +38,3 @@ module _ {T : Type 0} where
       (received new ≡ (if took_end old then received old else (received old ++ End ∷ [])))
       × (taken new ≡ taken old) × (took_end new ≡ true)
   Took Nothing old new = (received new ≡ received old) × (took_end old ≡ false)
-
-  -- the items go to the back of what was received, and then the end, where it was taken now; once the end was taken nothing comes
-  abbrev pub TookBatch : List T → LaneOut T → LaneOut T → Type 0
-  TookBatch items old new =
-      received new ≡ (if took_end old then received old else (received old ++ messages items (took_end new)))

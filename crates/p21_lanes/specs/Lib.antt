@@ -3,4 +3,3 @@ pub mod LaneIn
 pub mod LaneOut
 pub mod Lane
 pub mod Receipt
-pub mod Batch

@@ -1,22 +1,23 @@
 //! What goes through a lane.
 ghost use Rattle.std.specs.Prelude.{◌≡◌, List, [], ◌∷◌, ◌++◌, false};
-ghost use Rattle.p21_lanes.specs.History.{has_end, EndIsLast};
+ghost use Rattle.p21_lanes.specs.History.{Message, messages_in, has_end, EndIsLast};
 
 use rtrb::Protocol;
 
-/// A message of a lane: an item, or the end, which comes last.
-#[derive(Clone, Copy, Drop)]
-pub(crate) enum Message<T> {
-    Item(T),
-    End,
+/// What takes one place of a lane's ring: an item, items that were offered together, or the end, which comes last.
+#[derive(Drop)]
+pub(crate) enum Parcel<T> {
+    One(T),
+    Together(Vec<T>),
+    Last,
 }
 
-/// What a lane's ring is promised: no message follows the end.
+/// What a lane's ring is promised: nothing follows the end.
 #[derive(Clone, Copy)]
 pub(crate) struct EndComesLast;
 
-impl<T> Protocol<Message<T>> for EndComesLast {
-    ghost allows = { λ before _. has_end before ≡ false };
+impl<T> Protocol<Parcel<T>> for EndComesLast {
+    ghost allows = { λ before _. has_end (messages_in before) ≡ false };
 }
 
 /// A law of a lane's history: no message follows the end, so that there is one end at most.

@@ -1,10 +1,9 @@
 //! The end of a lane that offers items.
 ghost use Rattle.std.specs.Prelude.{◌≡◌, ◌+◌, ◌≤◌, length};
 ghost use Rattle.rtrb.specs.Ring.{sent as pushed, known_free, producer_capacity};
-ghost use Rattle.p21_lanes.specs.History.{items_of, has_end, EndIsLast};
+ghost use Rattle.p21_lanes.specs.History.{messages_in, items_of, has_end, EndIsLast};
 
-use crate::batch::Batch;
-use crate::history::{EndComesLast, Message};
+use crate::history::{EndComesLast, Parcel};
 use rtrb::{Producer, PushError};
 use std::alloc::Global;
 use std::error::Error;
@@ -29,13 +28,15 @@ impl fmt::Display for Full {
 /// The end of a lane that offers items. It can move to another thread.
 #[derive(Drop)]
 pub struct LaneIn<T> {
-    pub(crate) producer: Producer<Message<T>, Global, EndComesLast>,
+    pub(crate) producer: Producer<Parcel<T>, Global, EndComesLast>,
     ended: bool,
     items: u64,
-    ghost history: { EndIsLast (pushed producer) },
-    ghost end_sent: { ended ≡ has_end (pushed producer) },
-    ghost counted: { items ≡ length (items_of (pushed producer)) },
-    // The producer knows each place to be free that no message took since the lane was made.
+    ghost history: { EndIsLast (messages_in (pushed producer)) },
+    ghost end_sent: { ended ≡ has_end (messages_in (pushed producer)) },
+    ghost counted: { items ≡ length (items_of (messages_in (pushed producer))) },
+    // Nothing that takes a place is empty.
+    ghost filled: { length (pushed producer) ≤ length (messages_in (pushed producer)) },
+    // The producer knows each place to be free that was not taken since the lane was made.
     ghost room: { producer_capacity producer ≤ known_free producer + length (pushed producer) },
     ghost small: { producer_capacity producer ≤ 4096 },
 }
@@ -43,12 +44,11 @@ pub struct LaneIn<T> {
 impl<T: Drop> LaneIn<T> {
     ghost use Rattle.std.specs.Prelude.{◌≡◌, ◌+◌, ◌-◌, ◌^◌, ◌<◌, ◌≤◌, ◌⊎◌, [], ◌∷◌, ◌++◌, length, true, false, IsOk, OnOk, OnErr, IfErr};
     ghost use Rattle.rtrb.specs.Ring.{sent as pushed, known_free, producer_capacity};
-    ghost use Rattle.p21_lanes.specs.declared.history.Message.TheVariants.{Item, End};
     ghost use Rattle.p21_lanes.specs.LaneIn.{sent, accepted, was_ended, message_count, lane_capacity, SameIn};
-    ghost use Rattle.p21_lanes.specs.History.{EndIsLast};
+    ghost use Rattle.p21_lanes.specs.History.{Item, End, messages, EndIsLast};
 
     // The end over the producer of a new ring.
-    pub(crate) fn over(producer: Producer<Message<T>, Global, EndComesLast>) -> LaneIn<T>
+    pub(crate) fn over(producer: Producer<Parcel<T>, Global, EndComesLast>) -> LaneIn<T>
         requires empty { pushed producer ≡ [] }
         requires free { known_free producer ≡ producer_capacity producer }
         requires small { producer_capacity producer ≤ 4096 }
@@ -64,7 +64,7 @@ impl<T: Drop> LaneIn<T> {
     /// Sends an item, or hands it back: where the lane was ended, where this end sees no free place, or where 2^64 - 1
     /// items were accepted. A refused offer changes nothing. The first messages of a lane, as many as its capacity,
     /// always find their places.
-    #[tactic(auto, using(crate::proofs::HistoryLemmas::one_more))]
+    #[tactic(auto, using(crate::proofs::ParcelLemmas::one_more_place))]
     pub fn offer(&mut self, item: T) -> Result<(), T>
         ensures lane { SameIn self.old self.new }
 
@@ -86,19 +86,55 @@ impl<T: Drop> LaneIn<T> {
         if self.ended || self.items == u64::MAX {
             return Err(item);
         }
-        match self.producer.push(Message::Item(item)) {
+        match self.producer.push(Parcel::One(item)) {
             Ok(()) => {
                 self.items += 1;
                 Ok(())
             }
-            Err(PushError::Full(Message::Item(back))) => Err(back),
-            Err(PushError::Full(Message::End)) => unreachable!(),
+            Err(PushError::Full(Parcel::One(back))) => Err(back),
+            Err(PushError::Full(_)) => unreachable!(),
+        }
+    }
+
+    /// Sends all items of a list in order, which take one place together, or hands the list back: where the lane was ended, where this
+    /// end sees no free place, or where more than 2^64 - 1 items would have been accepted. A refused offer changes nothing. A list
+    /// without items sends nothing.
+    #[tactic(auto, using(crate::proofs::ParcelLemmas::one_more_place))]
+    pub fn offer_all(&mut self, items: Vec<T>) -> Result<(), Vec<T>>
+        ensures lane { SameIn self.old self.new }
+
+        // Each item goes to the back of what was sent, in order, and the lane stays open.
+        ensures sent { OnOk result (sent self.new ≡ sent self.old ++ messages items.items false) }
+        ensures accepted { OnOk result (accepted self.new ≡ accepted self.old ++ items.items) }
+        ensures open { OnOk result ((was_ended self.old ≡ false) × (was_ended self.new ≡ false)) }
+        ensures history { EndIsLast (sent self.new) }
+
+        ensures refused { IfErr result (λ back. (back ≡ items) × (sent self.new ≡ sent self.old)) }
+        ensures only { OnErr result
+            ((was_ended self.old ≡ true)
+            ⊎ ((lane_capacity self.old ≤ message_count self.old)
+            ⊎ (2 ^ 64 - 1 < length (accepted self.old) + length items.items))) }
+    {
+        let count = items.len() as u64;
+        if self.ended || u64::MAX - self.items < count {
+            return Err(items);
+        }
+        if count == 0 {
+            return Ok(());
+        }
+        match self.producer.push(Parcel::Together(items)) {
+            Ok(()) => {
+                self.items += count;
+                Ok(())
+            }
+            Err(PushError::Full(Parcel::Together(back))) => Err(back),
+            Err(PushError::Full(_)) => unreachable!(),
         }
     }
 
     /// Sends the end, which takes one place. Where it was sent before, this is `Ok` and sends nothing. It is refused
     /// where this end sees no free place, and then changes nothing.
-    #[tactic(auto, using(crate::proofs::HistoryLemmas::one_more))]
+    #[tactic(auto, using(crate::proofs::ParcelLemmas::one_more_place))]
     pub fn end(&mut self) -> Result<(), Full>
         ensures lane { SameIn self.old self.new }
         ensures ended { OnOk result (was_ended self.new ≡ true) }
@@ -115,7 +151,7 @@ impl<T: Drop> LaneIn<T> {
         if self.ended {
             return Ok(());
         }
-        if self.producer.push(Message::End).is_err() {
+        if self.producer.push(Parcel::Last).is_err() {
             return Err(Full);
         }
         self.ended = true;
@@ -134,41 +170,5 @@ impl<T: Drop> LaneIn<T> {
         ensures { result ≡ length (accepted self.now) }
     {
         self.items
-    }
-}
-
-impl<T: Copy> LaneIn<T> {
-    ghost use Rattle.std.specs.Prelude.{◌≡◌, ◌+◌, ◌-◌, ◌^◌, ◌<◌, ◌≤◌, ◌⊎◌, ◌++◌, length, true, false, IsOk, OnOk, OnErr};
-    ghost use Rattle.p21_lanes.specs.Batch.{batch_items};
-    ghost use Rattle.p21_lanes.specs.History.{messages, EndIsLast};
-    ghost use Rattle.p21_lanes.specs.LaneIn.{sent, accepted, was_ended, message_count, lane_capacity, SameIn};
-
-    /// Sends all items of a batch in order, or none: where the lane was ended, where this end does not see as many free
-    /// places, or where more than 2^64 - 1 items would have been accepted. A refused offer changes nothing.
-    #[tactic(auto, using(crate::proofs::HistoryLemmas::more_messages))]
-    pub fn offer_batch(&mut self, batch: &Batch<T>) -> Result<(), Full>
-        ensures lane { SameIn self.old self.new }
-
-        // Each item goes to the back of what was sent, in order, and the lane stays open.
-        ensures sent { OnOk result (sent self.new ≡ sent self.old ++ messages (batch_items batch.now) false) }
-        ensures accepted { OnOk result (accepted self.new ≡ accepted self.old ++ batch_items batch.now) }
-        ensures open { OnOk result ((was_ended self.old ≡ false) × (was_ended self.new ≡ false)) }
-        ensures history { EndIsLast (sent self.new) }
-
-        ensures refused { OnErr result (sent self.new ≡ sent self.old) }
-        ensures only { OnErr result
-            ((was_ended self.old ≡ true)
-            ⊎ ((lane_capacity self.old < message_count self.old + length (batch_items batch.now))
-            ⊎ (2 ^ 64 - 1 < length (accepted self.old) + length (batch_items batch.now)))) }
-    {
-        let messages = batch.messages();
-        if self.ended || u64::MAX - self.items < messages.len() as u64 {
-            return Err(Full);
-        }
-        if self.producer.push_entire_slice(messages).is_err() {
-            return Err(Full);
-        }
-        self.items += messages.len() as u64;
-        Ok(())
     }
 }

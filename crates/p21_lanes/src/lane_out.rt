@@ -1,13 +1,14 @@
 //! The end of a lane that takes items.
 ghost use Rattle.std.specs.Prelude.{◌≡◌};
 ghost use Rattle.rtrb.specs.Ring.{received as popped};
-ghost use Rattle.p21_lanes.specs.History.{has_end, EndIsLast};
+ghost use Rattle.std.specs.Vec.Iter.{into_iter_items};
+ghost use Rattle.p21_lanes.specs.History.{messages_in, has_end, EndIsLast, EndsWith};
 
-use crate::batch::Batch;
-use crate::history::{EndComesLast, Message};
+use crate::history::{EndComesLast, Parcel};
 use crate::lane_in::LaneIn;
 use rtrb::{Consumer, PopError};
 use std::alloc::Global;
+use std::vec::IntoIter;
 
 /// What `LaneOut::take` found.
 #[derive(Debug, Drop, PartialEq, Eq)]
@@ -23,46 +24,60 @@ pub enum Taken<T> {
 /// The end of a lane that takes items. It can move to another thread.
 #[derive(Drop)]
 pub struct LaneOut<T> {
-    consumer: Consumer<Message<T>, Global, EndComesLast>,
+    consumer: Consumer<Parcel<T>, Global, EndComesLast>,
+    // Items that left the ring together and were not taken yet.
+    together: IntoIter<T>,
     ended: bool,
-    ghost history: { EndIsLast (popped consumer) },
-    ghost end_taken: { ended ≡ has_end (popped consumer) },
+    ghost history: { EndIsLast (messages_in (popped consumer)) },
+    ghost end_taken: { ended ≡ has_end (messages_in (popped consumer)) },
+    ghost kept: { EndsWith (messages_in (popped consumer)) (into_iter_items together) },
 }
 
 impl<T: Drop> LaneOut<T> {
     ghost use Rattle.std.specs.Prelude.{◌≡◌, List, [], ◌++◌, true};
     ghost use Rattle.rtrb.specs.Ring.{received as popped};
-    ghost use Rattle.p21_lanes.specs.declared.history.Message.{Message};
+    ghost use Rattle.p21_lanes.specs.History.{Message, EndIsLast};
     ghost use Rattle.p21_lanes.specs.declared.lane_out.Taken.TheVariants.{Ended};
     ghost use Rattle.p21_lanes.specs.LaneIn.{sent, IsUnchangedIn};
     ghost use Rattle.p21_lanes.specs.LaneOut.{received, took_end, SameOut, IsUnchangedOut, Took};
     ghost use Rattle.p21_lanes.specs.Lane.{IsLane};
 
-    // The end over the consumer of a new ring.
-    pub(crate) fn over(consumer: Consumer<Message<T>, Global, EndComesLast>) -> LaneOut<T>
+    // The end over the consumer of a new ring. This takes no memory.
+    pub(crate) fn over(alloc: Global, consumer: Consumer<Parcel<T>, Global, EndComesLast>) -> LaneOut<T>
         requires { popped consumer ≡ [] }
-        ensures { result.consumer ≡ consumer }
+        ensures consumer { result.consumer ≡ consumer }
+        ensures received { received result ≡ [] }
     {
         LaneOut {
             consumer,
+            together: Vec::new(alloc).into_iter(),
             ended: false,
         }
     }
 
     /// Takes the oldest message, if this end sees one. Once the end was taken, the answer stays `Ended`.
-    #[tactic(auto, using(crate::proofs::HistoryLemmas::one_more))]
     pub fn take(&mut self) -> Taken<T>
         ensures lane { SameOut self.old self.new }
         ensures took { Took result self.old self.new }
         ensures again { took_end self.old ≡ true
             → (result ≡ Ended) × (received self.new ≡ received self.old) }
     {
+        if let Some(item) = self.together.next() {
+            return Taken::Item(item);
+        }
         if self.ended {
             return Taken::Ended;
         }
         match self.consumer.pop() {
-            Ok(Message::Item(item)) => Taken::Item(item),
-            Ok(Message::End) => {
+            Ok(Parcel::One(item)) => Taken::Item(item),
+            Ok(Parcel::Together(items)) => {
+                self.together = items.into_iter();
+                match self.together.next() {
+                    Some(item) => Taken::Item(item),
+                    None => Taken::Nothing,
+                }
+            }
+            Ok(Parcel::Last) => {
                 self.ended = true;
                 Taken::Ended
             }
@@ -70,7 +85,8 @@ impl<T: Drop> LaneOut<T> {
         }
     }
 
-    /// How many messages this end sees that were not taken. The other end may have sent more.
+    /// How many places this end sees taken: each by an item, by items that were offered together, or by the end. The other end may have
+    /// sent more.
     pub fn ready(&mut self) -> usize
         ensures { IsUnchangedOut self.old self.new }
     {
@@ -82,6 +98,7 @@ impl<T: Drop> LaneOut<T> {
         requires { IsLane lane_in.old self.old }
         ensures lane_in { IsUnchangedIn lane_in.old lane_in.new }
         ensures lane_out { IsUnchangedOut self.old self.new }
+        ensures form { EndIsLast (received self.new) }
         ensures in_order { (rest : List (Message T)) × (sent lane_in.new ≡ received self.new ++ rest) }
     {
         self.consumer.slots_beside(&mut lane_in.producer);
@@ -91,31 +108,6 @@ impl<T: Drop> LaneOut<T> {
     pub(crate) fn took_end(&self) -> bool
         ensures { result ≡ took_end self.now }
     {
-        self.ended
-    }
-}
-
-impl<T: Copy> LaneOut<T> {
-    ghost use Rattle.std.specs.Prelude.{◌≡◌, [], ◌++◌, true};
-    ghost use Rattle.p21_lanes.specs.Batch.{batch_items, batch_room};
-    ghost use Rattle.p21_lanes.specs.LaneOut.{received, taken, took_end, SameOut, TookBatch};
-
-    /// Takes the oldest items, as many as this end sees and the batch has room for, in place of what the batch held; and the
-    /// end, where it stands right behind them and there is room for it too. The answer is whether the end was taken.
-    #[tactic(auto, using(crate::proofs::HistoryLemmas::more_messages))]
-    pub fn take_batch(&mut self, batch: &mut Batch<T>) -> bool
-        ensures lane { SameOut self.old self.new }
-        ensures room { batch_room batch.new ≡ batch_room batch.old }
-        ensures taken { taken self.new ≡ taken self.old ++ batch_items batch.new }
-        ensures ended { result ≡ took_end self.new }
-        ensures took { TookBatch (batch_items batch.new) self.old self.new }
-    {
-        batch.clear();
-        if self.ended {
-            return true;
-        }
-        let taken = self.consumer.pop_partial_slice(batch.places.as_mut_slice());
-        self.ended = batch.keep(taken);
         self.ended
     }
 }

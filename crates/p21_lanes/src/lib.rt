@@ -10,7 +10,6 @@ ghost use Rattle.p21_lanes.specs.LaneIn.{sent, lane_capacity};
 ghost use Rattle.p21_lanes.specs.LaneOut.{received};
 ghost use Rattle.p21_lanes.specs.Lane.{IsLane};
 
-mod batch;
 mod capacity;
 mod history;
 mod lane_in;
@@ -18,7 +17,6 @@ mod lane_out;
 mod receipt;
 mod settling;
 
-pub use batch::Batch;
 pub use capacity::Capacity;
 use history::EndComesLast;
 pub use history::nothing_follows_the_end;
@@ -44,5 +42,5 @@ pub fn lane<T: Drop>(
         alloc,
         capacity.get() as usize,
     )?;
-    Ok((LaneIn::over(producer), LaneOut::over(consumer)))
+    Ok((LaneIn::over(producer), LaneOut::over(alloc, consumer)))
 }

@@ -4,7 +4,7 @@ ghost use Rattle.p21_lanes.specs.Lane.{IsLane};
 ghost use Rattle.p21_lanes.specs.LaneIn.{SameIn};
 ghost use Rattle.p21_lanes.specs.LaneOut.{SameOut};
 
-use p21_lanes::{Batch, Capacity, Full, LaneIn, LaneOut, Pair, Taken, lane, settle};
+use p21_lanes::{Capacity, Full, LaneIn, LaneOut, Pair, Taken, lane, settle};
 use std::alloc::{AllocError, Global};
 use std::rc::Rc;
 use std::sync::Wait;
@@ -198,55 +198,45 @@ fn lane_let_go_with_items_in_it(rt: HostRuntime) -> Result<(), Fail> {
 }
 
 #[test]
-fn batches(rt: HostRuntime) -> Result<(), Fail> {
-    let (mut lane_in, mut lane_out) = lane_of(rt.alloc(), 4)?;
-    let mut three = Batch::new(rt.alloc(), 3)?;
-    let mut two = Batch::new(rt.alloc(), 2)?;
-    push_all(&mut three, &[1, 2, 3]);
-    push_all(&mut two, &[4, 5]);
-    assert_eq!(rt; lane_in.offer_batch(&three), Ok(()));
-    assert_eq!(rt; lane_in.offer_batch(&two), Err(Full));
-    assert_eq!(rt; lane_out.ready(), 3);
-    assert!(rt; !lane_out.take_batch(&mut two));
-    assert_eq!(rt; items(&two), [Some(1), Some(2), None]);
-    assert_eq!(rt; lane_out.ready(), 1);
-    assert!(rt; !lane_out.take_batch(&mut two));
-    assert_eq!(rt; items(&two), [Some(3), None, None]);
-    assert_eq!(rt; lane_out.ready(), 0);
+fn lists_in_one_place_each(rt: HostRuntime) -> Result<(), Fail> {
+    let alloc = rt.alloc();
+    let (mut lane_in, mut lane_out) = lane_of(alloc, 2)?;
+    assert!(rt; lane_in.offer_all(vec![in alloc; 1, 2, 3]?).is_ok());
+    assert!(rt; lane_in.offer_all(Vec::new(alloc)).is_ok());
+    assert_eq!(rt; lane_in.offer(4), Ok(()));
+    assert_eq!(rt; lane_out.ready(), 2);
+    let Err(back) = lane_in.offer_all(vec![in alloc; 5, 6]?) else {
+        panic!(rt; "a third list found a place");
+    };
+    assert_eq!(rt; back.as_slice(), [5, 6].as_slice());
+    for number in 1..5 {
+        assert_eq!(rt; lane_out.take(), Taken::Item(number));
+    }
+    assert_eq!(rt; lane_out.take(), Taken::Nothing);
     assert_eq!(rt; lane_in.end(), Ok(()));
-    assert_eq!(rt; lane_out.ready(), 1);
-    assert!(rt; lane_out.take_batch(&mut two));
-    assert!(rt; two.is_empty());
-    assert_eq!(rt; two.room(), 2);
-    assert_eq!(rt; lane_in.offer_batch(&three), Err(Full));
+    assert!(rt; lane_in.offer_all(back).is_err());
+    assert_eq!(rt; lane_out.take(), Taken::Ended);
     let Ok(receipt) = settle(lane_in, lane_out) else {
         panic!(rt; "not settled");
     };
-    assert_eq!(rt; receipt.count(), 3);
+    assert_eq!(rt; receipt.count(), 4);
     Ok(())
 }
 
-/// Puts the numbers behind the others, while there is room.
-fn push_all(batch: &mut Batch<u32>, numbers: &[u32]) {
-    for number in numbers {
-        if batch.len() < batch.room() {
-            batch.push(*number);
-        }
+#[test]
+fn list_let_go_where_one_of_it_was_taken(rt: HostRuntime) -> Result<(), Fail> {
+    let item = Rc::new(rt.alloc(), 5u8)?;
+    let (mut lane_in, mut lane_out) = lane_of(rt.alloc(), 1)?;
+    let mut items = Vec::new(rt.alloc());
+    for _ in 0..3 {
+        items.push(item.clone()?)?;
     }
-}
-
-/// The first three items, as many as there are.
-fn items(batch: &Batch<u32>) -> [Option<u32>; 3] {
-    [item(batch, 0), item(batch, 1), item(batch, 2)]
-}
-
-/// The item at a place, if there is one.
-fn item(batch: &Batch<u32>, place: usize) -> Option<u32> {
-    if place < batch.len() {
-        Some(batch.get(place))
-    } else {
-        None
-    }
+    assert!(rt; lane_in.offer_all(items).is_ok());
+    assert!(rt; matches!(lane_out.take(), Taken::Item(_)));
+    assert_eq!(rt; Rc::strong_count(&item), 3);
+    drop(lane_out);
+    assert_eq!(rt; Rc::strong_count(&item), 1);
+    Ok(())
 }
 
 // Where a request for memory is refused, which `tests/refused_memory` does in turn, `lane` answers want of memory; else the lane

@@ -10,5 +10,5 @@ invariant_of-result-clause-all_taken g c =
     let lane_in = c.look_beside.new.lane_in in
     let lane_out = c.look_beside.new.self in
     let in_order = c.look_beside.ensures.in_order in
-    items_of-whole (sent lane_in) (received lane_out) in_order.0 lane_in.history lane_out.history
+    items_of-whole (sent lane_in) (received lane_out) in_order.0 lane_in.history c.look_beside.ensures.form
     (sym c.is_ended.ensures ∙ c.if-is_ended.true) (sym c.took_end.ensures ∙ c.if-took_end.true) in_order.1
