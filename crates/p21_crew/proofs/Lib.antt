@@ -5,3 +5,4 @@ pub mod UnderwayLemmas
 pub mod LandingLemmas
 pub mod FreshLemmas
 pub mod RunLemmas
+pub mod SameLemmas

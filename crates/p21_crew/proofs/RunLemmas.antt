@@ -3,7 +3,6 @@ use Rattle.std.proofs.Common.{◌≡◌, ℕ, zero, suc, Bool, Option, None, ◌
 use Rattle.std.specs.Prelude.{All, ◌==◌}
 use Rattle.std.specs.List.{AllZip}
 use Rattle.std.proofs.lemmas.List.Elements.{All-nil, All-head, All-tail}
-use Rattle.p21_lanes.specs.Batch.{batch_items}
 use Rattle.p21_lanes.specs.LaneIn.{accepted}
 use Rattle.p21_lanes.specs.LaneOut.{taken}
 use Rattle.p21_lanes.specs.declared.receipt.Receipt.{Receipt}
@@ -80,7 +79,7 @@ module _ {X Y : Type 0} where
 module _ {P O W K C A : Type 0} where
   -- nothing is dealt and nothing gathered yet
   pub underway_first : (cuts : C → List P → ℕ → Type 0) (holds : A → List O → Type 0) (work : W) (size : ℕ) (d : Dealer P O W C A K)
-      → EachAt (λ lane f. IsFresh work f) 0 d.flights.items → d.desk.lanes ≡ size → d.desk.dealt ≡ [] → d.desk.joined ≡ 0 → batch_items d.batch ≡ [] → d.tail ≡ None → holds d.gatherer []
+      → EachAt (λ lane f. IsFresh work f) 0 d.flights.items → d.desk.lanes ≡ size → d.desk.dealt ≡ [] → d.desk.joined ≡ 0 → d.batch.items ≡ [] → d.tail ≡ None → holds d.gatherer []
       → Underway cuts holds d.cutter work size d [] []
   underway_first cuts holds work size d fresh as_many dealt joined empty open_ held =
       record {
@@ -109,8 +108,8 @@ module _ {P O W K C A : Type 0} where
       let results = each_zip (LaneStands work d.desk.dealt done outs) (λ f r. passed r ≡ taken f.results) (λ lane r. passed r ≡ map (λ o. Value o) (share d.desk.dealt lane outs)) d.flights.items ss stands.lanes landed.back (λ lane f r stand is. is ∙ stand.back) in
       let works = each_map (LaneStands work d.desk.dealt done outs) (λ lane f. Works work f) d.flights.items (λ lane f stand. stand.works) stands.lanes in
       let read = landed.read work works in
-      let cut : cuts first (done ++ batch_items d.batch) tail = subst (λ (t : Option ℕ). IsCut cuts first d.cutter (done ++ batch_items d.batch) t) whole.2 stands.cut in
-      let all : done ++ batch_items d.batch ≡ done = ap (λ zs. done ++ zs) whole.0 ∙ append-nil done in (
+      let cut : cuts first (done ++ d.batch.items) tail = subst (λ (t : Option ℕ). IsCut cuts first d.cutter (done ++ d.batch.items) t) whole.2 stands.cut in
+      let all : done ++ d.batch.items ≡ done = ap (λ zs. done ++ zs) whole.0 ∙ append-nil done in (
         rw (← all) cut,
         record {
           dealing = record { one_each = one; of_lanes = of_lanes };

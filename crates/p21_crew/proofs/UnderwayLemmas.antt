@@ -10,7 +10,6 @@ use Rattle.std.specs.Prelude.{slice_get, slice_set}
 use Rattle.std.proofs.lemmas.List.{map-append, length-append, length-replicate}
 use Rattle.std.proofs.lemmas.List.Elements.{All-append, All-replicate}
 use Rattle.std.proofs.lemmas.Option.{get_or_from_slice_get}
-use Rattle.p21_lanes.specs.Batch.{batch_items}
 use Rattle.p21_crew.specs.Underway.{Goes, Underway, LaneStands, IsCut}
 use Rattle.p21_crew.proofs.EachLemmas.{each_at, each_set}
 use Rattle.p21_crew.proofs.ShareLemmas.{share-append, share-all, share-none, share-longer, share-next, share-skip}
@@ -133,11 +132,11 @@ module _ {P O W K C A : Type 0} where
   -- the batch is dealt
   pub underway_dealt : (cuts : C → List P → ℕ → Type 0) (holds : A → List O → Type 0) (first : C) (work : W) (size : ℕ) (d e : Dealer P O W C A K) (done : List P) (outs : List O) (lane : ℕ) (f g : Flight P O W K)
       → Underway cuts holds first work size d done outs → lane < d.desk.lanes → lane < length d.flights.items → f ≡ get_or d.flights.items lane f
-      → accepted g.pieces ≡ accepted f.pieces ++ batch_items d.batch → g.results ≡ f.results → g.worker.promise.work.value ≡ f.worker.promise.work.value
-      → e.desk ≡ record d.desk { dealt = d.desk.dealt ++ replicate (length (batch_items d.batch)) lane } → e.flights.items ≡ slice_set d.flights.items lane g → e.cutter ≡ d.cutter → batch_items e.batch ≡ [] → e.tail ≡ d.tail → e.gatherer ≡ d.gatherer
-      → Underway cuts holds first work size e (done ++ batch_items d.batch) outs
+      → accepted g.pieces ≡ accepted f.pieces ++ d.batch.items → g.results ≡ f.results → g.worker.promise.work.value ≡ f.worker.promise.work.value
+      → e.desk ≡ record d.desk { dealt = d.desk.dealt ++ replicate (length d.batch.items) lane } → e.flights.items ≡ slice_set d.flights.items lane g → e.cutter ≡ d.cutter → e.batch.items ≡ [] → e.tail ≡ d.tail → e.gatherer ≡ d.gatherer
+      → Underway cuts holds first work size e (done ++ d.batch.items) outs
   underway_dealt cuts holds first work size d e done outs lane f g stands of_lanes less at sent results works desk flights cutter batch tail gatherer =
-      let items = batch_items d.batch in
+      let items = d.batch.items in
       let count = stands.gathered in
       let within : length outs ≤ length d.desk.dealt = omega (arith, stands.within, stands.one_each) in
       let here = each_at (LaneStands work d.desk.dealt done outs) lane d.flights.items f less at stands.lanes in
@@ -157,14 +156,14 @@ module _ {P O W K C A : Type 0} where
 
   -- one more piece is cut
   pub underway_cut : (cuts : C → List P → ℕ → Type 0) (holds : A → List O → Type 0) (first : C) (work : W) (size : ℕ) (d e : Dealer P O W C A K) (done : List P) (outs : List O) (piece : P)
-      → Underway cuts holds first work size d done outs → d.tail ≡ None → ((pieces : List P) (tail : ℕ) → cuts e.cutter pieces tail → cuts d.cutter (piece ∷ pieces) tail) → batch_items e.batch ≡ batch_items d.batch ++ piece ∷ []
+      → Underway cuts holds first work size d done outs → d.tail ≡ None → ((pieces : List P) (tail : ℕ) → cuts e.cutter pieces tail → cuts d.cutter (piece ∷ pieces) tail) → e.batch.items ≡ d.batch.items ++ piece ∷ []
       → e.desk ≡ d.desk → e.flights.items ≡ d.flights.items → e.tail ≡ d.tail → e.gatherer ≡ d.gatherer
       → Underway cuts holds first work size e done outs
   underway_cut cuts holds first work size d e done outs piece stands open_ next more desk flights tail gatherer =
-      let was : IsCut cuts first d.cutter (done ++ batch_items d.batch) None = subst (λ (t : Option ℕ). IsCut cuts first d.cutter (done ++ batch_items d.batch) t) open_ stands.cut in
-      let is : IsCut cuts first e.cutter (done ++ batch_items e.batch) None = λ rest end cut.
-      let parts : (done ++ batch_items e.batch) ++ rest ≡ (done ++ batch_items d.batch) ++ (piece ∷ rest) =
-      ap (λ zs. (done ++ zs) ++ rest) more ∙ (ap (λ zs. zs ++ rest) (sym (append_assoc done (batch_items d.batch) (piece ∷ []))) ∙ append_assoc (done ++ batch_items d.batch) (piece ∷ []) rest) in
+      let was : IsCut cuts first d.cutter (done ++ d.batch.items) None = subst (λ (t : Option ℕ). IsCut cuts first d.cutter (done ++ d.batch.items) t) open_ stands.cut in
+      let is : IsCut cuts first e.cutter (done ++ e.batch.items) None = λ rest end cut.
+      let parts : (done ++ e.batch.items) ++ rest ≡ (done ++ d.batch.items) ++ (piece ∷ rest) =
+      ap (λ zs. (done ++ zs) ++ rest) more ∙ (ap (λ zs. zs ++ rest) (sym (append_assoc done d.batch.items (piece ∷ []))) ∙ append_assoc (done ++ d.batch.items) (piece ∷ []) rest) in
       rw parts (was (piece ∷ rest) end (next rest end cut)) in
       record {
         as_many = rw desk stands.as_many;
@@ -183,8 +182,8 @@ module _ {P O W K C A : Type 0} where
       → e.desk ≡ d.desk → e.flights.items ≡ d.flights.items → e.batch ≡ d.batch → e.tail ≡ Some at → e.gatherer ≡ d.gatherer
       → Underway cuts holds first work size e done outs
   underway_tail cuts holds first work size d e done outs at stands open_ ends desk flights batch tail gatherer =
-      let was : IsCut cuts first d.cutter (done ++ batch_items d.batch) None = subst (λ (t : Option ℕ). IsCut cuts first d.cutter (done ++ batch_items d.batch) t) open_ stands.cut in
-      let all : cuts first (done ++ batch_items d.batch) at = rw (← append-nil (done ++ batch_items d.batch)) (was [] at ends) in
+      let was : IsCut cuts first d.cutter (done ++ d.batch.items) None = subst (λ (t : Option ℕ). IsCut cuts first d.cutter (done ++ d.batch.items) t) open_ stands.cut in
+      let all : cuts first (done ++ d.batch.items) at = rw (← append-nil (done ++ d.batch.items)) (was [] at ends) in
       record {
         as_many = rw desk stands.as_many;
         one_each = rw desk stands.one_each;

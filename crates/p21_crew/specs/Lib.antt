@@ -5,3 +5,4 @@ pub mod Underway
 pub mod Run
 pub mod Landing
 pub mod Fresh
+pub mod Outbox

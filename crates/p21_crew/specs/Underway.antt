@@ -1,6 +1,5 @@
 -- What is known between the steps of the dealer.
 use Rattle.std.specs.Prelude.{◌≡◌, ℕ, ◌+◌, ◌<◌, ◌≤◌, false, All, List, [], ◌++◌, length, map, Option, Some, None}
-use Rattle.p21_lanes.specs.Batch.{batch_items}
 use Rattle.p21_lanes.specs.LaneIn.{accepted}
 use Rattle.p21_lanes.specs.LaneOut.{taken, took_end}
 use Rattle.p21_desk.specs.Dealt.{waiting_at}
@@ -34,7 +33,7 @@ module _ {P O W K C A : Type 0} where
     pub within : length outs ≤ length done
     pub lanes : EachAt (LaneStands work d.desk.dealt done outs) 0 d.flights.items
     pub holds_outs : holds d.gatherer outs
-    pub cut : IsCut cuts first d.cutter (done ++ batch_items d.batch) d.tail
+    pub cut : IsCut cuts first d.cutter (done ++ d.batch.items) d.tail
 
   -- whatever was dealt and gathered before, more is now
   abbrev pub Goes : (C → List P → ℕ → Type 0) → (A → List O → Type 0) → Dealer P O W C A K → Dealer P O W C A K → Type 0
@@ -44,8 +43,8 @@ module _ {P O W K C A : Type 0} where
 
   -- all pieces are dealt, all results gathered, and the tail was found there
   abbrev pub IsWhole : Dealer P O W C A K → ℕ → Type 0
-  IsWhole d tail = (batch_items d.batch ≡ []) × (d.desk.joined ≡ length d.desk.dealt) × (d.tail ≡ Some tail)
+  IsWhole d tail = (d.batch.items ≡ []) × (d.desk.joined ≡ length d.desk.dealt) × (d.tail ≡ Some tail)
 
   -- a lane has room for the pieces that were cut
   abbrev pub HasRoom : Dealer P O W C A K → ℕ → Type 0
-  HasRoom d lane = (lane < d.desk.lanes) × (waiting_at d.desk lane + length (batch_items d.batch) ≤ d.desk.capacity)
+  HasRoom d lane = (lane < d.desk.lanes) × (waiting_at d.desk lane + length (d.batch.items) ≤ d.desk.capacity)

@@ -1,6 +1,5 @@
 //! The one who deals the pieces and gathers what is returned.
 ghost use Rattle.std.specs.Prelude.{◌≡◌, ◌+◌, ◌<◌, ◌≤◌, ◌++◌, false, replicate, vec_len, OnOk};
-ghost use Rattle.p21_lanes.specs.Batch.{batch_items};
 ghost use Rattle.p21_lanes.specs.LaneIn.{accepted, was_ended, SameIn};
 ghost use Rattle.p21_desk.specs.Dealt.{waiting_at};
 
@@ -9,11 +8,12 @@ use crate::flight::Flight;
 use crate::gathers::Gathers;
 use crate::rest::Rest;
 use crate::returned::Returned;
+use crate::sending::send_together;
 use crate::work::Work;
-use crossbeam_utils::Backoff;
 use p21_desk::Desk;
-use p21_lanes::{Batch, LaneIn, Taken};
-use std::alloc::AllocError;
+use p21_lanes::{LaneIn, Taken};
+use std::alloc::{AllocError, Global};
+use std::mem;
 use std::sync::Wait;
 
 /// How many results are gathered at most before pieces are dealt again.
@@ -25,7 +25,10 @@ pub(crate) struct Dealer<P, O, W: Work<P, Out = O>, C, A> {
     pub(crate) desk: Desk,
     pub(crate) cutter: C,
     /// Pieces that were cut and not yet dealt.
-    pub(crate) batch: Batch<P>,
+    pub(crate) batch: Vec<P>,
+    /// How many pieces are dealt at once.
+    pub(crate) together: usize,
+    pub(crate) alloc: Global,
     /// Where the tail begins, once it was found.
     pub(crate) tail: Option<u64>,
     pub(crate) gatherer: A,
@@ -40,8 +43,7 @@ impl<P: Copy, O: Drop, W: Work<P, Out = O>, C: Cuts<Piece = P>, A: Gathers<O>> D
     A,
 > {
     ghost use Rattle.std.specs.Prelude.{◌≡◌, ◌<◌, [], OnOk, IfOk, IsTrue, IfSome};
-    ghost use Rattle.p21_lanes.specs.Batch.{batch_items};
-    ghost use Rattle.p21_crew.specs.Underway.{Goes, HasRoom, IsWhole};
+        ghost use Rattle.p21_crew.specs.Underway.{Goes, HasRoom, IsWhole};
 
     /// Deals all pieces and gathers what is returned for them; the answer is where the tail begins. It rests where nothing can be dealt
     /// and no result is there. An error is want of memory, here or of a worker.
@@ -51,7 +53,7 @@ impl<P: Copy, O: Drop, W: Work<P, Out = O>, C: Cuts<Piece = P>, A: Gathers<O>> D
     {
         for _ in rt.forever() {
             let gathered = self.gather()?;
-            self.cut();
+            self.cut()?;
             if let Some(tail) = self.whole() {
                 return Ok(tail);
             }
@@ -72,22 +74,23 @@ impl<P: Copy, O: Drop, W: Work<P, Out = O>, C: Cuts<Piece = P>, A: Gathers<O>> D
         }
     }
 
-    /// Cuts pieces until the batch is full or the tail is found.
-    fn cut(&mut self)
-        ensures { Goes C.cuts A.holds self.old self.new }
+    /// Cuts pieces until there are as many as are dealt at once, or the tail is found.
+    fn cut(&mut self) -> Result<(), AllocError>
+        ensures { OnOk result (Goes C.cuts A.holds self.old self.new) }
     {
         if self.tail.is_some() {
-            return;
+            return Ok(());
         }
-        while self.batch.len() < self.batch.room() {
+        while self.batch.len() < self.together {
             match self.cutter.next() {
-                Next::Piece(piece) => self.batch.push(piece),
+                Next::Piece(piece) => self.batch.push(piece)?,
                 Next::Tail(at) => {
                     self.tail = Some(at);
-                    return;
+                    return Ok(());
                 }
             }
         }
+        Ok(())
     }
 
     /// Gathers results that are there, as many as `AT_ONCE` at most. The answer is whether there was one.
@@ -129,11 +132,12 @@ impl<P: Copy, O: Drop, W: Work<P, Out = O>, C: Cuts<Piece = P>, A: Gathers<O>> D
         let Some(lane) = self.free_lane() else {
             return Ok(false);
         };
+        let next = Vec::with_capacity(self.alloc, self.together)?;
         deal_pieces(&mut self.desk, lane, self.batch.len())?;
+        let batch = mem::replace(&mut self.batch, next);
         let flight = &mut self.flights[lane as usize];
-        offer(rt, &mut flight.pieces, &self.batch);
+        send_together(rt, &mut flight.pieces, batch);
         flight.waker.wake();
-        self.batch.clear();
         Ok(true)
     }
 
@@ -167,18 +171,19 @@ impl<P: Copy, O: Drop, W: Work<P, Out = O>, C: Cuts<Piece = P>, A: Gathers<O>> D
         ensures goes { Goes C.cuts A.holds self.old self.new }
         ensures desk { self.new.desk ≡ self.old.desk }
     {
-        let enough = 2 * self.batch.room() as u64;
+        let enough = (self.together as u64).saturating_mul(2);
         let waiting = self.desk.waiting(lane);
         waiting < enough || waiting - self.ready(lane).min(waiting) < enough
     }
 
-    /// How many results of a lane are there.
+    /// How many results of a lane are there, at most: each place of its ring may hold as many as are sent together.
     fn ready(&mut self, lane: u32) -> u64
         requires { lane < self.old.desk.lanes }
         ensures goes { Goes C.cuts A.holds self.old self.new }
         ensures desk { self.new.desk ≡ self.old.desk }
     {
-        self.flights[lane as usize].results.ready() as u64
+        let places = self.flights[lane as usize].results.ready() as u64;
+        places.saturating_mul(self.together as u64)
     }
 }
 
@@ -193,20 +198,4 @@ fn deal_pieces(desk: &mut Desk, lane: u32, count: usize) -> Result<(), AllocErro
         desk.deal(lane)?;
     }
     Ok(())
-}
-
-/// Sends a batch, as soon as there is a place for it.
-fn offer<P: Copy, R: Wait>(rt: &R, pieces: &mut LaneIn<P>, batch: &Batch<P>)
-    requires { was_ended pieces.old ≡ false }
-    ensures lane { SameIn pieces.old pieces.new × (was_ended pieces.new ≡ false) }
-    ensures accepted { accepted pieces.new ≡ accepted pieces.old ++ batch_items batch.now }
-{
-    let backoff = Backoff::new();
-    for _ in rt.forever() {
-        if pieces.offer_batch(batch).is_ok() {
-            return;
-        }
-        backoff.snooze();
-    }
-    unreachable!()
 }

@@ -8,10 +8,11 @@ ghost use Rattle.p21_crew.specs.Worker.{IsDone};
 use crate::gate::Gate;
 use crate::rest::{Rest, Waker};
 use crate::returned::Returned;
+use crate::sending::send_end;
 use crate::work::Work;
-use crate::worker::{Worked, send_end, work_lane};
+use crate::worker::{Worked, work_lane};
 use crossbeam_utils::Backoff;
-use p21_lanes::{Batch, Capacity, LaneIn, LaneOut, Receipt, Taken, lane, settle};
+use p21_lanes::{Capacity, LaneIn, LaneOut, Receipt, Taken, lane, settle};
 use std::alloc::{AllocError, Global};
 use std::snapshot::Snapshot;
 use std::sync::Wait;
@@ -62,14 +63,13 @@ pub(crate) fn launch<
     gate: &'s G,
     number: u32,
     capacity: Capacity,
-    batch: usize,
+    together: usize,
     dealer: &Rest,
 ) -> Result<Flight<P, O, W>, AllocError>
     ensures pieces { IfOk result (λ flight. accepted flight.pieces ≡ []) }
     ensures results { IfOk result (λ flight. (taken flight.results ≡ []) × (took_end flight.results ≡ false)) }
     ensures work { IfOk result (λ flight. flight.worker.promise.work.value ≡ work.now) }
 {
-    let batch = Batch::new(alloc, batch)?;
     let rest = Rest::new(alloc)?;
     let waker = rest.waker()?;
     let dealer = dealer.waker()?;
@@ -88,7 +88,7 @@ pub(crate) fn launch<
             ensures { IsDone (W.stated work.entry.now) pieces_out results_in result.pieces result.results }
         {
             work_lane(
-                rt, alloc, work, gate, number, batch, rest, dealer, pieces_out, results_in,
+                rt, alloc, work, gate, number, together, rest, dealer, pieces_out, results_in,
             )
         },
     )?;

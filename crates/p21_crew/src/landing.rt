@@ -1,5 +1,5 @@
 //! Landing all lanes.
-ghost use Rattle.std.specs.Prelude.{IfOk};
+ghost use Rattle.std.specs.Prelude.{◌≡◌, [], ◌∷◌, ◌++◌, IfOk, IsTrue};
 ghost use Rattle.p21_crew.specs.Landing.{AreLanded};
 
 use crate::flight::{Flight, Landed};
@@ -44,11 +44,17 @@ impl<P: Copy, O: Drop> Receipts<P, O> {
             returned,
             is_clean,
         } = landed;
-        self.receipts.push(receipt).is_ok()
-            && self.returned.push(returned).is_ok()
-            && is_clean
-            && is_whole
+        let keeps_receipt = push_whole(&mut self.receipts, receipt);
+        let keeps_returned = push_whole(&mut self.returned, returned);
+        keeps_receipt && keeps_returned && is_clean && is_whole
     }
+}
+
+/// Puts an item behind the others. The answer is whether it is there.
+fn push_whole<T: Drop>(items: &mut Vec<T>, item: T) -> bool
+    ensures { IsTrue result → items.new.items ≡ items.old.items ++ item ∷ [] }
+{
+    items.push(item).is_ok()
 }
 
 /// Lands all lanes. An error means that memory was refused, or that the dealer had not taken each result; the lanes are landed

@@ -10,9 +10,11 @@ mod flight;
 mod gate;
 mod gathers;
 mod landing;
+mod outbox;
 mod rest;
 mod returned;
 mod run;
+mod sending;
 mod work;
 mod worker;
 

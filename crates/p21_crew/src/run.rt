@@ -14,7 +14,7 @@ use crate::rest::Rest;
 use crate::returned::Returned;
 use crate::work::Work;
 use p21_desk::{Desk, LaneCount};
-use p21_lanes::{Batch, Capacity, Receipt};
+use p21_lanes::{Capacity, Receipt};
 use std::alloc::{AllocError, Global};
 use std::sync::Wait;
 use std::thread;
@@ -108,16 +108,18 @@ fn run_in<
         × IsRun (W.stated work.now) lanes pieces outs run.dealt.items run.receipts.items run.returned.items
         × A.holds run.gatherer outs) }
 {
-    let size = batch_size(capacity);
-    let batch = Batch::new(alloc, size)?;
+    let together = most_together(capacity);
+    let batch = Vec::with_capacity(alloc, together)?;
     let desk = Desk::new(alloc, lanes, capacity)?;
     let mut rest = Rest::new(alloc)?;
-    let flights = launch_all(scope, rt, alloc, work, gate, lanes, capacity, size, &rest)?;
+    let flights = launch_all(scope, rt, alloc, work, gate, lanes, capacity, together, &rest)?;
     let mut dealer = Dealer {
         flights,
         desk,
         cutter,
         batch,
+        together,
+        alloc,
         tail: None,
         gatherer,
     };
@@ -127,6 +129,8 @@ fn run_in<
         desk,
         cutter: _,
         batch: _,
+        together: _,
+        alloc: _,
         tail: _,
         gatherer,
     } = dealer;
@@ -142,8 +146,8 @@ fn run_in<
     })
 }
 
-/// How many pieces are dealt at once.
-fn batch_size(capacity: Capacity) -> usize {
+/// How many pieces are dealt at once, and how many results are sent together.
+fn most_together(capacity: Capacity) -> usize {
     (capacity.get() as usize / 4).max(1)
 }
 
@@ -165,7 +169,7 @@ fn launch_all<
     gate: &'s G,
     lanes: LaneCount,
     capacity: Capacity,
-    batch: usize,
+    together: usize,
     dealer: &Rest,
 ) -> Result<Vec<Flight<P, O, W>>, AllocError>
     ensures count { IfOk result (λ flights. vec_len flights ≡ lanes) }
@@ -174,7 +178,7 @@ fn launch_all<
     let mut flights = Vec::new(alloc);
     for number in 0..lanes.get() {
         let started = launch(
-            scope, rt, alloc, work, gate, number, capacity, batch, dealer,
+            scope, rt, alloc, work, gate, number, capacity, together, dealer,
         );
         if let Err(refused) = join_crew(rt, &mut flights, started) {
             let _ = land_all(rt, alloc, flights);
