@@ -43,7 +43,7 @@ impl<P: Copy, O: Drop, W: Work<P, Out = O>, C: Cuts<Piece = P>, A: Gathers<O>> D
     A,
 > {
     ghost use Rattle.std.specs.Prelude.{◌≡◌, ◌<◌, [], OnOk, IfOk, IsTrue, IfSome};
-        ghost use Rattle.p21_crew.specs.Underway.{Goes, HasRoom, IsWhole};
+    ghost use Rattle.p21_crew.specs.Underway.{Goes, HasRoom, IsWhole};
 
     /// Deals all pieces and gathers what is returned for them; the answer is where the tail begins. It rests where nothing can be dealt
     /// and no result is there. An error is want of memory, here or of a worker.

@@ -112,7 +112,9 @@ fn run_in<
     let batch = Vec::with_capacity(alloc, together)?;
     let desk = Desk::new(alloc, lanes, capacity)?;
     let mut rest = Rest::new(alloc)?;
-    let flights = launch_all(scope, rt, alloc, work, gate, lanes, capacity, together, &rest)?;
+    let flights = launch_all(
+        scope, rt, alloc, work, gate, lanes, capacity, together, &rest,
+    )?;
     let mut dealer = Dealer {
         flights,
         desk,

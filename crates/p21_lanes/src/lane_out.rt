@@ -43,7 +43,10 @@ impl<T: Drop> LaneOut<T> {
     ghost use Rattle.p21_lanes.specs.Lane.{IsLane};
 
     // The end over the consumer of a new ring. This takes no memory.
-    pub(crate) fn over(alloc: Global, consumer: Consumer<Parcel<T>, Global, EndComesLast>) -> LaneOut<T>
+    pub(crate) fn over(
+        alloc: Global,
+        consumer: Consumer<Parcel<T>, Global, EndComesLast>,
+    ) -> LaneOut<T>
         requires { popped consumer ≡ [] }
         ensures consumer { result.consumer ≡ consumer }
         ensures received { received result ≡ [] }

@@ -15,7 +15,7 @@ loop-preserved g c =
     let stated = IsReturned (g.W.Work.stated c.args.work.now) in
     let same = same_out-then c.args.pieces c.loop.pieces c.take.new.self before.0 c.take.ensures.lane in
     elim c.match-take.branch [
-      in-Item w ↦
+      | in-Item w ↦
           let put = w.put-is_sent.ensures in
           let read = AllZip-snoc stated (taken c.loop.pieces) (results_of c.loop.outbox) w.in-Item.piece w.read_piece-answer.result before.3 w.read_piece-answer.ensures in
           (same, rw w.outbox-is (same_in-then c.new-outbox.result.lane c.loop.outbox.lane w.put-is_sent.new.self.lane before.1 put.lane), w.in-Item.ensures.took.3, rw (w.outbox-is, w.in-Item.ensures.took.1, put.results) read)
