@@ -14,8 +14,7 @@ const STRETCH_BLOCKS: u64 = 0x4_0000;
 /// linear congruential generators, which are chosen so that the products of numbers in a row lie well apart.
 const BLOCK_MULTIPLIER: u64 = 0xd134_2543_de82_ef95;
 
-/// How instance names are hashed by a key. Names in a row that are found together, as one block, are hashed by the number of the block
-/// in place of a name: such numbers stand in rows as names do.
+/// How instance names are hashed by a key.
 #[derive(Clone, Copy)]
 pub struct InstanceNameHashing {
     /// Spreads the stretches. It is odd.

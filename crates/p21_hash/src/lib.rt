@@ -1,9 +1,8 @@
-//! Hashers for the two kinds of keys that files are full of: instance names, or numbers of blocks of them, and keywords.
+//! Hashers for the two kinds of keys that files are full of: instance names and keywords.
 //!
 //! They are quick, and made of a `HashKey`. Whoever writes a file and knows its key can make names and keywords collide. Whoever does not
 //! can make keywords, and names of different stretches of 2^26, collide by luck alone; how many names of one stretch may stand together
-//! is bounded by any key. So where files come from strangers the key is to be a number that is drawn for each run. The same holds of
-//! the numbers of blocks, each for so many names in a row.
+//! is bounded by any key. So where files come from strangers the key is to be a number that is drawn for each run.
 #![tactic(auto)]
 
 mod instance_names;
