@@ -1,16 +1,18 @@
 -- The places of names in a table, after a write.
-use Rattle.std.proofs.Common.{◌≡◌, ◌≢◌, inl, inr, ℕ, zero, suc, ◌+◌, ◌-◌, ◌*◌, ◌/◌, ◌%◌, ◌<◌, ◌≤◌, Option, Some, None, true, false, List, [], length, get_or, set, replicate, refl, sym, ap, subst, ◌∙◌, arith}
-use Rattle.std.specs.Prelude.{cond, nat_eq, slice_get}
+use Rattle.std.proofs.Common.{◌≡◌, ◌≢◌, ◌-◌, inl, inr, ℕ, zero, suc, ◌+◌, ◌*◌, ◌/◌, ◌%◌, ◌<◌, ◌≤◌, Option, Some, None, true, false, List, [], ◌∷◌, ◌++◌, length, get_or, set, replicate, refl, sym, ap, subst, ◌∙◌, arith}
+use Rattle.std.specs.Prelude.{nat_eq, position, slice_get}
 use Rattle.std.specs.Cmp.{nat_eq_equiv}
-use Rattle.std.specs.Map.{lookup, lookup_key}
+use Rattle.std.specs.Map.{lookup}
 use Rattle.std.specs.Option.{SomeIff}
 use Rattle.std.proofs.lemmas.Bool.{cases_Bool, cases_lt}
-use Rattle.std.proofs.lemmas.Bool.Decides.{Decides-eqb, nat_tests}
-use Rattle.std.proofs.lemmas.List.{get_or-replicate, get_or-set_other, get_or-set_same, get_or_past}
+use Rattle.std.proofs.lemmas.Bool.Decides.{nat_tests}
+use Rattle.std.proofs.lemmas.List.{get_or-map, get_or-replicate, get_or-set_other, get_or-set_same, get_or_past, length-map, length-replicate}
+use Rattle.std.proofs.lemmas.List.Quantifiers.{position-Some}
 use Rattle.std.proofs.lemmas.Map.Entries.{lookup_from_place}
-use Rattle.std.proofs.lemmas.Map.Made.{lookup_key_same}
 use Rattle.std.proofs.lemmas.Nat.{div-add-mod'}
-use Rattle.indexmap.specs.IndexMap.{get, IsUnique, Updates}
+use Rattle.std.proofs.lemmas.Option.{slice_get-get_or}
+use Rattle.indexmap.specs.IndexMap.{get, insert_entry, keys, IsUnique, Updates}
+use Rattle.indexmap.proofs.CallerLemmas.{insert_entry-new}
 use Rattle.p21_join.specs.declared.names.NameTable.{NameTable}
 use Rattle.p21_join.specs.NameTable.{IsBlockAt, KeepsOtherPlaces, KeepsPlaces, place_by, place_in, place_of}
 
@@ -18,7 +20,7 @@ use Rattle.p21_join.specs.NameTable.{IsBlockAt, KeepsOtherPlaces, KeepsPlaces, p
 same_name : (m n : ℕ) → m / 16 ≡ n / 16 → m % 16 ≡ n % 16 → m ≡ n
 same_name m n block within = sym (div-add-mod' m 16) ∙ (ap (λ b. b * 16 + m % 16) block ∙ (ap (λ k. n / 16 * 16 + k) within ∙ div-add-mod' n 16))
 
-same_number : (m n : ℕ) → nat_eq m n ≡ true → m ≡ n
+pub same_number : (m n : ℕ) → nat_eq m n ≡ true → m ≡ n
 same_number m n e = grind (arith, nat_tests, e)
 
 within_block : (name : ℕ) (numbers : List ℕ) → length numbers ≡ 16 → name % 16 < length numbers
@@ -57,17 +59,20 @@ block_kept t u number numbers was updates name = elim (cases_Bool (nat_eq number
 ]
 
 -- a block in which no name has a place
-all_zero : (within : ℕ) → get_or (replicate 16 0) within 0 ≡ 0
+abbrev pub zeros : List ℕ
+zeros = replicate 16 0
+
+all_zero : (within : ℕ) → get_or zeros within 0 ≡ 0
 all_zero within = elim (cases_lt within 16) [
   | inl less ↦ get_or-replicate 16 within 0 0 less
-  | inr past ↦ get_or_past (replicate 16 0) within 0 past
+  | inr past ↦ get_or_past zeros within 0 (omega (arith, past, length-replicate 16 zero))
 ]
 
-pub block_added : (t u : NameTable) (number : ℕ) → get nat_eq t.blocks number ≡ None → Updates nat_eq t.blocks u.blocks number (Some (replicate 16 0)) → KeepsPlaces t u
+pub block_added : (t u : NameTable) (number : ℕ) → get nat_eq t.blocks number ≡ None → Updates nat_eq t.blocks u.blocks number (Some zeros) → KeepsPlaces t u
 block_added t u number none updates name = elim (cases_Bool (nat_eq number (name / 16))) [
   | inl same ↦
       let block : number ≡ name / 16 = same_number number (name / 16) same in
-      let new : get nat_eq u.blocks (name / 16) ≡ Some (replicate 16 0) = subst (λ b. get nat_eq u.blocks b ≡ Some (replicate 16 0)) block updates.1 in
+      let new : get nat_eq u.blocks (name / 16) ≡ Some zeros = subst (λ b. get nat_eq u.blocks b ≡ Some zeros) block updates.1 in
       let old : get nat_eq t.blocks (name / 16) ≡ None = subst (λ b. get nat_eq t.blocks b ≡ None) block none in
       ap (λ b. place_in b (name % 16)) new ∙ (ap place_by (all_zero (name % 16)) ∙ sym (ap (λ b. place_in b (name % 16)) old))
   | inr different ↦ ap (λ b. place_in b (name % 16)) (updates.2 (name / 16) different)
@@ -92,11 +97,25 @@ same_block t number at other numbers h there = ap key_of (sym there ∙ h.1) whe
   key_of None = other
   key_of (Some entry) = entry.0
 
--- the key that a look-up finds is the one that was looked up
-pub found_block : (t : NameTable) (number at key : ℕ) (numbers : List ℕ) → Some key ≡ lookup_key (nat_eq number) t.blocks.entries → slice_get t.blocks.entries at ≡ Some (key, numbers) → IsBlockAt t number at
-found_block t number at key numbers found there =
-    let same : number ≡ key = lookup_key_same Decides-eqb number t.blocks.entries key (sym found) in
-    (numbers, there ∙ ap (λ k. Some (k, numbers)) (sym same))
+-- the block that a look-up finds
+pub found_block : (t : NameTable) (number at : ℕ) → Some at ≡ position (nat_eq number) (keys t.blocks) → IsBlockAt t number at
+found_block t number at found =
+    let es = t.blocks.entries in
+    let first : ℕ × List ℕ = (0, []) in
+    let h = position-Some (nat_eq number) (keys t.blocks) at 0 (sym found) in
+    let within : at < length es = (let l = h.0 in omega (arith, length-map es (λ (e : ℕ × List ℕ). e.0), l)) in
+    let key : number ≡ (get_or es at first).0 = same_number number (get_or es at first).0 (ap (nat_eq number) (sym (get_or-map (λ (e : ℕ × List ℕ). e.0) es at first 0 within)) ∙ h.1) in
+    ((get_or es at first).1, slice_get-get_or es at first within ∙ ap (λ k. Some (k, (get_or es at first).1)) (sym key))
+
+-- the block that is added
+pub pushed_block : (t u : NameTable) (number : ℕ) (numbers : List ℕ) → get nat_eq t.blocks number ≡ None → u.blocks.entries ≡ insert_entry nat_eq t.blocks.entries number numbers → IsBlockAt u number (length t.blocks.entries)
+pushed_block t u number numbers none entries =
+    let es = t.blocks.entries in
+    let longer : u.blocks.entries ≡ es ++ (number, numbers) ∷ [] = entries ∙ insert_entry-new nat_eq t.blocks number numbers none in
+    (numbers, ap (λ l. slice_get l (length es)) longer ∙ pushed es) where
+  pushed : (es : List (ℕ × List ℕ)) → slice_get (es ++ (number, numbers) ∷ []) (length es) ≡ Some (number, numbers)
+  pushed [] = refl
+  pushed (e ∷ es) = pushed es
 
 -- Numbers and places.
 
