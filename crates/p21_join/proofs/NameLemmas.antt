@@ -37,7 +37,7 @@ found_at is n k i h there = ((k, h.0, sym there), ap (λ (x : RawInstance). x.na
 
 -- an instance with another name stands behind the others
 position_more : (is : List RawInstance) (i : RawInstance) (name : ℕ) (place : Option ℕ) → name ≢ i.name → IsPosition is name place → IsPosition (is ++ i ∷ []) name place
-position_more is i name None other h k d less = elim (cases_lt k (length is)) [
+position_more is i name None other h = λ k d less. elim (cases_lt k (length is)) [
   | inl earlier ↦ λ e. h k d earlier (ap (λ (x : RawInstance). x.name) (sym (get_or_append_left is (i ∷ []) d k earlier)) ∙ e)
   | inr last ↦
       let place : k ≡ length is = omega (arith, length-append is (i ∷ []), less, last) in
