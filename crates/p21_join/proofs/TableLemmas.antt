@@ -1,5 +1,5 @@
 -- The places of names in a table, after a write.
-use Rattle.std.proofs.Common.{◌≡◌, ◌≢◌, ◌-◌, inl, inr, ℕ, zero, suc, ◌+◌, ◌*◌, ◌/◌, ◌%◌, ◌<◌, ◌≤◌, Option, Some, None, true, false, List, [], ◌∷◌, ◌++◌, length, get_or, set, replicate, refl, sym, ap, subst, ◌∙◌, arith}
+use Rattle.std.proofs.Common.{◌≡◌, ◌≢◌, ◌-◌, inl, inr, ℕ, zero, suc, ◌+◌, ◌*◌, ◌/◌, ◌%◌, ◌<◌, ◌≤◌, Option, Some, None, true, List, [], ◌∷◌, ◌++◌, length, get_or, set, replicate, refl, sym, ap, subst, ◌∙◌, arith}
 use Rattle.std.specs.Prelude.{nat_eq, position, slice_get}
 use Rattle.std.specs.Cmp.{nat_eq_equiv}
 use Rattle.std.specs.Map.{lookup}
@@ -113,9 +113,9 @@ pushed_block t u number numbers none entries =
     let es = t.blocks.entries in
     let longer : u.blocks.entries ≡ es ++ (number, numbers) ∷ [] = entries ∙ insert_entry-new nat_eq t.blocks number numbers none in
     (numbers, ap (λ l. slice_get l (length es)) longer ∙ pushed es) where
-  pushed : (es : List (ℕ × List ℕ)) → slice_get (es ++ (number, numbers) ∷ []) (length es) ≡ Some (number, numbers)
-  pushed [] = refl
-  pushed (e ∷ es) = pushed es
+      pushed : (es : List (ℕ × List ℕ)) → slice_get (es ++ (number, numbers) ∷ []) (length es) ≡ Some (number, numbers)
+      pushed [] = refl
+      pushed (e ∷ es) = pushed es
 
 -- Numbers and places.
 

@@ -1,7 +1,6 @@
-use Rattle.std.proofs.Common.{Ok, false, true, refl, sym, ap, subst, ◌∙◌}
+use Rattle.std.proofs.Common.{Ok, refl, subst}
 use Rattle.p21_join.specs.NameTable.{InsertsPlace}
-use Rattle.p21_join.specs.Names.{HasPlacesOf, HaveOwnNames}
-use Rattle.p21_join.proofs.NameLemmas.{is_new, is_named, own_names_more, places_kept, places_more, taken_again}
+use Rattle.p21_join.proofs.NameLemmas.{is_named}
 use Rattle.p21_join.proofs.joiner.Joiner.add.Goals as goal
 
 pub returns-in-Ok-false : goal.returns-in-Ok-false

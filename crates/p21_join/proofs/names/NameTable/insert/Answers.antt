@@ -1,4 +1,4 @@
-use Rattle.std.proofs.Common.{◌≡◌, ℕ, ◌/◌, ◌%◌, List, length, Some, ap, set, subst, sym, ◌∙◌, rules}
+use Rattle.std.proofs.Common.{◌≡◌, ℕ, ◌/◌, ◌%◌, List, length, Some, ap, set, sym, ◌∙◌, rules}
 use Rattle.std.specs.Prelude.{slice_get}
 use Rattle.std.specs.Cmp.{nat_eq_equiv}
 use Rattle.std.specs.Option.{is_some}
