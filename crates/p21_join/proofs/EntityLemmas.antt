@@ -8,8 +8,8 @@ use Rattle.p21_tree.specs.Views.{plain_instance}
 use Rattle.p21_check.specs.EntityOf.{AreSimpleEntities, IsKnownAs, IsSimpleEntity, IsSimpleOf}
 use Rattle.p21_check.specs.declared.entity_of.Named.TheVariants as known
 use Rattle.p21_check.specs.References.{named_in}
-use Rattle.p21_join.specs.Model.{IsPosition, plain_instances}
-use Rattle.p21_join.specs.Names.{HaveOwnNames}
+use Rattle.p21_join.specs.Model.{plain_instances}
+use Rattle.p21_join.specs.Names.{HaveOwnNames, IsPosition}
 use Rattle.p21_join.proofs.FindLemmas.{none_named, some_named}
 
 -- there are as many as instances

@@ -1,3 +1,4 @@
+pub mod TableLemmas
 pub mod NameLemmas
 pub mod FindLemmas
 pub mod EntityLemmas

@@ -1,14 +1,19 @@
 -- Names of instances, and what adding one more does.
-use Rattle.std.specs.Prelude.{◌≡◌, ◌≢◌, ℕ, Bool, true, false, List, [], ◌∷◌, ◌++◌, All, Contains, Result, Ok, Err}
+use Rattle.std.specs.Prelude.{◌≡◌, ℕ, ◌↔◌, ◌⊎◌, Bool, true, false, Result, Ok, Err, IsSome}
 use Rattle.std.specs.declared.alloc.AllocError.{AllocError}
 use Rattle.p21_join.specs.declared.instance_names.InstanceNames.{InstanceNames}
+use Rattle.p21_join.specs.NameTable.{place_of}
 
--- the names, in the order in which they came
-abbrev pub names_in : InstanceNames → List ℕ
-names_in n = n.names.keys
+-- a name is one of the names
+abbrev pub IsAmong : InstanceNames → ℕ → Type 0
+IsAmong names name = IsSome (place_of names.table name)
 
--- A new name goes last. One that is there is not added again; then, or for want of memory, the names are as they were.
-abbrev pub AddsName : List ℕ → ℕ → Result Bool AllocError → List ℕ → Type 0
-AddsName old name (Ok true) new = All (λ other. other ≢ name) old × (new ≡ old ++ name ∷ [])
-AddsName old name (Ok false) new = Contains old name × (new ≡ old)
-AddsName old name (Err e) new = new ≡ old
+-- the names are as they were
+abbrev pub KeepsNames : InstanceNames → InstanceNames → Type 0
+KeepsNames old new = (name : ℕ) → IsAmong new name ↔ IsAmong old name
+
+-- A new name comes to the others. One that is there is not added again; then, or for want of memory, the names are as they were.
+abbrev pub AddsName : InstanceNames → ℕ → Result Bool AllocError → InstanceNames → Type 0
+AddsName old name (Ok true) new = ¬ (IsAmong old name) × ((other : ℕ) → IsAmong new other ↔ (IsAmong old other ⊎ (other ≡ name)))
+AddsName old name (Ok false) new = IsAmong old name × KeepsNames old new
+AddsName old name (Err e) new = KeepsNames old new

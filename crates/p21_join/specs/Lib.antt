@@ -1,3 +1,4 @@
+pub mod NameTable
 pub mod Names
 pub mod Model
 pub mod Joined

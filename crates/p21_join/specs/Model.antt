@@ -1,5 +1,5 @@
 -- What a model is: a list of instances.
-use Rattle.std.specs.Prelude.{◌≡◌, ◌≢◌, ◌<◌, ℕ, List, Option, Some, None, All, Contains, get_or, length, map}
+use Rattle.std.specs.Prelude.{◌≡◌, ◌≢◌, ℕ, List, Option, Some, None, All, Contains, map}
 use Rattle.std.specs.Borrow.{Bor}
 use Rattle.p21_tree.specs.declared.instances.RawInstance.{RawInstance}
 use Rattle.p21_tree.specs.Sentence.{Instance}
@@ -18,8 +18,3 @@ plain_instances is = map plain_instance is
 abbrev pub Finds : List RawInstance → ℕ → Option (Bor RawInstance) → Type 0
 Finds is name None = All (λ i. i.name ≢ name) is
 Finds is name (Some i) = Contains is i.now × (i.now.name ≡ name)
-
--- the place of the instance of the list that has the name; none where no instance has it
-abbrev pub IsPosition : List RawInstance → ℕ → Option ℕ → Type 0
-IsPosition is name None = All (λ i. i.name ≢ name) is
-IsPosition is name (Some k) = (k < length is) × ((d : RawInstance) → (get_or is k d).name ≡ name)

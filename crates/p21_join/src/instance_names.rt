@@ -1,53 +1,53 @@
 //! The names of instances, without the instances.
 
-ghost use Rattle.std.specs.Prelude.{◌≡◌, [], map};
+ghost use Rattle.std.specs.Prelude.{ℕ, ◌↔◌, Contains, map};
 ghost use Rattle.p21_join.specs.Joined.{joined};
 
 use crate::joiner::Joiner;
-use crate::names::NameSet;
+use crate::names::NameTable;
 use p21_hash::HashKey;
 use std::alloc::{AllocError, Global};
 
 /// The names of some instances, each once.
 #[derive(Drop)]
 pub struct InstanceNames {
-    names: NameSet,
+    table: NameTable,
 }
 
 impl InstanceNames {
-    ghost use Rattle.p21_join.specs.InstanceNames.{names_in, AddsName};
+    ghost use Rattle.p21_join.specs.InstanceNames.{AddsName, IsAmong};
 
     /// No name yet. This takes no memory. Names are hashed by a key that is always the same: whoever knows it can choose names that take
     /// long.
     pub fn new(alloc: Global) -> InstanceNames
-        ensures { names_in result ≡ [] }
+        ensures { (name : ℕ) → ¬ (IsAmong result name) }
     {
         InstanceNames::with_key(alloc, HashKey::default())
     }
 
     /// The same, where names are hashed by this key.
     pub fn with_key(alloc: Global, key: HashKey) -> InstanceNames
-        ensures { names_in result ≡ [] }
+        ensures { (name : ℕ) → ¬ (IsAmong result name) }
     {
         InstanceNames {
-            names: NameSet::with_hasher(alloc, key.instance_names()),
+            table: NameTable::with_hasher(alloc, key.instance_names()),
         }
     }
 
     /// The names of the instances that were joined, which are let go. This takes no memory.
     pub fn of(joiner: Joiner<'_>) -> InstanceNames
-        ensures { names_in result ≡ map (λ i. i.name) (joined joiner.entry) }
+        ensures { (name : ℕ) → IsAmong result name ↔ Contains (map (λ i. i.name) (joined joiner.entry)) name }
     {
         InstanceNames {
-            names: joiner.into_names(),
+            table: joiner.into_places(),
         }
     }
 
-    /// Adds a name behind the others, where it is new; the answer is whether it is. It is refused for want of memory alone, and then
+    /// Adds a name to the others, where it is new; the answer is whether it is. It is refused for want of memory alone, and then
     /// nothing is changed.
     pub fn add(&mut self, name: u64) -> Result<bool, AllocError>
-        ensures { AddsName (names_in self.old) name result (names_in self.new) }
+        ensures { AddsName self.old name result self.new }
     {
-        Ok(self.names.insert(name)?)
+        self.table.insert(name, 0)
     }
 }

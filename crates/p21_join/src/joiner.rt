@@ -1,10 +1,10 @@
 //! A model in the making.
 
-ghost use Rattle.std.specs.Prelude.{◌≡◌, [], map};
-ghost use Rattle.p21_join.specs.Names.{AreNamesOf, HaveOwnNames};
+ghost use Rattle.std.specs.Prelude.{◌≡◌, []};
+ghost use Rattle.p21_join.specs.Names.{HasPlacesOf, HasPlacesOf-prop, HaveOwnNames};
 
 use crate::model::Model;
-use crate::names::NameSet;
+use crate::names::NameTable;
 use p21_hash::HashKey;
 use p21_tree::RawInstance;
 use std::alloc::Global;
@@ -13,9 +13,9 @@ use std::alloc::Global;
 #[derive(Drop)]
 pub struct Joiner<'a> {
     instances: Vec<RawInstance<'a>>,
-    /// The name of each instance, at its place.
-    names: NameSet,
-    ghost named: { AreNamesOf names.keys instances.items },
+    /// The place of each instance, by its name.
+    places: NameTable,
+    ghost placed: { HasPlacesOf places instances.items } by { HasPlacesOf-prop places instances.items },
     ghost own_names: { HaveOwnNames instances.items },
 }
 
@@ -46,7 +46,7 @@ impl<'a> Joiner<'a> {
     {
         Joiner {
             instances: Vec::new(alloc),
-            names: NameSet::with_hasher(alloc, key.instance_names()),
+            places: NameTable::with_hasher(alloc, key.instance_names()),
         }
     }
 
@@ -57,7 +57,7 @@ impl<'a> Joiner<'a> {
         ensures { Joins (joined self.old) instance.entry result (joined self.new) }
     {
         let name = instance.name;
-        match self.names.insert(name) {
+        match self.places.insert(name, self.instances.len()) {
             Ok(true) => {}
             Ok(false) => return Err(JoinError::Duplicate(instance)),
             Err(_) => return Err(JoinError::Memory(instance)),
@@ -65,7 +65,7 @@ impl<'a> Joiner<'a> {
         match self.instances.push(instance) {
             Ok(()) => Ok(()),
             Err(refused) => {
-                let _ = self.names.pop();
+                self.places.remove(name);
                 Err(JoinError::Memory(refused.value))
             }
         }
@@ -75,13 +75,13 @@ impl<'a> Joiner<'a> {
     pub fn into_model(self) -> Model<'a>
         ensures { instances_of result ≡ joined self.entry }
     {
-        Model::of(self.instances, self.names)
+        Model::of(self.instances, self.places)
     }
 
-    /// The names of all that was joined, in order. The instances are let go.
-    pub(crate) fn into_names(self) -> NameSet
-        ensures { result.keys ≡ map (λ i. i.name) (joined self.entry) }
+    /// The places of all that was joined, by their names. The instances are let go.
+    pub(crate) fn into_places(self) -> NameTable
+        ensures { HasPlacesOf result (joined self.entry) }
     {
-        self.names
+        self.places
     }
 }

@@ -1,9 +1,9 @@
 //! A model: the instances of a file, and the places of their names.
 
 ghost use Rattle.std.specs.Prelude.{◌≡◌, ◌<◌, ◌↔◌, IsTrue, length, get_or};
-ghost use Rattle.p21_join.specs.Names.{AreNamesOf, HaveOwnNames};
+ghost use Rattle.p21_join.specs.Names.{HasPlacesOf, HasPlacesOf-prop, HaveOwnNames};
 
-use crate::names::NameSet;
+use crate::names::NameTable;
 use p21_check::TypeOf;
 use p21_tree::RawInstance;
 
@@ -11,22 +11,23 @@ use p21_tree::RawInstance;
 #[derive(Drop)]
 pub struct Model<'a> {
     instances: Vec<RawInstance<'a>>,
-    /// The name of each instance, at its place.
-    names: NameSet,
-    ghost named: { AreNamesOf names.keys instances.items },
+    /// The place of each instance, by its name.
+    places: NameTable,
+    ghost placed: { HasPlacesOf places instances.items } by { HasPlacesOf-prop places instances.items },
     /// No two instances have one name.
     pub ghost own_names: { HaveOwnNames instances.items },
 }
 
 impl<'a> Model<'a> {
-    ghost use Rattle.p21_join.specs.Model.{instances_of, Finds, IsPosition};
+    ghost use Rattle.p21_join.specs.Model.{instances_of, Finds};
+    ghost use Rattle.p21_join.specs.Names.{IsPosition};
 
-    pub(crate) fn of(instances: Vec<RawInstance<'a>>, names: NameSet) -> Model<'a>
-        requires named { AreNamesOf names.keys instances.items }
+    pub(crate) fn of(instances: Vec<RawInstance<'a>>, places: NameTable) -> Model<'a>
+        requires placed { HasPlacesOf places instances.items }
         requires own_names { HaveOwnNames instances.items }
         ensures { instances_of result ≡ instances.entry.items }
     {
-        Model { instances, names }
+        Model { instances, places }
     }
 
     /// How many instances there are.
@@ -70,7 +71,7 @@ impl<'a> Model<'a> {
     pub fn position(&self, name: u64) -> Option<usize>
         ensures { IsPosition (instances_of self.now) name result }
     {
-        self.names.get_index_of(&name)
+        self.places.place(name)
     }
 }
 

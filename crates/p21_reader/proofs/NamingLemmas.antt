@@ -1,6 +1,6 @@
 -- The names of instances, one more.
-use Rattle.std.proofs.Common.{◌≡◌, ◌≢◌, true, false, Option, Some, Ok, inl, inr, ℕ, zero, suc, ◌<◌, List, [], ◌∷◌, ◌++◌, length, get_or, map, refl, sym, ap, subst, ◌∙◌, arith}
-use Rattle.std.specs.Prelude.{All, Contains}
+use Rattle.std.proofs.Common.{◌≡◌, ◌⊎◌, ◌↔◌, true, false, Option, Some, Ok, inl, inr, ℕ, zero, suc, ◌<◌, List, [], ◌∷◌, ◌++◌, length, get_or, map, refl, sym, ap, subst, ◌∙◌, arith}
+use Rattle.std.specs.Prelude.{Contains}
 use Rattle.std.proofs.lemmas.List.{get_or-map, length-map}
 use Rattle.std.proofs.lemmas.List.Elements.{Contains-append_cases, Contains-append_left, Contains-append_right}
 use Rattle.p21_tree.specs.declared.instances.RawInstance.{RawInstance}
@@ -8,7 +8,8 @@ use Rattle.p21_tree.specs.Sentence.{Instance}
 use Rattle.p21_tree.specs.Views.{plain_instance}
 use Rattle.p21_tree.specs.declared.faults.FaultKind.{FaultKind}
 use Rattle.p21_tree.specs.declared.faults.FaultKind.TheVariants as kind
-use Rattle.p21_join.specs.InstanceNames.{AddsName}
+use Rattle.p21_join.specs.declared.instance_names.InstanceNames.{InstanceNames}
+use Rattle.p21_join.specs.InstanceNames.{AddsName, IsAmong}
 use Rattle.p21_join.specs.Model.{plain_instances}
 use Rattle.p21_reader.specs.InstanceFault.{IsRepeated}
 use Rattle.p21_reader.specs.InstanceFault as fault
@@ -41,58 +42,66 @@ module _ {X : Type 0} where
   one_alone x = (0, omega arith, refl)
 
 -- the names of a joiner's instances
-pub names_of_all : (is : List RawInstance) → AreNames (map (λ (i : RawInstance). i.name) is) (plain_instances is)
+pub names_of_all : (is : List RawInstance) → AreNames (Contains (map (λ (i : RawInstance). i.name) is)) (plain_instances is)
 names_of_all is = record {
   each = λ i h. let r = contains_back plain_instance is i h in subst (λ n. Contains (map (λ (x : RawInstance). x.name) is) n) (ap (λ x. x.name) r.2) (contains_there (λ (x : RawInstance). x.name) is r.0 r.1);
   only = λ n h. let r = contains_back (λ (x : RawInstance). x.name) is n h in (plain_instance r.0, contains_there plain_instance is r.0 r.1, r.2);
 }
 
--- a new name
-pub names_more : (names : List ℕ) (is : List Instance) (i : Instance) → AreNames names is → AreNames (names ++ i.name ∷ []) (is ++ i ∷ [])
-names_more names is i h = record {
-  each = λ x k. elim (Contains-append_cases is (i ∷ []) x k) [
-    | inl there ↦ Contains-append_left names (i.name ∷ []) x.name (h.each x there)
-    | inr here ↦ Contains-append_right names (i.name ∷ []) x.name (subst (Contains (i.name ∷ [])) (ap (λ y. y.name) (only_one i x here)) (one_alone i.name))
-  ];
-  only = λ n k. elim (Contains-append_cases names (i.name ∷ []) n k) [
-    | inl there ↦ let r = h.only n there in (r.0, Contains-append_left is (i ∷ []) r.0 r.1, r.2)
-    | inr here ↦ (i, Contains-append_right is (i ∷ []) i (one_alone i), only_one i.name n here)
-  ];
-}
-
--- a name that is there
-pub names_again : (names : List ℕ) (is : List Instance) (i : Instance) → AreNames names is → Contains names i.name → AreNames names (is ++ i ∷ [])
-names_again names is i h again = record {
-  each = λ x k. elim (Contains-append_cases is (i ∷ []) x k) [
-    | inl there ↦ h.each x there
-    | inr here ↦ subst (Contains names) (ap (λ y. y.name) (only_one i x here)) again
-  ];
-  only = λ n k. let r = h.only n k in (r.0, Contains-append_left is (i ∷ []) r.0 r.1, r.2);
-}
-
-pub repeated_in : (names : List ℕ) (is : List Instance) (i : Instance) → AreNames names is → Contains names i.name → IsRepeated is i
-repeated_in names is i h again = h.only i.name again
-
-pub new_in : (names : List ℕ) (is : List Instance) (i : Instance) → AreNames names is → All (λ other. other ≢ i.name) names → ¬ (IsRepeated is i)
-new_in names is i h new r =
-    let there : Contains names r.0.name = h.each r.0 r.1 in
-    new there.0 r.0.name there.1 (there.2 ∙ r.2)
-
 -- that a name is there among the names of a joiner's instances
 pub named_there : (is : List RawInstance) (i : RawInstance) → (other : RawInstance) × Contains is other × (other.name ≡ i.name) → Contains (map (λ (x : RawInstance). x.name) is) i.name
 named_there is i h = subst (Contains (map (λ (x : RawInstance). x.name) is)) h.2 (contains_there (λ (x : RawInstance). x.name) is h.0 h.1)
 
--- the fault of one more instance, by whether its name is new
-pub named_fault : (names new : List ℕ) (is : List Instance) (i : Instance) (n : ℕ) (own : Option FaultKind) → AddsName names n (Ok true) new → i.name ≡ n → AreNames names is → IsCarriedFault is (record { instance = i; own = own }) own
-named_fault names new is i n own adds e h = fault.alone (new_in names is i h (subst (λ m. All (λ other. other ≢ m) names) (sym e) adds.0)) refl
+module _ (P Q : ℕ → Type 0) (is : List Instance) (h : AreNames P is) where
+  -- the same names
+  pub names_alike : ((n : ℕ) → Q n ↔ P n) → AreNames Q is
+  names_alike same = record {
+    each = λ i there. (same i.name).1 (h.each i there);
+    only = λ n there. h.only n ((same n).0 there);
+  }
 
-pub repeated_fault : (names new : List ℕ) (is : List Instance) (i : Instance) (n : ℕ) (own : Option FaultKind) → AddsName names n (Ok false) new → i.name ≡ n → AreNames names is → IsCarriedFault is (record { instance = i; own = own }) (Some kind.DuplicateName)
-repeated_fault names new is i n own adds e h = fault.repeated (repeated_in names is i h (subst (Contains names) (sym e) adds.0))
+  module _ (i : Instance) where
+    -- a new name
+    pub names_more : ((n : ℕ) → Q n ↔ (P n ⊎ (n ≡ i.name))) → AreNames Q (is ++ i ∷ [])
+    names_more more = record {
+      each = λ x k. elim (Contains-append_cases is (i ∷ []) x k) [
+        | inl there ↦ (more x.name).1 (inl (h.each x there))
+        | inr here ↦ (more x.name).1 (inr (ap (λ y. y.name) (sym (only_one i x here))))
+      ];
+      only = λ n k. elim ((more n).0 k) [
+        | inl there ↦ let r = h.only n there in (r.0, Contains-append_left is (i ∷ []) r.0 r.1, r.2)
+        | inr here ↦ (i, Contains-append_right is (i ∷ []) i (one_alone i), sym here)
+      ];
+    }
 
-pub names_new : (names new : List ℕ) (is : List Instance) (i : Instance) (n : ℕ) → AddsName names n (Ok true) new → i.name ≡ n → AreNames names is → AreNames new (is ++ i ∷ [])
-names_new names new is i n adds e h =
-    let more = adds.1 ∙ ap (λ m. names ++ m ∷ []) (sym e) in
-    subst (λ ns. AreNames ns (is ++ i ∷ [])) (sym more) (names_more names is i h)
+-- a name that is there
+pub names_again : (P : ℕ → Type 0) (is : List Instance) (i : Instance) → AreNames P is → P i.name → AreNames P (is ++ i ∷ [])
+names_again P is i h again = record {
+  each = λ x k. elim (Contains-append_cases is (i ∷ []) x k) [
+    | inl there ↦ h.each x there
+    | inr here ↦ subst P (ap (λ y. y.name) (only_one i x here)) again
+  ];
+  only = λ n k. let r = h.only n k in (r.0, Contains-append_left is (i ∷ []) r.0 r.1, r.2);
+}
 
-pub names_kept : (names new : List ℕ) (is : List Instance) (i : Instance) (n : ℕ) → AddsName names n (Ok false) new → i.name ≡ n → AreNames names is → AreNames new (is ++ i ∷ [])
-names_kept names new is i n adds e h = subst (λ ns. AreNames ns (is ++ i ∷ [])) (sym adds.1) (names_again names is i h (subst (Contains names) (sym e) adds.0))
+new_in : (P : ℕ → Type 0) (is : List Instance) (i : Instance) → AreNames P is → ¬ (P i.name) → ¬ (IsRepeated is i)
+new_in P is i h new r = new (subst P r.2 (h.each r.0 r.1))
+
+module _ (old new : InstanceNames) (is : List Instance) (i : Instance) (n : ℕ) (e : i.name ≡ n) (h : AreNames (IsAmong old) is) where
+  -- the fault of one more instance, by whether its name is new
+
+  pub named_fault : (own : Option FaultKind) → AddsName old n (Ok true) new → IsCarriedFault is (record { instance = i; own = own }) own
+  named_fault own adds = fault.alone (new_in (IsAmong old) is i h (subst (λ m. ¬ (IsAmong old m)) (sym e) adds.0)) refl
+
+  pub repeated_fault : (own : Option FaultKind) → AddsName old n (Ok false) new → IsCarriedFault is (record { instance = i; own = own }) (Some kind.DuplicateName)
+  repeated_fault own adds = fault.repeated (h.only i.name (subst (IsAmong old) (sym e) adds.0))
+
+  -- and the names with its own
+
+  pub names_new : AddsName old n (Ok true) new → AreNames (IsAmong new) (is ++ i ∷ [])
+  names_new adds = names_more (IsAmong old) (IsAmong new) is h i (subst (λ m. (other : ℕ) → IsAmong new other ↔ (IsAmong old other ⊎ (other ≡ m))) (sym e) adds.1)
+
+  pub names_kept : AddsName old n (Ok false) new → AreNames (IsAmong new) (is ++ i ∷ [])
+  names_kept adds =
+      let again = names_again (IsAmong old) is i h (subst (IsAmong old) (sym e) adds.0) in
+      names_alike (IsAmong old) (IsAmong new) (is ++ i ∷ []) again adds.1

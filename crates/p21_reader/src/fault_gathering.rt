@@ -1,10 +1,11 @@
 //! Gathering what pieces are by themselves, in the order of the file, with all their faults.
 
-ghost use Rattle.std.specs.Prelude.{◌≡◌, ◌≤◌, ◌≢◌, List, [], ◌∷◌, ◌++◌, ℕ, length, false, IfOk, MatchResult, OnOk, Option};
+ghost use Rattle.std.specs.Prelude.{◌≡◌, ◌≤◌, ◌≢◌, List, [], ◌∷◌, ◌++◌, length, false, IfOk, MatchResult, OnOk, Option};
 ghost use Rattle.p21_schema.specs.declared.ids.EntityId.{EntityId};
 ghost use Rattle.p21_tree.specs.Texts.{HasTail};
 ghost use Rattle.p21_tree.specs.Sentence.{Instance};
-ghost use Rattle.p21_join.specs.InstanceNames.{names_in};
+ghost use Rattle.p21_join.specs.InstanceNames.{IsAmong};
+ghost use Rattle.p21_join.specs.declared.instance_names.InstanceNames.{InstanceNames};
 ghost use Rattle.p21_join.specs.Model.{instances_of, plain_instances};
 ghost use Rattle.p21_reader.specs.AllByValues.{AreFaultsOfValues};
 ghost use Rattle.p21_reader.specs.FaultGathering.{AreFaultsGathered, GathersFaults};
@@ -155,8 +156,8 @@ fn add_name(
     name: u64,
     own: Option<FaultKind>,
 ) -> Result<Option<FaultKind>, AllocError>
-    ensures fault { IfOk result (λ fault. (is : List Instance) (i : Instance) → i.name ≡ name → AreNames (names_in names.old) is → IsCarriedFault is (record { instance = i; own = own }) fault) }
-    ensures names { OnOk result ((is : List Instance) (i : Instance) → i.name ≡ name → AreNames (names_in names.old) is → AreNames (names_in names.new) (is ++ i ∷ [])) }
+    ensures fault { IfOk result (λ fault. (is : List Instance) (i : Instance) → i.name ≡ name → AreNames (IsAmong names.old) is → IsCarriedFault is (record { instance = i; own = own }) fault) }
+    ensures names { OnOk result ((is : List Instance) (i : Instance) → i.name ≡ name → AreNames (IsAmong names.old) is → AreNames (IsAmong names.new) (is ++ i ∷ [])) }
 {
     if names.add(name)? {
         Ok(own)
@@ -173,7 +174,7 @@ fn with_tail(
     tail: usize,
 ) -> Result<Vec<Fault>, AllocError>
     requires { tail ≤ length file.now }
-    ensures all { (js : List Judgement) (is : List Instance) (entities : List (Option EntityId)) (names : List ℕ) → GathersFaults js is entities names faults.items ended → IfOk result (λ all. AreFaultsOfValues file.now tail (values_of js) all.items) }
+    ensures all { (js : List Judgement) (is : List Instance) (entities : List (Option EntityId)) (names : InstanceNames) → GathersFaults js is entities names faults.items ended → IfOk result (λ all. AreFaultsOfValues file.now tail (values_of js) all.items) }
     ensures none { IfOk result (λ all. all.items ≡ [] → faults.items ≡ []) }
 {
     if ended {

@@ -1,6 +1,6 @@
 //! Joining what pieces are by themselves, in the order of the file.
 
-ghost use Rattle.std.specs.Prelude.{◌≡◌, ◌≤◌, List, [], ◌∷◌, ◌++◌, length, map, None, Ok, Err, IfOk, IfErr, OnOk, IsSome};
+ghost use Rattle.std.specs.Prelude.{◌≡◌, ◌≤◌, List, [], ◌∷◌, ◌++◌, Contains, length, map, None, Ok, Err, IfOk, IfErr, OnOk, IsSome};
 ghost use Rattle.p21_express.specs.Schema.{Schema};
 ghost use Rattle.p21_tree.specs.Texts.{HasTail};
 ghost use Rattle.p21_tree.specs.Views.{plain_instance};
@@ -143,7 +143,7 @@ pub(crate) fn join_whole<'a>(
 ) -> Result<Option<FaultKind>, AllocError>
     ensures fault { IfOk result (IsCarriedFault (plain_instances (joined joiner.old)) (record { instance = plain_instance instance.entry; own = own })) }
     ensures joined { result ≡ Ok None → joined joiner.new ≡ joined joiner.old ++ instance.entry ∷ [] }
-    ensures names { OnOk result (AreNames (map (λ i. i.name) (joined joiner.new)) (plain_instances (joined joiner.old) ++ plain_instance instance.entry ∷ [])) }
+    ensures names { OnOk result (AreNames (Contains (map (λ i. i.name) (joined joiner.new))) (plain_instances (joined joiner.old) ++ plain_instance instance.entry ∷ [])) }
 {
     match joiner.add(instance) {
         Ok(()) => Ok(own),

@@ -1,5 +1,5 @@
 use Rattle.std.proofs.Common.{[], ◌∷◌, ◌++◌, Err, List, refl, ap, subst, sym, ◌∙◌}
-use Rattle.std.specs.Prelude.{map}
+use Rattle.std.specs.Prelude.{Contains, map}
 use Rattle.std.proofs.lemmas.List.{map-append}
 use Rattle.p21_tree.specs.declared.instances.RawInstance.{RawInstance}
 use Rattle.p21_tree.specs.Views.{plain_instance}
@@ -20,7 +20,7 @@ returns-in-Ok-clause-names c =
     let old = joined c.args.joiner.now in
     let new = joined c.add.new.self in
     let more = ap plain_instances c.in-Ok.ensures.1 ∙ map-append plain_instance old (i ∷ []) in
-    subst (AreNames (map (λ (x : RawInstance). x.name) new)) more (names_of_all new)
+    subst (AreNames (Contains (map (λ (x : RawInstance). x.name) new))) more (names_of_all new)
 
 pub returns-in-Err-Duplicate-clause-fault : goal.returns-in-Err-Duplicate-clause-fault
 returns-in-Err-Duplicate-clause-fault c =
@@ -35,5 +35,5 @@ returns-in-Err-Duplicate-clause-names c =
     let old = joined c.args.joiner.now in
     let new = joined c.add.new.self in
     let there = subst (λ e. Joins old i (Err e) new) c.in-Err-Duplicate.field-0-is c.in-Err-Duplicate.ensures in
-    subst (λ (l : List RawInstance). AreNames (map (λ (x : RawInstance). x.name) l) (plain_instances old ++ plain_instance i ∷ [])) (sym there.2)
-    (names_again (map (λ (x : RawInstance). x.name) old) (plain_instances old) (plain_instance i) (names_of_all old) (named_there old i there.0))
+    subst (λ (l : List RawInstance). AreNames (Contains (map (λ (x : RawInstance). x.name) l)) (plain_instances old ++ plain_instance i ∷ [])) (sym there.2)
+    (names_again (Contains (map (λ (x : RawInstance). x.name) old)) (plain_instances old) (plain_instance i) (names_of_all old) (named_there old i there.0))

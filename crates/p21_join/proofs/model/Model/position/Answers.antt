@@ -1,5 +1,8 @@
-use Rattle.p21_join.proofs.NameLemmas.{positioned}
+use Rattle.std.proofs.Common.{subst, sym}
+use Rattle.p21_join.specs.Names.{IsPosition}
 use Rattle.p21_join.proofs.model.Model.position.Goals as goal
 
 pub returns : goal.returns
-returns c = positioned c.args.self.now.names.keys c.args.self.now.instances.items c.args.name c.get_index_of.result c.args.self.now.named c.get_index_of.ensures.index c.get_index_of.ensures.found
+returns c =
+    let m = c.args.self.now in
+    subst (IsPosition m.instances.items c.args.name) (sym c.place.ensures) (m.placed c.args.name)

@@ -1,6 +1,5 @@
 use Rattle.std.proofs.Common.{List, [], ◌∷◌, ◌++◌, sym, ap, subst}
 use Rattle.std.specs.Prelude.{OnOk, Result, Ok, Err}
-use Rattle.p21_join.specs.InstanceNames.{names_in}
 use Rattle.p21_join.specs.Joined.{joined}
 use Rattle.p21_join.specs.Model.{plain_instances}
 use Rattle.p21_reader.specs.FaultGathering.{AreFaultsGathered}
@@ -18,7 +17,7 @@ pub returns-in_ok-push-in-Grammar : goal.returns-in_ok-push-in-Grammar
 returns-in_ok-push-in-Grammar c = λ outs h.
     let g = c.args.self.now in
     let is = plain_instances (joined g.joiner) in
-    grammar_more outs c.args.out c.in-Grammar.fault is is g.entities.items g.entities.items (names_in g.names) (names_in g.names) g.faults.items c.push.new.self.items g.ended c.if-self.false h (ap value_of c.in-Grammar.is) c.in_ok-push-in-Grammar.ensures.items
+    grammar_more outs c.args.out c.in-Grammar.fault is is g.entities.items g.entities.items g.names g.names g.faults.items c.push.new.self.items g.ended c.if-self.false h (ap value_of c.in-Grammar.is) c.in_ok-push-in-Grammar.ensures.items
 
 pub returns-in-Whole : goal.returns-in-Whole
 returns-in-Whole c =
