@@ -1,5 +1,4 @@
 use Rattle.std.proofs.Common.{◌≡◌, sym, List, [], map, get_or, ap, ◌∙◌}
-use Rattle.std.proofs.lemmas.List.{length-map}
 use Rattle.p21_express.specs.Schema.{Entity, Defined}
 use Rattle.p21_express.specs.Plain.{plain_schema, plain_entity, plain_type}
 use Rattle.p21_schema.specs.Rules.{with_rules}
@@ -54,7 +53,7 @@ invariant_of-result c =
     let types_are : c.in_ok-type_names.type_names ≡ map (λ (t : Defined). t.name) s.types = c.in_ok-type_names.ensures ∙ ap (λ (ts : List _). map (λ (t : Defined). t.name) (map plain_type ts)) c.deref-5.ensures.value in
     let found : AreResolved (map (λ (e : Entity). e.name) s.entities) (map (λ (t : Defined). t.name) s.types) c.in_ok-unders.unders.items s.types = rw (← names_are, ← types_are, ← c.deref-7.ensures.value) c.in_ok-unders.ensures in
     let descents : IsDescentTable s c.in_ok-descents.descents = c.in_ok-descents.ensures s (fits_with (plain_schema c.args.declarations) c.args.rules c.requires) h in
-    let selects : AreSelectTables s c.in_ok-descents.descents c.in_ok-selects.selects = c.in_ok-selects.ensures s (fits_with (plain_schema c.args.declarations) c.args.rules c.requires) (rw c.deref-9.ensures.value found) (c.len.ensures ∙ c.args.declarations.entities.ok.0 ∙ sym (length-map c.args.declarations.entities.items plain_entity)) descents in
+    let selects : AreSelectTables s c.in_ok-selects.selects = c.in_ok-selects.ensures s (fits_with (plain_schema c.args.declarations) c.args.rules c.requires) (rw c.deref-9.ensures.value found) h descents in
     record {
       types = types_are;
       attributes = c.in_ok-attributes.ensures;
@@ -115,4 +114,4 @@ select_tables-requires c =
     let found : AreResolved (map (λ (e : Entity). e.name) s.entities) (map (λ (t : Defined). t.name) s.types) c.in_ok-unders.unders.items s.types = rw (← names_are, ← types_are, ← c.deref-7.ensures.value) c.in_ok-unders.ensures in
     let h : AreSupertypesNamed (map (λ (e : Entity). e.name) s.entities) (plain_graph c.in_ok-graph.graph) s.entities = named_by plain_entity c.in_ok-entity_names.entity_names (plain_graph c.in_ok-graph.graph) c.deref.result.now c.deref-2.result.now c.args.declarations.entities.items c.in_ok-entity_names.ensures c.deref.ensures.value c.deref-2.ensures.value c.in_ok-graph.ensures in
     let formed = fits_with (plain_schema c.args.declarations) c.args.rules c.requires in
-    (s, (formed, (rw c.deref-9.ensures.value found, (c.len.ensures ∙ c.args.declarations.entities.ok.0 ∙ sym (length-map c.args.declarations.entities.items plain_entity), c.in_ok-descents.ensures s formed h))))
+    (s, (formed, (rw c.deref-9.ensures.value found, (h, c.in_ok-descents.ensures s formed h))))
