@@ -13,7 +13,8 @@ pub entity-requires-clause-known : goal.entity-requires-clause-known
 entity-requires-clause-known c = record {
   unknown = c.requires.unknown;
   supertypes = c.in_ok-supertypes.ensures;
-  acyclic = entities_to_graph (plain_schema c.args.checked.declarations.now) (lists c.in_ok-supertypes.field-0.items) c.in_ok-supertypes.ensures c.requires.cycles.entities;
+  acyclic = entities_to_graph (plain_schema c.args.checked.declarations.now) (lists c.in_ok-supertypes.supertypes.items) c.in_ok-supertypes.ensures c.requires.cycles.entities;
+  links = c.in_ok-links.ensures;
   names = c.in_ok-all_new_names.ensures;
 }
 
