@@ -9,6 +9,7 @@ use crate::graph::order;
 use crate::ids::{AttrId, EntityId, TypeId};
 use crate::items::{is_among, item_rows};
 use crate::names::{Names, entity_names, type_names};
+use crate::owners::Owners;
 use crate::reach::Reach;
 use crate::resolved::Resolved;
 use crate::rows::{Own, Rows, own_attributes};
@@ -133,6 +134,7 @@ impl Schema {
         let type_names = type_names(alloc, key, &declarations.types)?;
         let ends = type_ends(alloc, &type_names, &declarations.types)?;
         let unders = resolved(alloc, &entity_names, &type_names, &declarations.types)?;
+        let owners = Owners::new(alloc, key, &declarations.entities)?;
         let known = Known {
             declarations: &declarations,
             rules,
@@ -140,6 +142,7 @@ impl Schema {
             types: &type_names,
             descents: &descents,
             own: &own,
+            owners: &owners,
         };
         let attributes = all_declarations(alloc, &known, lists)?;
         let bindings = all_bindings(alloc, &descents, &attributes)?;
