@@ -1,11 +1,11 @@
 -- Links over many edges.
-use Rattle.std.proofs.Common.{◌≡◌, ℕ, zero, suc, ◌⊎◌, inl, inr, ⊎_elim, List, [], ◌∷◌, ◌++◌, Some, None, slice_get, set, length, refl, sym, ap, ◌∙◌, subst}
+use Rattle.std.proofs.Common.{◌≡◌, ℕ, zero, suc, ◌<◌, ◌⊎◌, inl, inr, ⊎_elim, List, [], ◌∷◌, ◌++◌, Some, None, slice_get, set, length, refl, sym, ap, ◌∙◌, subst}
 use Rattle.p21_express.specs.declared.checks.links.Link.{Link}
 use Rattle.p21_express.specs.Graph.{HasEdge, neighbors}
 use Rattle.p21_express.specs.Links.{IsLink, AreLinks}
 use Rattle.p21_express.specs.Search.{Reaches}
-use Rattle.p21_express.specs.WellFormed.{Leads, one}
-use Rattle.p21_express.proofs.GraphLemmas.{joined}
+use Rattle.p21_express.specs.WellFormed.{Leads}
+use Rattle.p21_express.proofs.GraphLemmas.{joined, get_in}
 
 pub onward : (g : List (List ℕ)) (a b c : ℕ) → Reaches g a b → Reaches g b c → Reaches g a c
 onward g a b c h k = ⊎_elim
@@ -13,8 +13,8 @@ onward g a b c h k = ⊎_elim
     (λ (l : Leads (HasEdge g) a b). ⊎_elim (λ (e : b ≡ c). inr (subst (λ (u : ℕ). Leads (HasEdge g) a u) e l)) (λ (m : Leads (HasEdge g) b c). inr (joined (HasEdge g) l m)) k)
     h
 
-pub along : (g : List (List ℕ)) (v a b : ℕ) → HasEdge g v a → Reaches g a b → Reaches g v b
-along g v a b e h = onward g v a b (inr (one e)) h
+pub first_edge : (g : List (List ℕ)) (v a : ℕ) → a < length g → Some a ≡ slice_get (neighbors g v) 0 → HasEdge g v a
+first_edge g v a less e = record { is_vertex = less; listed = get_in (neighbors g v) 0 a (sym e) }
 
 -- ---- lists of links
 

@@ -11,4 +11,4 @@ returns-then-is_met-clause-over c = c.is_met.ensures (lists c.args.known.now.sup
 pub returns-clause-over : goal.returns-clause-over
 returns-clause-over c =
     let found = c.in_ok-lineage.ensures.found c.args.of in
-    test_same c.contains.result (IsIn c.in_ok-lineage.lineage.items c.args.of) (Reaches (lists c.args.known.now.supertypes.items) c.args.position c.args.of) found.0 found.1 (any_in c.in_ok-lineage.lineage.items c.args.of c.contains.result c.contains.ensures.value)
+    test_same c.contains.result (IsIn c.in_ok-lineage.lineage.items c.args.of) (Reaches (lists c.args.known.now.supertypes.items) c.args.position c.args.of) found.0 found.1 (any_in c.in_ok-lineage.lineage.items c.args.of c.contains.result (rw c.deref-2.ensures.value at c.contains.ensures.value))
