@@ -117,14 +117,11 @@ noted_more a b c e f g = record {
 -- a name that is newly declared is an attribute's
 pub from_new : (xs : List Attribute) (n : List ℕ) → IsIn (new_explicit xs) n → (a : Attribute) × (IsIn xs a × ((a.of ≡ None) × (a.name ≡ n)))
 from_new [] n i = absurd i
-from_new (x ∷ xs) n i = by x.of refl i
+from_new (x ∷ xs) n i = by x.of refl (λ j. let r = from_new xs n j in (r.0, (inr r.1.0, r.1.1))) i
   where
-    further : IsIn (new_explicit xs) n → (a : Attribute) × (IsIn (x ∷ xs) a × ((a.of ≡ None) × (a.name ≡ n)))
-    further j = let r = from_new xs n j in (r.0, (inr r.1.0, r.1.1))
-
-    by : (o : Option (List ℕ)) → x.of ≡ o → IsIn (with_new o x.name (new_explicit xs)) n → (a : Attribute) × (IsIn (x ∷ xs) a × ((a.of ≡ None) × (a.name ≡ n)))
-    by None e j = ⊎_elim (λ (q : x.name ≡ n). (x, (inl refl, (e, q)))) further j
-    by (Some p) e j = further j
+    by : (o : Option (List ℕ)) → x.of ≡ o → (IsIn (new_explicit xs) n → (a : Attribute) × (IsIn (x ∷ xs) a × ((a.of ≡ None) × (a.name ≡ n)))) → IsIn (with_new o x.name (new_explicit xs)) n → (a : Attribute) × (IsIn (x ∷ xs) a × ((a.of ≡ None) × (a.name ≡ n)))
+    by None e further j = ⊎_elim (λ (q : x.name ≡ n). (x, (inl refl, (e, q)))) further j
+    by (Some p) e further j = further j
 
 pub owners_none : (s : Schema) (o : Owners) → o.names ≡ [] → rows_of o.lists ≡ [] → AreOwners s 0 o
 owners_none s o names lists = record {

@@ -29,7 +29,7 @@ pub record IsNoted (old new : Owners) (entity : ℕ) : Type 0 where
   pub only : (e : ℕ) → IsHeld new e → IsHeld old e ⊎ (e ≡ entity)
 
 -- each of the first so many entities stands in the lists of the names that it newly declares, and no other stands in any
-pub record AreOwners (s : Schema) (count : ℕ) (o : Owners) : Type 0 where
+pub record AreOwners (s : Schema) (size : ℕ) (o : Owners) : Type 0 where
   pub lists : AreInLists o
-  pub all : (e : ℕ) (n : List ℕ) → e < count → IsIn (new_explicit (get_or s.entities e no_entity).attributes) n → IsListed o n e
-  pub below : (e : ℕ) → IsHeld o e → e < count
+  pub all : (e : ℕ) (n : List ℕ) → e < size → IsIn (new_explicit (get_or s.entities e no_entity).attributes) n → IsListed o n e
+  pub below : (e : ℕ) → IsHeld o e → e < size

@@ -1,4 +1,4 @@
-use Rattle.std.proofs.Common.{◌≡◌, ◌<◌, ℕ, List, get_or, length, sym, subst, ⊎_elim, ◌∙◌}
+use Rattle.std.proofs.Common.{◌≡◌, ◌<◌, ℕ, List, [], get_or, length, sym, subst, ⊎_elim, ◌∙◌}
 use Rattle.p21_express.specs.WellFormed.{IsIn}
 use Rattle.p21_schema.specs.Graph.{plain_graph}
 use Rattle.p21_schema.proofs.Members.{at_place, in_either}
