@@ -47,8 +47,8 @@ module _ (s : Schema) (d : AreDistinct (declared_names s)) (unknown : HasNoUnkno
       pub not_itself : of ≡ position → (i : ℕ) → ¬ (IsAgainAt s e r i)
       not_itself same i h = acyclic position (subst (λ (p : ℕ). Leads (HasEdge g) position p) same (leads_of h.again.ancestor))
 
-      pub no_ancestor : (lineage : List ℕ) → ((w : ℕ) → Reaches g position w → IsIn lineage w) → ¬ (IsIn lineage of) → (i : ℕ) → ¬ (IsAgainAt s e r i)
-      no_ancestor lineage all none i h = none (all of (inr (leads_of h.again.ancestor)))
+      pub no_ancestor : ¬ (Reaches g position of) → (i : ℕ) → ¬ (IsAgainAt s e r i)
+      no_ancestor none i h = none (inr (leads_of h.again.ancestor))
 
       module _ (among : List ℕ) (only_reached : (w : ℕ) → IsIn among w → Reaches g of w) (all_reached : (w : ℕ) → Reaches g of w → IsIn among w) where
         origin_at : (n : List ℕ) → IsOrigin s r.of r.name n → (j : ℕ) × IsEntityAt s j n × IsIn among j × IsNewAt s r.name j

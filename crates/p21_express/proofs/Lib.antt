@@ -18,6 +18,7 @@ pub mod ReadingLemmas
 pub mod BasedOnLemmas
 pub mod Examples
 pub mod GraphLemmas
+pub mod LinkLemmas
 pub mod SearchLemmas
 pub mod ChecksLemmas
 pub mod IndexLemmas

@@ -13,6 +13,7 @@ use Rattle.p21_express.specs.Checks.{HasNames}
 use Rattle.p21_express.specs.Graph.{lists, HasEdge}
 use Rattle.p21_express.specs.Plain.{plain_schema}
 use Rattle.p21_express.specs.Index.{IsEntityAt, key_cmp}
+use Rattle.p21_express.specs.Links.{AreLinks}
 use Rattle.p21_express.specs.Positions.{AreSupertypes}
 use Rattle.p21_express.specs.Schema.{Schema, Entity}
 use Rattle.p21_express.specs.WellFormed.{IsIn, HasNoUnknown, HasNoCycle, Redeclaration, Origin, AreDistinct, DeclareAgain, DeclaresAgain, new_names, new_derived}
@@ -71,4 +72,5 @@ pub record IsKnown (k : base.Known) : Type 0 where
   pub unknown : HasNoUnknown (plain_schema k.declarations.now)
   pub supertypes : AreSupertypes (plain_schema k.declarations.now) (lists k.supertypes.items)
   pub acyclic : HasNoCycle (HasEdge (lists k.supertypes.items))
+  pub links : AreLinks (lists k.supertypes.items) k.links.items
   pub names : AllZip HasNewNames (plain_schema k.declarations.now).entities k.names.items

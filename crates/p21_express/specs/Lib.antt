@@ -16,6 +16,7 @@ pub mod SchemaFault
 pub mod Misfit
 pub mod Graph
 pub mod Search
+pub mod Links
 pub mod Checks
 pub mod Index
 pub mod Positions

@@ -7,6 +7,7 @@ ghost use Rattle.p21_express.specs.WellFormed.{IsWellFormed};
 
 mod cycles;
 mod graph;
+mod links;
 mod names;
 mod redeclared;
 mod repeated;

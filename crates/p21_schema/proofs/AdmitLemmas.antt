@@ -1,18 +1,17 @@
 -- What SELECTs reach an entity or an ancestor of it.
-use Rattle.std.proofs.Common.{◌≡◌, ℕ, ◌<◌, ◌↔◌, List, [], length, get_or, refl, sym, subst, ◌∙◌, inl, inr, ⊎_elim}
+use Rattle.std.proofs.Common.{◌≡◌, ℕ, ◌<◌, ◌↔◌, List, [], length, get_or, refl, sym, ap, subst, ◌∙◌, inl, inr, ⊎_elim}
 use Rattle.p21_express.specs.Schema.{Schema}
 use Rattle.p21_express.specs.WellFormed.{IsEntity, IsWellFormed, IsAncestor, HasNoUnknown, one, more}
-use Rattle.p21_schema.specs.declared.ranges.Range.{Range}
 use Rattle.p21_schema.specs.declared.reach.Reach.{Reach}
 use Rattle.p21_schema.specs.declared.resolved.Resolved.{Resolved}
 use Rattle.p21_schema.specs.declared.selects.Item.TheVariants as item_kind
+use Rattle.p21_schema.specs.declared.selects.SelectRows.{SelectRows}
 use Rattle.p21_schema.specs.Ancestry.{entity_id, IsDescentTable, IsA}
 use Rattle.p21_schema.specs.Graph.{rows_of, Reaches}
 use Rattle.p21_schema.specs.Ranges.{Covers}
-use Rattle.p21_schema.specs.Reach.{IsReachTable}
 use Rattle.p21_schema.specs.Select.{SelectReaches, ReachesA, itself, above}
 use Rattle.p21_schema.specs.SelectItems.{IsItemGraph}
-use Rattle.p21_schema.specs.SelectTable.{IsAdmitTable, entity_named, type_named}
+use Rattle.p21_schema.specs.SelectTable.{AreSelectRows, IsAdmitTable, entity_named, type_named}
 use Rattle.p21_schema.specs.Under.{AreResolved}
 use Rattle.p21_schema.proofs.Members.{place_of}
 use Rattle.p21_schema.proofs.AncestryLemmas.{all_names, name_count, name_at, supertypes_known}
@@ -55,10 +54,13 @@ module _ (s : Schema) (formed : IsWellFormed s) (unders : List Resolved) (r : Ar
       let is : entity_named s p.0 ≡ a = sym (name_at s p.0) ∙ p.1.1 [] in
       (p.0, (way i p.0 li lx (subst (λ (u : List ℕ). SelectReaches s (type_named s i) u) (sym is) h), (within p.0 e lx le).1 (inr (subst (λ (u : List ℕ). IsAncestor s (entity_named s e) u) (sym is) up))))
 
-  pub admit_table : (table : List (List Range)) → IsReachTable direct inner (rows_of reach.rows) table → IsAdmitTable s reach.places.items table
+  pub admit_table : (table : SelectRows) → AreSelectRows direct inner reach table → IsAdmitTable s table
   admit_table table h = record {
-    count = h.count ∙ g.count ∙ r.count;
+    count = h.rows.count ∙ g.count ∙ r.count;
+    places = ap length h.places ∙ t.reaches.places ∙ t.count;
     covers = λ e i le li.
-        let row = h.rows i (subst (λ u. i < u) (sym (g.count ∙ r.count)) li) (get_or reach.places.items e 0) in
-        (λ c. admitted i e le (row.0 c), λ a. row.1 (found i e li le a));
+        let row = h.rows.rows i (subst (λ u. i < u) (sym (g.count ∙ r.count)) li) (get_or reach.places.items e 0) in
+        let at : get_or reach.places.items e 0 ≡ get_or table.places.items e 0 = ap (λ (u : List ℕ). get_or u e 0) (sym h.places) in
+        let row' : Covers (get_or (rows_of table.rows) i []) (get_or table.places.items e 0) ↔ IsHeld i (get_or reach.places.items e 0) = subst (λ (u : ℕ). Covers (get_or (rows_of table.rows) i []) u ↔ IsHeld i (get_or reach.places.items e 0)) at row in
+        (λ c. admitted i e le (row'.0 c), λ a. row'.1 (found i e li le a));
   }

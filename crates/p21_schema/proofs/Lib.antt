@@ -8,6 +8,7 @@ pub mod RowLemmas
 pub mod UnderLemmas
 pub mod IdLemmas
 pub mod ItemLemmas
+pub mod OwnerLemmas
 pub mod DeclarationLemmas
 pub mod SelectLemmas
 pub mod Examples

@@ -24,14 +24,6 @@ reach_row_is direct graph firsts v table row rows h k = (
     back x (here d) c = (h k).1 (inl (x, (d, c)))
     back x (through {b = w} e r) c = (h k).1 (inr (w, (e, (rows w e k).1 (x, (r, c)))))
 
--- rows of which each holds its own place alone, and one more
-pub alone_more : (rows : List (List Range)) (row : List Range) (n : ℕ) → length rows ≡ n → ((v k : ℕ) → v < n → Covers (get_or rows v []) k ↔ (k ≡ v)) → ((k : ℕ) → Covers row k ↔ (k ≡ n)) → (v k : ℕ) → v < n + 1 → Covers (get_or (rows ++ row ∷ []) v []) k ↔ (k ≡ v)
-alone_more rows row n long before this v k l =
-    ⊎_elim
-    (λ (e : v ≡ n). rw (e, get_or_push rows row [] n long) (this k))
-    (λ (ne : (v ≡ n) → ⊥). let less : v < n = omega arith in rw (get_or_append_left rows (row ∷ []) [] v (omega arith)) (before v k less))
-    (cases_eq v n)
-
 -- what stands in an order is a vertex
 pub in_order_below : (graph : List (List ℕ)) (order : List ℕ) (v : ℕ) → IsOrder graph order → IsIn order v → v < length graph
 in_order_below graph order v o i = let p = place_of order v i in subst (λ u. u < length graph) (p.1.1 0) (o p.0 p.1.0).0

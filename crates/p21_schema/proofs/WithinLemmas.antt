@@ -4,9 +4,10 @@ use Rattle.std.proofs.lemmas.Bool.{cases_eq, cases_lt}
 use Rattle.std.proofs.lemmas.List.{get_or-set_same, get_or-set_other, get_or_past}
 use Rattle.p21_express.specs.WellFormed.{IsIn, AreDistinct, Leads, one, more, HasNoCycle}
 use Rattle.p21_schema.specs.declared.ranges.Range.{Range}
+use Rattle.p21_schema.specs.declared.reach.Reach.{Reach}
 use Rattle.p21_schema.specs.Graph.{HasEdge, AreEdgesBelow}
 use Rattle.p21_schema.specs.Ranges.{Covers, SomeCovers}
-use Rattle.p21_schema.specs.Reach.{IsTurned, IsWithin, itself, through, ArePlaces, IsPlaceRow}
+use Rattle.p21_schema.specs.Reach.{IsTurned, IsWithin, itself, through, ArePlaces, IsPlaceRow, IsReach, IsEachAlone}
 use Rattle.p21_schema.proofs.Members.{in_left, in_right, in_either, front_more, front_in, last_in, same_place, place_of}
 
 -- ---- a table in which one row is written
@@ -116,3 +117,25 @@ turned_all graph turned v count all h = record {
   count = count;
   edges = λ a b. (λ e. ((h a b).0 e).1, λ e. let less : b < length graph = edge_from graph b a e in (h a b).1 (omega arith, e));
 }
+
+-- ---- graphs without edges
+
+pub no_edge : (graph : List (List ℕ)) → ((v : ℕ) → get_or graph v [] ≡ []) → (a b : ℕ) → ¬ (HasEdge graph a b)
+no_edge graph empty a b e = subst (λ (u : List ℕ). IsIn u b) (empty a) e
+
+pub no_edge_cycle : (graph : List (List ℕ)) → ((v : ℕ) → get_or graph v [] ≡ []) → HasNoCycle (HasEdge graph)
+no_edge_cycle graph empty a (one e) = no_edge graph empty a a e
+no_edge_cycle graph empty a (more {b = w} e l) = no_edge graph empty a w e
+
+pub each_alone : (graph : List (List ℕ)) (count : ℕ) (reach : Reach) → length graph ≡ count → ((v : ℕ) → get_or graph v [] ≡ []) → IsReach graph reach → IsEachAlone count reach
+each_alone graph count reach long empty r = record {
+  places = r.places ∙ long;
+  count = r.count ∙ long;
+  alone = λ a b la lb.
+      let w = r.within a b (subst (λ u. a < u) (sym long) la) (subst (λ u. b < u) (sym long) lb) in
+      (λ c. itself_alone (w.0 c), λ e. w.1 (itself (sym e)));
+}
+  where
+    itself_alone : {a b : ℕ} → IsWithin graph a b → b ≡ a
+    itself_alone (itself e) = sym e
+    itself_alone {a} (through {b = w} e i) = absurd (no_edge graph empty a w e)

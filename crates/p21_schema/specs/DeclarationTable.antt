@@ -7,6 +7,7 @@ use Rattle.p21_schema.specs.declared.declarations.Declaration.{Declaration as Co
 use Rattle.p21_schema.specs.declared.declarations.Known.{Known}
 use Rattle.p21_schema.specs.Ancestry.{IsDescentTable}
 use Rattle.p21_schema.specs.Declaration.{Declaration, Written, Declares, Chosen, declaration, AreResolvedIn}
+use Rattle.p21_schema.specs.Owners.{AreOwners}
 use Rattle.p21_schema.specs.Place.{no_entity}
 use Rattle.p21_schema.specs.Row.{attributes_of, no_attribute}
 use Rattle.p21_schema.specs.RowTable.{IsOwnTable}
@@ -54,3 +55,4 @@ pub record IsFitting (k : Known) : Type 0 where
   pub types : k.types.now ≡ map (λ t. t.name) (known_schema k).types
   pub descents : IsDescentTable (known_schema k) k.descents.now
   pub own : IsOwnTable (known_schema k) k.own.now
+  pub owners : AreOwners (known_schema k) (length (known_schema k).entities) k.owners.now

@@ -11,6 +11,7 @@ pub mod RowTable
 pub mod Resolved
 pub mod Under
 pub mod Declaration
+pub mod Owners
 pub mod DeclarationTable
 pub mod Binding
 pub mod Steps

@@ -36,3 +36,9 @@ pub record IsReach (graph : List (List ℕ)) (reach : Reach) : Type 0 where
   pub places : length reach.places.items ≡ length graph
   pub count : length (rows_of reach.rows) ≡ length graph
   pub within : (a b : ℕ) → a < length graph → b < length graph → Covers (get_or (rows_of reach.rows) a []) (get_or reach.places.items b 0) ↔ IsWithin graph a b
+
+-- so many vertices, of which each reaches itself alone
+pub record IsEachAlone (size : ℕ) (reach : Reach) : Type 0 where
+  pub places : length reach.places.items ≡ size
+  pub count : length (rows_of reach.rows) ≡ size
+  pub alone : (a b : ℕ) → a < size → b < size → Covers (get_or (rows_of reach.rows) a []) (get_or reach.places.items b 0) ↔ (b ≡ a)

@@ -7,7 +7,7 @@ ghost use Rattle.p21_express.specs.WellFormed.{IsIn, IsWellFormed, HasNoCycle};
 ghost use Rattle.p21_schema.specs.Graph.{rows_of, plain_graph, HasEdge, AreEdgesBelow};
 ghost use Rattle.p21_schema.specs.Ancestry.{AreNamed, AreSupertypesNamed, IsDescentTable, entity_id};
 
-use crate::graph::Graph;
+use crate::graph::{Graph, order_beginning, order_from_above};
 use crate::ids::EntityId;
 use crate::names::Names;
 use crate::reach::{Reach, turned};
@@ -74,5 +74,22 @@ pub(crate) fn descents(alloc: Global, supertypes: &Graph) -> Result<Reach, Alloc
     ensures { IfOk result (λ reach. (s : Schema) → IsWellFormed s → AreSupertypesNamed (map (λ e. e.name) s.entities) (plain_graph supertypes.now) s.entities → IsDescentTable s reach) }
 {
     let subtypes = turned(alloc, supertypes)?;
-    Reach::new(alloc, &subtypes)
+    let order = order_from_above(alloc, &subtypes)?;
+    Reach::new(alloc, &subtypes, &order)
+}
+
+/// The same, where these entities and their descendants have the first places.
+pub(crate) fn descents_beginning(
+    alloc: Global,
+    supertypes: &Graph,
+    first: &[usize],
+) -> Result<Reach, AllocError>
+    requires edges { AreEdgesBelow (plain_graph supertypes.now) (length (plain_graph supertypes.now)) }
+    requires cycles { HasNoCycle (HasEdge (plain_graph supertypes.now)) }
+    requires first { (v : ℕ) → IsIn first.now v → v < length (plain_graph supertypes.now) }
+    ensures { IfOk result (λ reach. (s : Schema) → IsWellFormed s → AreSupertypesNamed (map (λ e. e.name) s.entities) (plain_graph supertypes.now) s.entities → IsDescentTable s reach) }
+{
+    let subtypes = turned(alloc, supertypes)?;
+    let order = order_beginning(alloc, &subtypes, first)?;
+    Reach::new(alloc, &subtypes, &order)
 }

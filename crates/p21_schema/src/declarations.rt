@@ -12,6 +12,7 @@ ghost use Rattle.p21_schema.specs.Row.{attributes_of};
 
 use crate::ids::EntityId;
 use crate::names::Names;
+use crate::owners::Owners;
 use crate::reach::Reach;
 use crate::resolved::{ResolvedExpr, resolve};
 use crate::rows::Own;
@@ -49,6 +50,7 @@ pub(crate) struct Known<'a> {
     pub(crate) types: &'a Names,
     pub(crate) descents: &'a Reach,
     pub(crate) own: &'a [Own],
+    pub(crate) owners: &'a Owners,
 }
 
 /// The place of a name among the explicit attributes that an entity newly declares.
@@ -98,9 +100,9 @@ fn attribute_above(known: &Known, entity: usize, name: &[u8]) -> Option<usize>
     if let Some(attribute) = own_attribute(known, entity, name) {
         return Some(attribute);
     }
-    for owner in 0..known.declarations.entities.len() {
-        if is_over(known, entity, owner) {
-            if let Some(attribute) = own_attribute(known, owner, name) {
+    for owner in known.owners.of(name) {
+        if is_over(known, entity, *owner) {
+            if let Some(attribute) = own_attribute(known, *owner, name) {
                 return Some(attribute);
             }
         }

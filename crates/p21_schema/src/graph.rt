@@ -128,6 +128,26 @@ pub(crate) fn order_from(
     Ok(order)
 }
 
+/// All vertices, each behind its neighbors: first these and what they reach.
+pub(crate) fn order_beginning(
+    alloc: Global,
+    graph: &Graph,
+    first: &[usize],
+) -> Result<Vec<usize>, AllocError>
+    requires edges { AreEdgesBelow (plain_graph graph.now) (length (plain_graph graph.now)) }
+    requires cycles { HasNoCycle (HasEdge (plain_graph graph.now)) }
+    requires first { (v : ℕ) → IsIn first.now v → v < length (plain_graph graph.now) }
+    ensures order { IfOk result (λ order. IsOrder (plain_graph graph.now) order.items) }
+    ensures distinct { IfOk result (λ order. AreDistinct order.items) }
+    ensures all { IfOk result (λ order. (v : ℕ) → v < length (plain_graph graph.now) → IsIn order.items v) }
+{
+    let mut starts = Vec::from_slice(alloc, first)?;
+    for vertex in 0..graph.len() {
+        starts.push(vertex)?;
+    }
+    order_from(alloc, graph, &starts)
+}
+
 /// All vertices, each behind its neighbors.
 pub(crate) fn order(alloc: Global, graph: &Graph) -> Result<Vec<usize>, AllocError>
     requires edges { AreEdgesBelow (plain_graph graph.now) (length (plain_graph graph.now)) }
@@ -136,9 +156,19 @@ pub(crate) fn order(alloc: Global, graph: &Graph) -> Result<Vec<usize>, AllocErr
     ensures distinct { IfOk result (λ order. AreDistinct order.items) }
     ensures all { IfOk result (λ order. (v : ℕ) → v < length (plain_graph graph.now) → IsIn order.items v) }
 {
-    let mut starts = Vec::with_capacity(alloc, graph.len())?;
-    for vertex in 0..graph.len() {
-        starts.push(vertex)?;
-    }
+    order_beginning(alloc, graph, &[])
+}
+
+/// All vertices, each behind its neighbors. What nothing leads to is gone down first, so that what a vertex reaches by one way alone
+/// stands together.
+pub(crate) fn order_from_above(alloc: Global, graph: &Graph) -> Result<Vec<usize>, AllocError>
+    requires edges { AreEdgesBelow (plain_graph graph.now) (length (plain_graph graph.now)) }
+    requires cycles { HasNoCycle (HasEdge (plain_graph graph.now)) }
+    ensures order { IfOk result (λ order. IsOrder (plain_graph graph.now) order.items) }
+    ensures distinct { IfOk result (λ order. AreDistinct order.items) }
+    ensures all { IfOk result (λ order. (v : ℕ) → v < length (plain_graph graph.now) → IsIn order.items v) }
+{
+    let mut starts = order(alloc, graph)?;
+    starts.reverse();
     order_from(alloc, graph, &starts)
 }

@@ -8,6 +8,7 @@ mod graph;
 mod ids;
 mod items;
 mod names;
+mod owners;
 mod ranges;
 mod reach;
 mod resolved;

@@ -32,7 +32,7 @@ impl Model for Names {
 }
 
 impl Names {
-    fn new(alloc: Global, key: HashKey) -> Names
+    pub(crate) fn new(alloc: Global, key: HashKey) -> Names
         ensures { result ≡ [] }
     {
         Names {
@@ -46,7 +46,7 @@ impl Names {
     }
 
     /// A further name behind the others.
-    fn push(&mut self, alloc: Global, name: &[u8]) -> Result<(), AllocError>
+    pub(crate) fn push(&mut self, alloc: Global, name: &[u8]) -> Result<(), AllocError>
         requires { ¬ (IsIn self.old name.now) }
         ensures { OnOk result (self.new ≡ self.old ++ name.now ∷ []) }
     {

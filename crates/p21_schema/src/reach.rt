@@ -1,13 +1,12 @@
 //! What each vertex of a graph reaches, by ranges of places in an order in which what a vertex reaches mostly stands together.
 
 ghost use Rattle.std.specs.Prelude.{◌≡◌, ◌<◌, ◌++◌, ◌∷◌, ◌↔◌, ◌⊎◌, ℕ, List, [], length, get_or, set, IfOk, OnOk, IsTrue};
-ghost use Rattle.p21_express.specs.WellFormed.{IsIn, AreDistinct, HasNoCycle};
+ghost use Rattle.p21_express.specs.WellFormed.{IsIn, AreDistinct};
 ghost use Rattle.p21_schema.specs.Graph.{plain_graph, rows_of, HasEdge, AreEdgesBelow, IsOrder};
-ghost use Rattle.p21_schema.specs.Ranges.{Covers};
-ghost use Rattle.p21_schema.specs.Reach.{IsTurned, ArePlaces, IsPlaceRow, IsReach, IsWithin, IsReachTable};
+ghost use Rattle.p21_schema.specs.Reach.{IsTurned, ArePlaces, IsPlaceRow, IsReach, IsWithin, IsEachAlone, IsReachTable};
 
-use crate::graph::{Graph, order, order_from, zeros};
-use crate::ranges::{Range, alone, both, covers, row};
+use crate::graph::{Graph, order_beginning, zeros};
+use crate::ranges::{Range, both, covers, row};
 use std::alloc::{AllocError, Global};
 
 /// What each vertex of a graph reaches, itself among it.
@@ -97,18 +96,6 @@ fn rows(alloc: Global, graph: &Graph, order: &[usize]) -> Result<Vec<Vec<Range>>
     Ok(rows)
 }
 
-/// Rows of which each holds its own place alone.
-pub(crate) fn each_alone(alloc: Global, count: usize) -> Result<Vec<Vec<Range>>, AllocError>
-    ensures count { IfOk result (λ rows. length (rows_of rows) ≡ count) }
-    ensures rows { IfOk result (λ rows. (v k : ℕ) → v < count → Covers (get_or (rows_of rows) v []) k ↔ (k ≡ v)) }
-{
-    let mut rows = Vec::with_capacity(alloc, count)?;
-    for place in 0..count {
-        rows.push(alone(alloc, place)?)?;
-    }
-    Ok(rows)
-}
-
 /// For each vertex what it reaches: the rows of what is direct for it, and what its neighbors reach.
 pub(crate) fn reached(
     alloc: Global,
@@ -134,20 +121,27 @@ pub(crate) fn reached(
     Ok(table)
 }
 
+/// What so many vertices without edges reach: each itself alone. These have the first places, in their order.
+pub(crate) fn each_alone(alloc: Global, count: usize, first: &[usize]) -> Result<Reach, AllocError>
+    requires { (v : ℕ) → IsIn first.now v → v < count }
+    ensures { IfOk result (λ reach. IsEachAlone count reach) }
+{
+    let graph = without_edges(alloc, count)?;
+    let order = order_beginning(alloc, &graph, first)?;
+    Reach::new(alloc, &graph, &order)
+}
+
 impl Reach {
-    /// What the vertices of a graph reach. What nothing leads to is gone down first, so that what a vertex reaches by one way alone
-    /// is one range.
-    pub(crate) fn new(alloc: Global, graph: &Graph) -> Result<Reach, AllocError>
-        requires edges { AreEdgesBelow (plain_graph graph.now) (length (plain_graph graph.now)) }
-        requires cycles { HasNoCycle (HasEdge (plain_graph graph.now)) }
+    /// What the vertices of a graph reach, by their places in an order in which neighbors stand first.
+    pub(crate) fn new(alloc: Global, graph: &Graph, order: &[usize]) -> Result<Reach, AllocError>
+        requires order { IsOrder (plain_graph graph.now) order.now }
+        requires distinct { AreDistinct order.now }
+        requires all { (v : ℕ) → v < length (plain_graph graph.now) → IsIn order.now v }
         ensures { IfOk result (λ reach. IsReach (plain_graph graph.now) reach) }
     {
-        let mut starts = order(alloc, graph)?;
-        starts.reverse();
-        let order = order_from(alloc, graph, &starts)?;
         Ok(Reach {
-            places: places(alloc, &order, graph.len())?,
-            rows: rows(alloc, graph, &order)?,
+            places: places(alloc, order, graph.len())?,
+            rows: rows(alloc, graph, order)?,
         })
     }
 

@@ -9,7 +9,7 @@ use crate::graph::order;
 use crate::ids::{AttrId, EntityId, TypeId};
 use crate::items::{is_among, item_rows};
 use crate::names::{Names, entity_names, type_names};
-use crate::ranges::covers;
+use crate::owners::Owners;
 use crate::reach::Reach;
 use crate::resolved::Resolved;
 use crate::rows::{Own, Rows, own_attributes};
@@ -134,6 +134,7 @@ impl Schema {
         let type_names = type_names(alloc, key, &declarations.types)?;
         let ends = type_ends(alloc, &type_names, &declarations.types)?;
         let unders = resolved(alloc, &entity_names, &type_names, &declarations.types)?;
+        let owners = Owners::new(alloc, key, &declarations.entities)?;
         let known = Known {
             declarations: &declarations,
             rules,
@@ -141,10 +142,11 @@ impl Schema {
             types: &type_names,
             descents: &descents,
             own: &own,
+            owners: &owners,
         };
         let attributes = all_declarations(alloc, &known, lists)?;
         let bindings = all_bindings(alloc, &descents, &attributes)?;
-        let selects = select_tables(alloc, &unders, declarations.entities.len(), &descents)?;
+        let selects = select_tables(alloc, &unders, &graph, &descents)?;
         let items = item_rows(alloc, &declarations.types)?;
         Ok(Schema {
             declarations,
@@ -333,7 +335,7 @@ impl Schema {
         ensures { MatchOption result (¬ (ReachesType self.now (type_name self.now select) name.now)) (λ t. IsTypeOf self.now t × ((type_name self.now t ≡ name.now) × ReachesType self.now (type_name self.now select) name.now)) }
     {
         let index = self.type_names.place(name)?;
-        if covers(&self.selects.types[select.index], index) {
+        if self.selects.types.has(select.index, index) {
             Some(TypeId { index })
         } else {
             None
@@ -346,7 +348,7 @@ impl Schema {
         requires entity { IsEntityOf self.now entity }
         ensures { IsTrue result ↔ SelectReaches self.now (type_name self.now select) (entity_name self.now entity) }
     {
-        covers(&self.selects.entities[select.index], entity.index)
+        self.selects.entities.has(select.index, entity.index)
     }
 
     /// Whether the SELECT reaches the entity or an ancestor of it.
@@ -355,8 +357,7 @@ impl Schema {
         requires entity { IsEntityOf self.now entity }
         ensures { IsTrue result ↔ ReachesA self.now (type_name self.now select) (entity_name self.now entity) }
     {
-        let place = self.descents.places[entity.index];
-        covers(&self.selects.admitted[select.index], place)
+        self.selects.admitted.has(select.index, entity.index)
     }
 
     /// Whether the SELECT reaches an entity.

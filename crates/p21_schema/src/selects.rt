@@ -1,30 +1,53 @@
 //! What each SELECT reaches.
 
-ghost use Rattle.std.specs.Prelude.{◌≡◌, ◌<◌, ◌↔◌, ℕ, List, [], length, get_or, map, IfOk};
+ghost use Rattle.std.specs.Prelude.{◌≡◌, ◌<◌, ◌↔◌, ℕ, List, [], length, get_or, map, IfOk, IsTrue};
 ghost use Rattle.p21_express.specs.Schema.{Schema};
 ghost use Rattle.p21_express.specs.WellFormed.{IsIn, IsWellFormed};
-ghost use Rattle.p21_schema.specs.Ancestry.{IsDescentTable};
-ghost use Rattle.p21_schema.specs.Graph.{plain_graph, rows_of, IsMarked};
+ghost use Rattle.p21_schema.specs.Ancestry.{AreSupertypesNamed, IsDescentTable};
+ghost use Rattle.p21_schema.specs.Graph.{plain_graph, rows_of, HasEdge, AreEdgesBelow, IsOrder, IsMarked};
 ghost use Rattle.p21_schema.specs.Ranges.{Covers};
+ghost use Rattle.p21_schema.specs.Reach.{IsEachAlone};
 ghost use Rattle.p21_schema.specs.Under.{AreResolved};
 ghost use Rattle.p21_schema.specs.SelectItems.{kind_of, place_of, targets_of, IsItemRow, IsItemGraph};
-ghost use Rattle.p21_schema.specs.SelectTable.{AreSelectTables};
+ghost use Rattle.p21_schema.specs.SelectTable.{AreSelectRows, AreSelectTables};
+ghost use Rattle.p21_schema.specs.declared.reach.Reach.{Reach as Reached};
 
-use crate::graph::{Graph, order};
-use crate::ranges::{Range, covers_some};
+use crate::ancestry::descents_beginning;
+use crate::graph::{Graph, order_from_above, zeros};
+use crate::ranges::{Range, covers, covers_some};
 use crate::reach::{Reach, each_alone, reached};
 use crate::resolved::{Resolved, Target};
 use std::alloc::{AllocError, Global};
+
+/// Which entities, or which types, each type reaches, where it is a SELECT.
+#[derive(Drop)]
+pub(crate) struct SelectRows {
+    /// The place of each entity or type, in an order in which what a SELECT reaches mostly stands together.
+    places: Vec<usize>,
+    /// For each type the places of those that it reaches.
+    rows: Vec<Vec<Range>>,
+}
+
+impl SelectRows {
+    /// Whether a type reaches an entity or a type.
+    pub(crate) fn has(&self, select: usize, item: usize) -> bool
+        requires select { select < length (rows_of self.now.rows) }
+        requires item { item < length self.now.places.items }
+        ensures { IsTrue result ↔ Covers (get_or (rows_of self.now.rows) select []) (get_or self.now.places.items item 0) }
+    {
+        covers(&self.rows[select], self.places[item])
+    }
+}
 
 /// What each type reaches, where it is a SELECT.
 #[derive(Drop)]
 pub(crate) struct Selects {
     /// For each type which entities it reaches.
-    pub(crate) entities: Vec<Vec<Range>>,
-    /// For each type the places, among the descents of entities, of those that it reaches and of their descendants.
-    pub(crate) admitted: Vec<Vec<Range>>,
+    pub(crate) entities: SelectRows,
+    /// For each type the entities that it reaches and their descendants.
+    pub(crate) admitted: SelectRows,
     /// For each type which types that are no SELECT it reaches.
-    pub(crate) types: Vec<Vec<Range>>,
+    pub(crate) types: SelectRows,
     /// For each type whether it reaches an entity.
     pub(crate) any_entity: Vec<bool>,
 }
@@ -79,7 +102,7 @@ fn places(
 }
 
 /// The places of the items of one kind, where a SELECT stands under the type.
-fn items(
+fn items_under(
     alloc: Global,
     unders: &[Resolved],
     under: &Resolved,
@@ -99,7 +122,7 @@ fn item_graph(alloc: Global, unders: &[Resolved], wanted: Item) -> Result<Graph,
 {
     let mut graph = Vec::with_capacity(alloc, unders.len())?;
     for under in unders {
-        graph.push(items(alloc, unders, under, wanted)?)?;
+        graph.push(items_under(alloc, unders, under, wanted)?)?;
     }
     Ok(graph)
 }
@@ -116,26 +139,139 @@ fn any_held(alloc: Global, table: &Vec<Vec<Range>>) -> Result<Vec<bool>, AllocEr
     Ok(marks)
 }
 
-/// What each type reaches, by what stands under the types, the number of entities and their descents.
+/// What the vertices of an order have as items, in that order.
+fn met(alloc: Global, items: &Graph, order: &[usize]) -> Result<Vec<usize>, AllocError>
+    requires { (v : ℕ) → IsIn order.now v → v < length (plain_graph items.now) }
+    ensures { IfOk result (λ met. (k : ℕ) → IsIn met.items k → (v : ℕ) × HasEdge (plain_graph items.now) v k) }
+{
+    let mut met = Vec::new(alloc);
+    for vertex in order {
+        met.extend_from_slice(&items[*vertex])?;
+    }
+    Ok(met)
+}
+
+/// For each type what it reaches: its items, those of its inner SELECTs, and what these reach.
+fn select_rows(
+    alloc: Global,
+    items: &Graph,
+    reach: &Reach,
+    inner: &Graph,
+    order: &[usize],
+) -> Result<SelectRows, AllocError>
+    requires items { AreEdgesBelow (plain_graph items.now) (length (rows_of reach.now.rows)) }
+    requires vertices { length (plain_graph items.now) ≡ length (plain_graph inner.now) }
+    requires order { IsOrder (plain_graph inner.now) order.now }
+    requires all { (v : ℕ) → v < length (plain_graph inner.now) → IsIn order.now v }
+    ensures { IfOk result (λ table. AreSelectRows (plain_graph items.now) (plain_graph inner.now) reach.now table) }
+{
+    Ok(SelectRows {
+        places: Vec::from_slice(alloc, &reach.places)?,
+        rows: reached(alloc, items, &reach.rows, inner, order)?,
+    })
+}
+
+/// For each type which of so many entities or types it reaches, by their places in the order in which SELECTs meet them. So what a
+/// SELECT alone reaches stands together.
+fn items_reached(
+    alloc: Global,
+    items: &Graph,
+    count: usize,
+    inner: &Graph,
+    order: &[usize],
+) -> Result<SelectRows, AllocError>
+    requires items { AreEdgesBelow (plain_graph items.now) count }
+    requires vertices { length (plain_graph items.now) ≡ length (plain_graph inner.now) }
+    requires order { IsOrder (plain_graph inner.now) order.now }
+    requires all { (v : ℕ) → v < length (plain_graph inner.now) → IsIn order.now v }
+    ensures { IfOk result (λ table. (reach : Reached) × (IsEachAlone count reach × AreSelectRows (plain_graph items.now) (plain_graph inner.now) reach table)) }
+{
+    let first = met(alloc, items, order)?;
+    let alone = each_alone(alloc, count, &first)?;
+    select_rows(alloc, items, &alone, inner, order)
+}
+
+/// How many items a SELECT reaches, each as often as there are ways to it, by how many its inner SELECTs reach.
+fn ways(items: &[usize], inner: &[usize], counts: &[usize]) -> usize
+    requires { (v : ℕ) → IsIn inner.now v → v < length counts.now }
+{
+    let mut count = items.len();
+    for other in inner {
+        count = count.saturating_add(counts[*other]);
+    }
+    count
+}
+
+/// Items that are reached so many times as often as they are named are reached by SELECTs that are nested deep.
+const OFTEN: usize = 16;
+
+/// Whether SELECTs are nested so deep that they reach their items much more often than these are named.
+fn are_nested_deep(
+    alloc: Global,
+    items: &Graph,
+    inner: &Graph,
+    order: &[usize],
+) -> Result<bool, AllocError>
+    requires vertices { length (plain_graph items.now) ≡ length (plain_graph inner.now) }
+    requires edges { AreEdgesBelow (plain_graph inner.now) (length (plain_graph inner.now)) }
+    requires order { (v : ℕ) → IsIn order.now v → v < length (plain_graph inner.now) }
+{
+    let mut counts = zeros(alloc, inner.len())?;
+    let mut named = inner.len();
+    let mut reached: usize = 0;
+    for select in order {
+        let count = ways(&items[*select], &inner[*select], &counts);
+        counts[*select] = count;
+        named = named.saturating_add(items[*select].len());
+        reached = reached.saturating_add(count);
+    }
+    Ok(reached / OFTEN > named)
+}
+
+/// For each type the entities that it reaches and their descendants: by the order of the descents, or, where that could take many
+/// ranges, by an order of their own, in which what SELECTs meet first stands first.
+fn admitted(
+    alloc: Global,
+    items: &Graph,
+    inner: &Graph,
+    order: &[usize],
+    supertypes: &Graph,
+    descents: &Reach,
+) -> Result<SelectRows, AllocError>
+    requires vertices { length (plain_graph items.now) ≡ length (plain_graph inner.now) }
+    requires edges { AreEdgesBelow (plain_graph inner.now) (length (plain_graph inner.now)) }
+    requires order { IsOrder (plain_graph inner.now) order.now }
+    requires all { (v : ℕ) → v < length (plain_graph inner.now) → IsIn order.now v }
+    requires schema { (s : Schema) × (IsWellFormed s × (AreSupertypesNamed (map (λ e. e.name) s.entities) (plain_graph supertypes.now) s.entities × (AreEdgesBelow (plain_graph items.now) (length s.entities) × IsDescentTable s descents.now))) }
+    ensures { IfOk result (λ table. (reach : Reached) × (AreSelectRows (plain_graph items.now) (plain_graph inner.now) reach table × ((s : Schema) → IsWellFormed s → AreSupertypesNamed (map (λ e. e.name) s.entities) (plain_graph supertypes.now) s.entities → IsDescentTable s descents.now → IsDescentTable s reach))) }
+{
+    if are_nested_deep(alloc, items, inner, order)? {
+        let first = met(alloc, items, order)?;
+        let descents = descents_beginning(alloc, supertypes, &first)?;
+        select_rows(alloc, items, &descents, inner, order)
+    } else {
+        select_rows(alloc, items, descents, inner, order)
+    }
+}
+
+/// What each type reaches, by what stands under the types, and by the supertypes and the descents of entities.
 pub(crate) fn select_tables(
     alloc: Global,
     unders: &[Resolved],
-    entities: usize,
+    supertypes: &Graph,
     descents: &Reach,
 ) -> Result<Selects, AllocError>
-    requires { (s : Schema) × (IsWellFormed s × (AreResolved (map (λ e. e.name) s.entities) (map (λ t. t.name) s.types) unders.now s.types × ((entities ≡ length s.entities) × IsDescentTable s descents.now))) }
-    ensures { IfOk result (λ tables. (s : Schema) → IsWellFormed s → AreResolved (map (λ e. e.name) s.entities) (map (λ t. t.name) s.types) unders.now s.types → entities ≡ length s.entities → IsDescentTable s descents.now → AreSelectTables s descents.now tables) }
+    requires { (s : Schema) × (IsWellFormed s × (AreResolved (map (λ e. e.name) s.entities) (map (λ t. t.name) s.types) unders.now s.types × (AreSupertypesNamed (map (λ e. e.name) s.entities) (plain_graph supertypes.now) s.entities × IsDescentTable s descents.now))) }
+    ensures { IfOk result (λ tables. (s : Schema) → IsWellFormed s → AreResolved (map (λ e. e.name) s.entities) (map (λ t. t.name) s.types) unders.now s.types → AreSupertypesNamed (map (λ e. e.name) s.entities) (plain_graph supertypes.now) s.entities → IsDescentTable s descents.now → AreSelectTables s tables) }
 {
     let inner = item_graph(alloc, unders, Item::Select)?;
-    let order = order(alloc, &inner)?;
-    let direct = item_graph(alloc, unders, Item::Entity)?;
-    let alone = each_alone(alloc, entities)?;
-    let entities = reached(alloc, &direct, &alone, &inner, &order)?;
-    let admitted = reached(alloc, &direct, &descents.rows, &inner, &order)?;
-    let direct = item_graph(alloc, unders, Item::Other)?;
-    let alone = each_alone(alloc, unders.len())?;
-    let types = reached(alloc, &direct, &alone, &inner, &order)?;
-    let any_entity = any_held(alloc, &entities)?;
+    let order = order_from_above(alloc, &inner)?;
+    let items = item_graph(alloc, unders, Item::Entity)?;
+    let entities = items_reached(alloc, &items, supertypes.len(), &inner, &order)?;
+    let any_entity = any_held(alloc, &entities.rows)?;
+    let admitted = admitted(alloc, &items, &inner, &order, supertypes, descents)?;
+    let items = item_graph(alloc, unders, Item::Other)?;
+    let types = items_reached(alloc, &items, unders.len(), &inner, &order)?;
     Ok(Selects {
         entities,
         admitted,

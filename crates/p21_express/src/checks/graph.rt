@@ -24,7 +24,7 @@ pub(super) fn repeated<T: Copy>(alloc: Global, value: T, count: usize) -> Result
 }
 
 /// Writes a value to a place, where the list has it.
-fn set<T: Copy>(list: &mut Vec<T>, place: usize, value: T)
+pub(super) fn set<T: Copy>(list: &mut Vec<T>, place: usize, value: T)
     ensures { list.new.items ≡ slice_set list.old.items place value }
 {
     if let Some(one) = list.get_mut(place) {
@@ -190,7 +190,7 @@ impl Search {
 }
 
 /// The edge of a vertex that is next to be taken.
-fn next(graph: &Graph, vertex: usize, taken: usize) -> Option<usize>
+pub(super) fn next(graph: &Graph, vertex: usize, taken: usize) -> Option<usize>
     ensures edge { result ≡ slice_get (neighbors (lists graph.now.items) vertex) taken }
     ensures fits { IsSome result → taken < 2 ^ 64 - 1 }
 {
@@ -207,6 +207,11 @@ pub(super) fn is_cyclic(alloc: Global, graph: &Graph) -> Result<bool, AllocError
     ensures { IfOk result (λ answer. MatchBool answer (¬ (HasNoCycle (HasEdge (lists graph.now.items)))) (HasNoCycle (HasEdge (lists graph.now.items)))) }
 {
     Ok(Search::whole(alloc, graph)?.is_cyclic)
+}
+
+/// All vertices, each behind those to which its edges lead, where none lies on a cycle.
+pub(super) fn ends_first(alloc: Global, graph: &Graph) -> Result<Vec<usize>, AllocError> {
+    Ok(Search::whole(alloc, graph)?.finished)
 }
 
 /// For each vertex whether it lies on a cycle.

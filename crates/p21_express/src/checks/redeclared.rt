@@ -1,6 +1,6 @@
 //! Attributes that are declared again.
 
-ghost use Rattle.std.specs.Prelude.{◌≡◌, ◌<◌, ◌↔◌, ℕ, List, [], ◌∷◌, ◌++◌, Some, slice_get, IfOk, OnOk, MatchOption, MatchResult, true, map, option_map};
+ghost use Rattle.std.specs.Prelude.{◌≡◌, ◌<◌, ◌↔◌, ℕ, List, [], ◌∷◌, ◌++◌, Some, slice_get, length, IfOk, OnOk, MatchOption, MatchResult, true, map, option_map};
 ghost use Rattle.std.specs.Option.{option_to_list};
 ghost use Rattle.std.specs.Bool.{MatchBool};
 ghost use Rattle.std.specs.List.{AllByRecursion, AllZip};
@@ -18,6 +18,7 @@ ghost use Rattle.p21_express.specs.declared.misfit.Misfit.TheVariants.{BadRedecl
 
 use super::cycles::{add, entity_at, supertypes};
 use super::graph::{Graph, Search};
+use super::links::{Link, is_met, links};
 use super::names::Index;
 use super::repeated::{attributes, derived_attributes};
 use super::{Checked, First, attribute_places_at, place_at};
@@ -72,6 +73,7 @@ struct NewNames<'d> {
 struct Known<'d> {
     declarations: &'d Declarations,
     supertypes: Graph,
+    links: Vec<Link>,
     /// For each entity the names that it newly declares.
     names: Vec<NewNames<'d>>,
 }
@@ -194,22 +196,42 @@ fn origin_among(known: &Known, among: &[usize], again: Again) -> Option<usize>
     Some(position)
 }
 
-/// The position of the entity that newly declares what another declares again, where that is allowed. `lineage` has the
-/// other entity, which is at this position, and its ancestors.
+/// Whether the entity at a position is the other, or has it as an ancestor. Mostly links lead there, and no others are looked at.
+fn is_over(
+    alloc: Global,
+    known: &Known,
+    search: &mut Search,
+    position: usize,
+    of: usize,
+) -> Result<bool, AllocError>
+    requires known { IsKnown known.now }
+    requires blank { IsBlank (lists known.now.supertypes.items) (state_of search.old) }
+    requires position { position < length known.now.supertypes.items }
+    ensures blank { OnOk result (IsBlank (lists known.now.supertypes.items) (state_of search.new)) }
+    ensures over { IfOk result (λ over. MatchBool over (Reaches (lists known.now.supertypes.items) position of) (¬ (Reaches (lists known.now.supertypes.items) position of))) }
+{
+    if is_met(&known.links, position, of) {
+        return Ok(true);
+    }
+    let lineage = search.reached(alloc, &known.supertypes, position)?;
+    Ok(lineage.contains(&of))
+}
+
+/// The position of the entity that newly declares what another declares again, which is at this position, where that is allowed.
 fn origin_of(
     alloc: Global,
     known: &Known,
     index: &Index,
     search: &mut Search,
-    lineage: &[usize],
     position: usize,
     again: Again,
 ) -> Result<Option<usize>, AllocError>
     requires index { IsExactIndex (plain_schema known.now.declarations.now) index.now }
     requires known { IsKnown known.now }
     requires blank { IsBlank (lists known.now.supertypes.items) (state_of search.old) }
+    requires position { position < length known.now.supertypes.items }
     ensures blank { OnOk result (IsBlank (lists known.now.supertypes.items) (state_of search.new)) }
-    ensures origin { let s = plain_schema known.now.declarations.now in (e : List ℕ) → IsEntityAt s position e → ((w : ℕ) → IsIn lineage.now w ↔ Reaches (lists known.now.supertypes.items) position w) → IfOk result (λ o. MatchOption o ((i : ℕ) → ¬ (IsAgainAt s e (plain_again again.entry) i)) (λ i. IsAgainAt s e (plain_again again.entry) i)) }
+    ensures origin { let s = plain_schema known.now.declarations.now in (e : List ℕ) → IsEntityAt s position e → IfOk result (λ o. MatchOption o ((i : ℕ) → ¬ (IsAgainAt s e (plain_again again.entry) i)) (λ i. IsAgainAt s e (plain_again again.entry) i)) }
 {
     let Some(of) = entity_at(index, again.of) else {
         return Ok(None);
@@ -217,7 +239,8 @@ fn origin_of(
     if of == position {
         return Ok(None);
     }
-    if !lineage.contains(&of) {
+    let is_ancestor = is_over(alloc, known, search, position, of)?;
+    if !is_ancestor {
         return Ok(None);
     }
     let among = search.reached(alloc, &known.supertypes, of)?;
@@ -299,11 +322,10 @@ fn entity(
     if all.is_empty() {
         return Ok(());
     }
-    let lineage = search.reached(alloc, &known.supertypes, position)?;
     let mut origins = BTreeMap::new(alloc);
     for again in &all {
         let refusal = Unfit::Found(Misfit::BadRedeclaration, again.place);
-        let Some(place) = origin_of(alloc, known, index, search, &lineage, position, *again)? else {
+        let Some(place) = origin_of(alloc, known, index, search, position, *again)? else {
             return Err(refusal);
         };
         let origin = Origin {
@@ -326,9 +348,12 @@ pub(super) fn check(alloc: Global, checked: Checked, index: &Index) -> Result<()
     requires cycles { HasNoCycles (plain_schema checked.declarations.now) }
     ensures { let s = plain_schema checked.entry.declarations.now in MatchResult result (λ _. AllByRecursion (IsRedeclaring s) s.entities) (λ e. OnUnfit e (Only BadRedeclaration (¬ (AllByRecursion (IsRedeclaring s) s.entities)))) }
 {
+    let supertypes = supertypes(alloc, checked, index)?;
+    let links = links(alloc, &supertypes)?;
     let known = Known {
         declarations: checked.declarations,
-        supertypes: supertypes(alloc, checked, index)?,
+        supertypes,
+        links,
         names: all_new_names(alloc, checked)?,
     };
     let mut search = Search::new(alloc, known.supertypes.len())?;

@@ -9,11 +9,11 @@ use Rattle.p21_schema.proofs.AncestryLemmas.{descent_table, distinct_entities}
 use Rattle.p21_schema.proofs.WithinLemmas.{turned_below, turned_cycles}
 use Rattle.p21_schema.proofs.ancestry.descents.Goals as goal
 
-pub new-requires-clause-edges : goal.new-requires-clause-edges
-new-requires-clause-edges c = turned_below (plain_graph c.args.supertypes.now) (plain_graph c.in_ok-subtypes.subtypes) c.in_ok-subtypes.ensures
+pub order_from_above-requires-clause-edges : goal.order_from_above-requires-clause-edges
+order_from_above-requires-clause-edges c = turned_below (plain_graph c.args.supertypes.now) (plain_graph c.in_ok-subtypes.subtypes) c.in_ok-subtypes.ensures
 
-pub new-requires-clause-cycles : goal.new-requires-clause-cycles
-new-requires-clause-cycles c = turned_cycles (plain_graph c.args.supertypes.now) (plain_graph c.in_ok-subtypes.subtypes) c.in_ok-subtypes.ensures c.requires.cycles
+pub order_from_above-requires-clause-cycles : goal.order_from_above-requires-clause-cycles
+order_from_above-requires-clause-cycles c = turned_cycles (plain_graph c.args.supertypes.now) (plain_graph c.in_ok-subtypes.subtypes) c.in_ok-subtypes.ensures c.requires.cycles
 
 pub returns : goal.returns
 returns c = IfOk-weaker c.new.result (λ reach. IsReach (plain_graph c.in_ok-subtypes.subtypes) reach) (λ reach. (s : Schema) → IsWellFormed s → AreSupertypesNamed (map (λ e. e.name) s.entities) (plain_graph c.args.supertypes.now) s.entities → IsDescentTable s reach)

@@ -1,21 +1,20 @@
-use Rattle.std.proofs.Common.{◌+◌, ◌<◌, ◌≤◌, ap, ◌∙◌, arith}
-use Rattle.std.proofs.lemmas.List.{length_push}
-use Rattle.p21_schema.specs.Graph.{rows_of}
-use Rattle.p21_schema.proofs.GraphLemmas.{rows_push}
-use Rattle.p21_schema.proofs.ReachLemmas.{alone_more}
+use Rattle.std.proofs.Common.{◌≡◌, ℕ, ◌<◌, List, [], length, get_or, sym, subst, ap, ◌∙◌}
+use Rattle.std.proofs.lemmas.Result.{IfOk-weaker}
+use Rattle.p21_express.specs.WellFormed.{IsIn}
+use Rattle.p21_schema.specs.Graph.{plain_graph}
+use Rattle.p21_schema.specs.Reach.{IsReach, IsEachAlone}
+use Rattle.p21_schema.proofs.WithinLemmas.{no_edge, no_edge_cycle, each_alone}
 use Rattle.p21_schema.proofs.reach.each_alone.Goals as goal
 
-pub loop-place-preserved : goal.loop-place-preserved
-loop-place-preserved c =
-    let inv = c.loop-place.invariant in
-    let row = c.in_ok-alone.field-0 in
-    rw (rows_push c.loop-place.rows c.push.new.self row c.in_ok-push.ensures.items) (record {
-      count = length_push (rows_of c.loop-place.rows) row.items ∙ ap (λ n. n + 1) inv.count;
-      rows = alone_more (rows_of c.loop-place.rows) row.items c.loop-place.place inv.count inv.rows c.in_ok-alone.ensures;
-    })
+pub order_beginning-requires-clause-edges : goal.order_beginning-requires-clause-edges
+order_beginning-requires-clause-edges c = λ a b e. absurd (no_edge (plain_graph c.in_ok-graph.graph) c.in_ok-graph.ensures.empty a b e)
 
-pub returns-clause-rows : goal.returns-clause-rows
-returns-clause-rows c = λ v k l.
-    let less : v < c.args.count = l in
-    let bound : c.args.count ≤ c.loop-place.place = c.loop-place-test.false in
-    c.loop-place.invariant.rows v k (omega arith)
+pub order_beginning-requires-clause-cycles : goal.order_beginning-requires-clause-cycles
+order_beginning-requires-clause-cycles c = no_edge_cycle (plain_graph c.in_ok-graph.graph) c.in_ok-graph.ensures.empty
+
+pub order_beginning-requires-clause-first : goal.order_beginning-requires-clause-first
+order_beginning-requires-clause-first c = λ v i. subst (λ (u : ℕ). v < u) (sym c.in_ok-graph.ensures.count) (c.requires v i)
+
+pub returns : goal.returns
+returns c = IfOk-weaker c.new.result (λ reach. IsReach (plain_graph c.in_ok-graph.graph) reach) (λ reach. IsEachAlone c.args.count reach)
+    (λ reach r. each_alone (plain_graph c.in_ok-graph.graph) c.args.count reach c.in_ok-graph.ensures.count c.in_ok-graph.ensures.empty r) c.new.ensures

@@ -8,10 +8,10 @@ use Rattle.p21_schema.proofs.selects.item_graph.Goals as goal
 pub loop-under-preserved : goal.loop-under-preserved
 loop-under-preserved c =
     let inv = c.loop-under.invariant in
-    let row = c.in_ok-items.field-0 in
+    let row = c.in_ok-items_under.field-0 in
     rw (rows_push c.loop-under.graph c.push.new.self row c.in_ok-push.ensures.items) (record {
       count = length_push (plain_graph c.loop-under.graph) row.items ∙ ap (λ (n : _). n + 1) inv.count;
-      rows = graph_more c.args.unders.now c.args.wanted (plain_graph c.loop-under.graph) row.items c.loop-under.under-index c.under-item.result c.loop-under-test.true c.under-item.is inv.count inv.rows c.in_ok-items.ensures;
+      rows = graph_more c.args.unders.now c.args.wanted (plain_graph c.loop-under.graph) row.items c.loop-under.under-index c.under-item.result c.loop-under-test.true c.under-item.is inv.count inv.rows c.in_ok-items_under.ensures;
     })
 
 pub returns : goal.returns

@@ -1,4 +1,4 @@
-use Rattle.std.proofs.Common.{map}
+use Rattle.std.proofs.Common.{map, sym, ◌∙◌}
 use Rattle.std.specs.List.{AllByRecursion}
 use Rattle.std.proofs.lemmas.Result.{err_from_is_err_and}
 use Rattle.p21_express.specs.declared.misfit.Misfit.TheVariants as misfit
@@ -6,6 +6,7 @@ use Rattle.p21_express.specs.Graph.{lists}
 use Rattle.p21_express.specs.Plain.{plain_schema, plain_entity}
 use Rattle.p21_express.specs.WellFormed.{IsRedeclaring}
 use Rattle.p21_express.proofs.CycleLemmas.{entities_to_graph}
+use Rattle.p21_express.proofs.GraphLemmas.{lists_length}
 use Rattle.p21_express.proofs.RedeclarationLemmas.{entity_there_at, all_step, all_refused, unfit_to}
 use Rattle.p21_express.proofs.checks.redeclared.check.Goals as goal
 
@@ -13,12 +14,16 @@ pub entity-requires-clause-known : goal.entity-requires-clause-known
 entity-requires-clause-known c = record {
   unknown = c.requires.unknown;
   supertypes = c.in_ok-supertypes.ensures;
-  acyclic = entities_to_graph (plain_schema c.args.checked.declarations.now) (lists c.in_ok-supertypes.field-0.items) c.in_ok-supertypes.ensures c.requires.cycles.entities;
+  acyclic = entities_to_graph (plain_schema c.args.checked.declarations.now) (lists c.in_ok-supertypes.supertypes.items) c.in_ok-supertypes.ensures c.requires.cycles.entities;
+  links = c.in_ok-links.ensures;
   names = c.in_ok-all_new_names.ensures;
 }
 
 pub entity-requires-clause-decl : goal.entity-requires-clause-decl
 entity-requires-clause-decl c = entity_there_at c.args.checked.declarations.now.entities.items c.loop-position.position c.decl-item.result (rw c.deref-decl-items.ensures.value at c.loop-position-test.true) (rw c.deref-decl-items.ensures.value at c.decl-item.is)
+
+pub loop-position-init : goal.loop-position-init
+loop-position-init c = (c.in_ok-search.ensures (lists c.in_ok-supertypes.supertypes.items) (lists_length c.in_ok-supertypes.supertypes.items ∙ sym c.in_ok-supertypes.supertypes.ok.0 ∙ sym c.len.ensures), tt)
 
 pub loop-position-preserved : goal.loop-position-preserved
 loop-position-preserved c = (c.in_ok-entity.ensures.blank, all_step (IsRedeclaring (plain_schema c.args.checked.declarations.now)) c.args.checked.declarations.now.entities.items c.loop-position.position c.decl-item.result (rw c.deref-decl-items.ensures.value at c.loop-position-test.true) (rw c.deref-decl-items.ensures.value at c.decl-item.is) c.loop-position.invariant.1 c.in_ok-entity.ensures.redeclared)

@@ -1,5 +1,4 @@
 use Rattle.std.proofs.Common.{◌≡◌, sym, List, [], map, get_or, ap, ◌∙◌}
-use Rattle.std.proofs.lemmas.List.{length-map}
 use Rattle.p21_express.specs.Schema.{Entity, Defined}
 use Rattle.p21_express.specs.Plain.{plain_schema, plain_entity, plain_type}
 use Rattle.p21_schema.specs.Rules.{with_rules}
@@ -54,7 +53,7 @@ invariant_of-result c =
     let types_are : c.in_ok-type_names.type_names ≡ map (λ (t : Defined). t.name) s.types = c.in_ok-type_names.ensures ∙ ap (λ (ts : List _). map (λ (t : Defined). t.name) (map plain_type ts)) c.deref-5.ensures.value in
     let found : AreResolved (map (λ (e : Entity). e.name) s.entities) (map (λ (t : Defined). t.name) s.types) c.in_ok-unders.unders.items s.types = rw (← names_are, ← types_are, ← c.deref-7.ensures.value) c.in_ok-unders.ensures in
     let descents : IsDescentTable s c.in_ok-descents.descents = c.in_ok-descents.ensures s (fits_with (plain_schema c.args.declarations) c.args.rules c.requires) h in
-    let selects : AreSelectTables s c.in_ok-descents.descents c.in_ok-selects.selects = c.in_ok-selects.ensures s (fits_with (plain_schema c.args.declarations) c.args.rules c.requires) (rw c.deref-9.ensures.value found) (c.len.ensures ∙ c.args.declarations.entities.ok.0 ∙ sym (length-map c.args.declarations.entities.items plain_entity)) descents in
+    let selects : AreSelectTables s c.in_ok-selects.selects = c.in_ok-selects.ensures s (fits_with (plain_schema c.args.declarations) c.args.rules c.requires) (rw c.deref-10.ensures.value found) h descents in
     record {
       types = types_are;
       attributes = c.in_ok-attributes.ensures;
@@ -62,7 +61,7 @@ invariant_of-result c =
       selects = selects;
       ends = c.in_ok-ends.ensures s (ap (λ (ts : List _). map plain_type ts) (sym c.deref-6.ensures.value));
       resolved = found;
-      items = rw (← c.deref-10.ensures.value) c.in_ok-items.ensures;
+      items = rw (← c.deref-11.ensures.value) c.in_ok-items.ensures;
       own = own_with (plain_schema c.args.declarations) c.args.rules _ c.in_ok-own.ensures.own;
       rows = c.in_ok-rows.ensures s (fits_with (plain_schema c.args.declarations) c.args.rules c.requires) h (rw c.deref-3.ensures.value (own_with (plain_schema c.args.declarations) c.args.rules _ c.in_ok-own.ensures.own));
       well_formed = fits_with (plain_schema c.args.declarations) c.args.rules c.requires;
@@ -93,7 +92,8 @@ all_declarations-requires-clause-known c =
       entities = c.in_ok-entity_names.ensures ∙ ap (λ (es : List _). map (λ (e : Entity). e.name) (map plain_entity es)) c.deref.ensures.value;
       types = c.in_ok-type_names.ensures ∙ ap (λ (ts : List _). map (λ (t : Defined). t.name) (map plain_type ts)) c.deref-5.ensures.value;
       descents = c.in_ok-descents.ensures s (fits_with (plain_schema c.args.declarations) c.args.rules c.requires) h;
-      own = rw c.deref-8.ensures.value (own_with (plain_schema c.args.declarations) c.args.rules _ c.in_ok-own.ensures.own);
+      own = rw c.deref-9.ensures.value (own_with (plain_schema c.args.declarations) c.args.rules _ c.in_ok-own.ensures.own);
+      owners = c.in_ok-owners.ensures s (ap (λ (es : List _). map plain_entity es) (sym c.deref-8.ensures.value));
     }
 
 pub all_declarations-requires-clause-empty : goal.all_declarations-requires-clause-empty
@@ -115,4 +115,4 @@ select_tables-requires c =
     let found : AreResolved (map (λ (e : Entity). e.name) s.entities) (map (λ (t : Defined). t.name) s.types) c.in_ok-unders.unders.items s.types = rw (← names_are, ← types_are, ← c.deref-7.ensures.value) c.in_ok-unders.ensures in
     let h : AreSupertypesNamed (map (λ (e : Entity). e.name) s.entities) (plain_graph c.in_ok-graph.graph) s.entities = named_by plain_entity c.in_ok-entity_names.entity_names (plain_graph c.in_ok-graph.graph) c.deref.result.now c.deref-2.result.now c.args.declarations.entities.items c.in_ok-entity_names.ensures c.deref.ensures.value c.deref-2.ensures.value c.in_ok-graph.ensures in
     let formed = fits_with (plain_schema c.args.declarations) c.args.rules c.requires in
-    (s, (formed, (rw c.deref-9.ensures.value found, (c.len.ensures ∙ c.args.declarations.entities.ok.0 ∙ sym (length-map c.args.declarations.entities.items plain_entity), c.in_ok-descents.ensures s formed h))))
+    (s, (formed, (rw c.deref-10.ensures.value found, (h, c.in_ok-descents.ensures s formed h))))

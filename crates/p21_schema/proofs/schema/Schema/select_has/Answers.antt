@@ -1,41 +1,32 @@
-use Rattle.std.proofs.Common.{◌≡◌, ◌<◌, List, [], length, get_or, sym, subst, ◌∙◌}
+use Rattle.std.proofs.Common.{◌≡◌, ◌<◌, length, sym, subst, ◌∙◌}
 use Rattle.std.proofs.lemmas.Bool.{false≢true}
 use Rattle.p21_express.specs.Schema.{Schema}
 use Rattle.p21_schema.specs.Tables.{schema_of}
-use Rattle.p21_schema.specs.Graph.{rows_of}
-use Rattle.p21_schema.specs.Ranges.{Covers}
-use Rattle.p21_schema.specs.declared.ranges.Range.{Range}
 use Rattle.p21_schema.specs.Place.{IsTypeOf}
-use Rattle.p21_schema.proofs.GraphLemmas.{row_is, row_count}
 use Rattle.p21_schema.proofs.SelectLemmas.{type_reached, type_not_reached, placed}
 use Rattle.p21_schema.proofs.schema.Schema.select_has.Goals as goal
 
-pub returns-then-covers : goal.returns-then-covers
-returns-then-covers c =
-    let s = schema_of c.self.inside in
-    let i = c.args.select.index in
-    let k = c.in_ok-index.index in
-    let li : IsTypeOf s c.args.select = subst (λ (u : Schema). IsTypeOf u c.args.select) (sym c.self.view_is) c.requires in
-    let t = c.self.inside.selects.types in
-    let table = c.self.invariant.selects.types in
-    let row = c.index.result.now.items in
-    let less : i < length t.items = subst (λ u. i < u) (sym table.count ∙ row_count t ∙ t.ok.0) li in
-    let is : get_or (rows_of t) i [] ≡ row = row_is t i c.index.result.now less c.index.ensures in
-    let p = placed s c.self.inside.type_names k c.args.name.now c.self.invariant.types c.in_ok-index.ensures in
-    let same : c.deref.result.now ≡ get_or (rows_of t) i [] = c.deref.ensures.value ∙ sym is in
-    rw (← c.self.view_is) (p.0, (p.1, type_reached s (rows_of t) i k c.args.name.now table li p.0 p.1 (subst (λ (xs : List Range). Covers xs k) same (c.covers.ensures.0 c.if-covers.true))))
+pub has-requires-clause-select : goal.has-requires-clause-select
+has-requires-clause-select c = subst (λ u. c.args.select.index < u) (sym c.self.invariant.selects.types.count) (subst (λ (u : Schema). IsTypeOf u c.args.select) (sym c.self.view_is) c.requires)
 
-pub returns-else-covers : goal.returns-else-covers
-returns-else-covers c =
+pub has-requires-clause-item : goal.has-requires-clause-item
+has-requires-clause-item c =
     let s = schema_of c.self.inside in
-    let i = c.args.select.index in
+    let k = c.in_ok-index.index in
+    subst (λ u. k < u) (sym c.self.invariant.selects.types.places) (placed s c.self.inside.type_names k c.args.name.now c.self.invariant.types c.in_ok-index.ensures).0
+
+pub returns-then-has : goal.returns-then-has
+returns-then-has c =
+    let s = schema_of c.self.inside in
     let k = c.in_ok-index.index in
     let li : IsTypeOf s c.args.select = subst (λ (u : Schema). IsTypeOf u c.args.select) (sym c.self.view_is) c.requires in
-    let t = c.self.inside.selects.types in
-    let table = c.self.invariant.selects.types in
-    let row = c.index.result.now.items in
-    let less : i < length t.items = subst (λ u. i < u) (sym table.count ∙ row_count t ∙ t.ok.0) li in
-    let is : get_or (rows_of t) i [] ≡ row = row_is t i c.index.result.now less c.index.ensures in
     let p = placed s c.self.inside.type_names k c.args.name.now c.self.invariant.types c.in_ok-index.ensures in
-    let same : c.deref.result.now ≡ get_or (rows_of t) i [] = c.deref.ensures.value ∙ sym is in
-    rw (← c.self.view_is) (type_not_reached s (rows_of t) i k c.args.name.now table li p.0 p.1 (λ m. false≢true (sym c.if-covers.false ∙ c.covers.ensures.1 (subst (λ (xs : List Range). Covers xs k) (sym same) m))))
+    rw (← c.self.view_is) (p.0, (p.1, type_reached s c.self.inside.selects.types c.args.select.index k c.args.name.now c.self.invariant.selects.types li p.0 p.1 (c.has.ensures.0 c.if-has.true)))
+
+pub returns-else-has : goal.returns-else-has
+returns-else-has c =
+    let s = schema_of c.self.inside in
+    let k = c.in_ok-index.index in
+    let li : IsTypeOf s c.args.select = subst (λ (u : Schema). IsTypeOf u c.args.select) (sym c.self.view_is) c.requires in
+    let p = placed s c.self.inside.type_names k c.args.name.now c.self.invariant.types c.in_ok-index.ensures in
+    rw (← c.self.view_is) (type_not_reached s c.self.inside.selects.types c.args.select.index k c.args.name.now c.self.invariant.selects.types li p.0 p.1 (λ m. false≢true (sym c.if-has.false ∙ c.has.ensures.1 m)))
