@@ -1,5 +1,5 @@
 -- Which entities newly declare an explicit attribute of a name, by lists.
-use Rattle.std.proofs.Common.{◌≡◌, ℕ, ◌+◌, ◌<◌, ◌≤◌, List, [], ◌∷◌, ◌++◌, ◌⊎◌, None, Some, Option, length, get_or, set, take, refl, sym, ap, ◌∙◌, subst, inl, inr, ⊎_elim, arith}
+use Rattle.std.proofs.Common.{◌≡◌, ℕ, ◌+◌, ◌<◌, ◌≤◌, List, [], ◌∷◌, ◌++◌, ◌⊎◌, None, Some, Option, length, get_or, set, refl, sym, ap, ◌∙◌, subst, inl, inr, ⊎_elim, arith}
 use Rattle.std.proofs.lemmas.Bool.{cases_eq, cases_lt}
 use Rattle.std.proofs.lemmas.List.{length-set, length_push, get_or-set_same, get_or-set_other, get_or_append_left, get_or_push, get_or_past}
 use Rattle.p21_express.specs.Schema.{Schema, Attribute}
@@ -21,7 +21,7 @@ distinct_push (y ∷ ys) x d n = (λ i. ⊎_elim (λ (l : IsIn ys y). d.0 l) (λ
 -- ---- an entity more in a list that is there
 
 module _ (old new : Owners) (place entity : ℕ) (n : List ℕ) (h : AreInLists old) (less : place < length old.names) (named : get_or old.names place [] ≡ n) (same : new.names ≡ old.names)
-  (is : rows_of new.lists ≡ set (rows_of old.lists) place (get_or (rows_of old.lists) place [] ++ entity ∷ [])) where
+    (is : rows_of new.lists ≡ set (rows_of old.lists) place (get_or (rows_of old.lists) place [] ++ entity ∷ [])) where
   abbrev row : List ℕ
   row = get_or (rows_of old.lists) place [] ++ entity ∷ []
 

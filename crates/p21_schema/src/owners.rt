@@ -39,12 +39,7 @@ fn add_list(alloc: Global, lists: &mut Vec<Vec<usize>>, entity: usize) -> Result
 }
 
 /// An entity goes into the list of a name.
-fn note(
-    alloc: Global,
-    owners: &mut Owners,
-    name: &[u8],
-    entity: usize,
-) -> Result<(), AllocError>
+fn note(alloc: Global, owners: &mut Owners, name: &[u8], entity: usize) -> Result<(), AllocError>
     requires { AreInLists owners.old }
     ensures noted { OnOk result (IsNoted owners.old owners.new entity) }
     ensures listed { OnOk result (IsListed owners.new name.now entity) }

@@ -1,4 +1,4 @@
-use Rattle.std.proofs.Common.{◌≡◌, ◌<◌, ℕ, get_or, length, take, subst, ⊎_elim}
+use Rattle.std.proofs.Common.{◌≡◌, ℕ, get_or, take, subst, ⊎_elim}
 use Rattle.std.proofs.lemmas.Bool.{false≢true}
 use Rattle.std.proofs.lemmas.List.{take_all}
 use Rattle.p21_express.specs.WellFormed.{IsIn}
@@ -29,9 +29,9 @@ loop-owner-preserved c =
       | else-is_over w ↦ λ a. absurd (false≢true (w.if-is_over.ensures.1 a))
     ] in
     λ d i. ⊎_elim
-        (λ (f : IsIn (take k items) d). c.loop-owner.invariant d f)
-        (λ (q : get_or items k 0 ≡ d). subst (λ (u : ℕ). IsA s e (entity_id u) → IsNotOwn s u c.args.name.now) q this)
-        (front_more items k 0 d c.loop-owner-test.true i)
+    (λ (f : IsIn (take k items) d). c.loop-owner.invariant d f)
+    (λ (q : get_or items k 0 ≡ d). subst (λ (u : ℕ). IsA s e (entity_id u) → IsNotOwn s u c.args.name.now) q this)
+    (front_more items k 0 d c.loop-owner-test.true i)
 
 pub returns : goal.returns
 returns c = λ d less a own.

@@ -1,4 +1,4 @@
-use Rattle.std.proofs.Common.{◌≡◌, ◌++◌, ◌∷◌, [], ℕ, List, ap, ◌∙◌}
+use Rattle.std.proofs.Common.{◌++◌, ◌∷◌, [], ℕ, List, ap, ◌∙◌}
 use Rattle.p21_schema.specs.Graph.{rows_of}
 use Rattle.p21_schema.proofs.GraphLemmas.{rows_push}
 use Rattle.p21_schema.proofs.owners.add_list.Goals as goal

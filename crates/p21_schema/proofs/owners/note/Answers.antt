@@ -1,4 +1,4 @@
-use Rattle.std.proofs.Common.{◌<◌, refl, sym, subst, length, ◌≡◌}
+use Rattle.std.proofs.Common.{refl}
 use Rattle.std.proofs.lemmas.Result.{on_ok_weaker}
 use Rattle.p21_schema.proofs.OwnerLemmas.{added, added_there, listed_more, listed_there}
 use Rattle.p21_schema.proofs.owners.note.Goals as goal

@@ -1,6 +1,5 @@
-use Rattle.std.proofs.Common.{◌≡◌, ℕ, ◌<◌, List, [], length, get_or, sym, subst, ap, ◌∙◌}
+use Rattle.std.proofs.Common.{ℕ, ◌<◌, sym, subst}
 use Rattle.std.proofs.lemmas.Result.{IfOk-weaker}
-use Rattle.p21_express.specs.WellFormed.{IsIn}
 use Rattle.p21_schema.specs.Graph.{plain_graph}
 use Rattle.p21_schema.specs.Reach.{IsReach, IsEachAlone}
 use Rattle.p21_schema.proofs.WithinLemmas.{no_edge, no_edge_cycle, each_alone}

@@ -1,9 +1,9 @@
-use Rattle.std.proofs.Common.{◌≡◌, ◌<◌, ℕ, List, map, length, sym, subst, ◌∙◌}
+use Rattle.std.proofs.Common.{◌<◌, ℕ, map, sym, subst, ◌∙◌}
 use Rattle.std.proofs.lemmas.Result.{IfOk-weaker}
 use Rattle.p21_express.specs.Schema.{Schema, Entity}
-use Rattle.p21_express.specs.WellFormed.{IsIn, IsWellFormed}
+use Rattle.p21_express.specs.WellFormed.{IsWellFormed}
 use Rattle.p21_schema.specs.Ancestry.{AreSupertypesNamed, IsDescentTable}
-use Rattle.p21_schema.specs.Graph.{plain_graph, rows_of, AreEdgesBelow}
+use Rattle.p21_schema.specs.Graph.{plain_graph, AreEdgesBelow}
 use Rattle.p21_schema.specs.SelectTable.{AreSelectRows}
 use Rattle.p21_schema.specs.declared.reach.Reach.{Reach}
 use Rattle.p21_schema.proofs.AncestryLemmas.{edges_below, no_cycle}

@@ -1,6 +1,5 @@
-use Rattle.std.proofs.Common.{◌≡◌, ◌<◌, ℕ, length, sym, subst}
+use Rattle.std.proofs.Common.{ℕ, sym, subst}
 use Rattle.std.proofs.lemmas.Result.{IfOk-weaker}
-use Rattle.p21_express.specs.WellFormed.{IsIn}
 use Rattle.p21_schema.specs.Graph.{plain_graph, AreEdgesBelow}
 use Rattle.p21_schema.specs.Reach.{IsEachAlone}
 use Rattle.p21_schema.specs.SelectTable.{AreSelectRows}

@@ -15,6 +15,6 @@ loop-vertex-preserved c =
     let less : v < length g.items = rw (← g.ok.0, ← (row_count g)) (c.requires v (at_place c.args.order.now c.loop-vertex.vertex-index 0 c.loop-vertex-test.true)) in
     let is : c.deref.result.now ≡ get_or (plain_graph g) v [] = c.deref.ensures.value ∙ sym (row_is g v c.index.result.now less c.index.ensures) in
     λ k i. ⊎_elim
-        (λ (l : IsIn c.loop-vertex.met.items k). c.loop-vertex.invariant k l)
-        (λ (r : IsIn c.deref.result.now k). (v, subst (λ (u : List ℕ). IsIn u k) is r))
-        (in_either c.loop-vertex.met.items c.deref.result.now k (rw c.in_ok-extend_from_slice.ensures.items at i))
+    (λ (l : IsIn c.loop-vertex.met.items k). c.loop-vertex.invariant k l)
+    (λ (r : IsIn c.deref.result.now k). (v, subst (λ (u : List ℕ). IsIn u k) is r))
+    (in_either c.loop-vertex.met.items c.deref.result.now k (rw c.in_ok-extend_from_slice.ensures.items at i))

@@ -1,4 +1,4 @@
-use Rattle.std.proofs.Common.{◌≡◌, ◌∙◌}
+use Rattle.std.proofs.Common.{◌∙◌}
 use Rattle.p21_schema.proofs.selects.select_rows.Goals as goal
 
 pub returns : goal.returns

@@ -1,6 +1,6 @@
 use Rattle.std.proofs.Common.{◌+◌, ap, ◌∙◌}
 use Rattle.std.proofs.lemmas.List.{length_push}
-use Rattle.p21_express.proofs.LinkLemmas.{links_push, no_links}
+use Rattle.p21_express.proofs.LinkLemmas.{links_push}
 use Rattle.p21_express.proofs.checks.links.no_ways.Goals as goal
 
 pub loop-vertex-preserved : goal.loop-vertex-preserved

@@ -1,11 +1,11 @@
-use Rattle.std.proofs.Common.{◌≡◌, ◌<◌, ◌≤◌, ℕ, List, [], map, length, get_or, sym, ap, subst, arith, ◌∙◌}
+use Rattle.std.proofs.Common.{◌≡◌, ℕ, List, length, get_or, sym, ap, subst, arith, ◌∙◌}
 use Rattle.std.proofs.lemmas.List.{length-map, get_or-map}
 use Rattle.p21_express.specs.Plain.{plain_entity}
-use Rattle.p21_express.specs.Schema.{Schema, Entity}
+use Rattle.p21_express.specs.Schema.{Entity}
 use Rattle.p21_express.specs.WellFormed.{IsIn, new_explicit}
-use Rattle.p21_schema.specs.Owners.{IsListed, AreOwners}
+use Rattle.p21_schema.specs.Owners.{AreOwners}
 use Rattle.p21_schema.specs.Place.{no_entity}
-use Rattle.p21_schema.proofs.OwnerLemmas.{owners_none, owners_more}
+use Rattle.p21_schema.proofs.OwnerLemmas.{owners_more}
 use Rattle.p21_schema.proofs.owners.Owners.new.Goals as goal
 
 pub note_entity-requires : goal.note_entity-requires
