@@ -141,7 +141,7 @@ impl<P: Copy, O: Drop, W: Work<P, Out = O>, C: Cuts<Piece = P>, A: Gathers<O>> D
         Ok(true)
     }
 
-    /// The first lane that has less than two batches to read, and room for the batch: so no more workers are kept awake than there
+    /// The first lane that has less than two lists to read, and room for the batch: so no more workers are kept awake than there
     /// is work for.
     fn free_lane(&mut self) -> Option<u32>
         ensures goes { Goes C.cuts A.holds self.old self.new }
@@ -164,7 +164,7 @@ impl<P: Copy, O: Drop, W: Work<P, Out = O>, C: Cuts<Piece = P>, A: Gathers<O>> D
         !self.batch.is_empty() && self.batch.len() as u64 <= room
     }
 
-    /// Whether a lane has less than two batches to read. Its results are looked at only where that hangs on them, since the worker is
+    /// Whether a lane has less than two lists to read. Its results are looked at only where that hangs on them, since the worker is
     /// writing there.
     fn has_little(&mut self, lane: u32) -> bool
         requires { lane < self.old.desk.lanes }
@@ -176,7 +176,7 @@ impl<P: Copy, O: Drop, W: Work<P, Out = O>, C: Cuts<Piece = P>, A: Gathers<O>> D
         waiting < enough || waiting - self.ready(lane).min(waiting) < enough
     }
 
-    /// How many results of a lane are there, at most: each place of its ring may hold as many as are sent together.
+    /// How many results may stand in the ring of a lane: as many in each of its places as are sent together.
     fn ready(&mut self, lane: u32) -> u64
         requires { lane < self.old.desk.lanes }
         ensures goes { Goes C.cuts A.holds self.old self.new }

@@ -1,5 +1,5 @@
 //! The results of a worker on their way to the dealer.
-ghost use Rattle.std.specs.Prelude.{◌≡◌, false};
+ghost use Rattle.std.specs.Prelude.{◌≡◌, ◌≤◌, false, vec_len};
 ghost use Rattle.p21_lanes.specs.LaneIn.{was_ended};
 
 use crate::returned::Returned;
@@ -20,6 +20,7 @@ pub(crate) struct Outbox<O> {
     together: usize,
     alloc: Global,
     ghost is_open: { was_ended lane ≡ false },
+    ghost few: { vec_len unsent ≤ together },
 }
 
 impl<O: Drop> Outbox<O> {
@@ -45,6 +46,7 @@ impl<O: Drop> Outbox<O> {
     pub(crate) fn put<R: Wait>(&mut self, rt: &R, answer: Returned<O>) -> bool
         ensures lane { SameIn self.old.lane self.new.lane }
         ensures results { results_of self.new ≡ results_of self.old ++ answer ∷ [] }
+        ensures told { result ≡ false → accepted self.new.lane ≡ accepted self.old.lane }
     {
         match self.keep(answer) {
             Ok(()) if self.unsent.len() < self.together => false,
@@ -57,13 +59,14 @@ impl<O: Drop> Outbox<O> {
         }
     }
 
-    /// Keeps a result to be sent together with others, or hands it back: where each is sent alone, or where memory is refused.
+    /// Keeps a result to be sent together with others, or hands it back: where each is sent alone, where there are as many already, or
+    /// where memory is refused.
     fn keep(&mut self, answer: Returned<O>) -> Result<(), Returned<O>>
         ensures lane { self.new.lane ≡ self.old.lane }
         ensures kept { OnOk result (self.new.unsent.items ≡ self.old.unsent.items ++ answer ∷ []) }
         ensures refused { IfErr result (λ back. (back ≡ answer) × (self.new.unsent.items ≡ self.old.unsent.items)) }
     {
-        if self.together < 2 {
+        if self.together < 2 || self.unsent.len() >= self.together {
             return Err(answer);
         }
         if self.unsent.is_empty() && self.unsent.reserve(self.together).is_err() {
@@ -79,6 +82,7 @@ impl<O: Drop> Outbox<O> {
     pub(crate) fn send_all<R: Wait>(&mut self, rt: &R) -> bool
         ensures lane { SameIn self.old.lane self.new.lane }
         ensures results { results_of self.new ≡ results_of self.old }
+        ensures told { result ≡ false → accepted self.new.lane ≡ accepted self.old.lane }
         ensures sent { self.new.unsent.items ≡ [] }
     {
         if self.unsent.is_empty() {

@@ -34,7 +34,7 @@ module _ {T : Type 0} where
   messages_in (Together v ∷ ps) = messages v.items false ++ messages_in ps
   messages_in (Last ∷ ps) = End ∷ messages_in ps
 
-  -- the messages without the last of them, as many as there are such items
+  -- the messages but for as many at the back as these items are
   abbrev pub without_last : List (Message T) → List T → List (Message T)
   without_last ms xs = take (length ms - length xs) ms
 

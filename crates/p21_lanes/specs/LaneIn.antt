@@ -21,7 +21,7 @@ module _ {T : Type 0} where
   abbrev pub message_count : LaneIn T → ℕ
   message_count i = length (sent i)
 
-  -- how many messages the lane has room for at a time
+  -- how many places the lane has
   abbrev pub lane_capacity : LaneIn T → ℕ
   lane_capacity i = producer_capacity i.producer
 

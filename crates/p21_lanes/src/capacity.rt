@@ -1,10 +1,10 @@
-//! How many messages a lane has room for.
+//! How many places a lane has.
 ghost use Rattle.std.specs.Prelude.{◌≡◌, ◌<◌, ◌≤◌};
 ghost use Rattle.std.specs.Option.{SomeIff};
 
 use std::marker::Model;
 
-/// The number of messages that a lane has room for, 1 to 4096.
+/// The number of places of a lane, 1 to 4096. Each holds an item, items that were offered together, or the end.
 #[derive(Debug, Clone, Copy, PartialEq, Eq)]
 pub struct Capacity {
     count: u32,
@@ -26,7 +26,7 @@ impl Capacity {
     /// The greatest capacity.
     pub const MAX: u32 = 4096;
 
-    /// The capacity of `n` messages, or `None` where `n` is 0 or above `MAX`.
+    /// The capacity of `n` places, or `None` where `n` is 0 or above `MAX`.
     pub fn new(n: u32) -> Option<Capacity>
         ensures { SomeIff result ((0 < n) × (n ≤ 4096)) n }
     {
@@ -37,7 +37,7 @@ impl Capacity {
         }
     }
 
-    /// How many messages it is.
+    /// How many places it is.
     pub fn get(self) -> u32
         ensures value { result ≡ self }
         ensures in_range { (0 < result) × (result ≤ 4096) }

@@ -62,7 +62,7 @@ impl<T: Drop> LaneIn<T> {
     }
 
     /// Sends an item, or hands it back: where the lane was ended, where this end sees no free place, or where 2^64 - 1
-    /// items were accepted. A refused offer changes nothing. The first messages of a lane, as many as its capacity,
+    /// items were accepted. A refused offer changes nothing. The first offers to a lane, as many as its capacity,
     /// always find their places.
     #[tactic(auto, using(crate::proofs::ParcelLemmas::one_more_place))]
     pub fn offer(&mut self, item: T) -> Result<(), T>
@@ -98,7 +98,7 @@ impl<T: Drop> LaneIn<T> {
 
     /// Sends all items of a list in order, which take one place together, or hands the list back: where the lane was ended, where this
     /// end sees no free place, or where more than 2^64 - 1 items would have been accepted. A refused offer changes nothing. A list
-    /// without items sends nothing.
+    /// without items sends nothing, and finds its place in any lane that was not ended.
     #[tactic(auto, using(crate::proofs::ParcelLemmas::one_more_place))]
     pub fn offer_all(&mut self, items: Vec<T>) -> Result<(), Vec<T>>
         ensures lane { SameIn self.old self.new }
@@ -108,6 +108,7 @@ impl<T: Drop> LaneIn<T> {
         ensures accepted { OnOk result (accepted self.new ≡ accepted self.old ++ items.items) }
         ensures open { OnOk result ((was_ended self.old ≡ false) × (was_ended self.new ≡ false)) }
         ensures history { EndIsLast (sent self.new) }
+        ensures empty { items.items ≡ [] → was_ended self.old ≡ false → IsOk result }
 
         ensures refused { IfErr result (λ back. (back ≡ items) × (sent self.new ≡ sent self.old)) }
         ensures only { OnErr result

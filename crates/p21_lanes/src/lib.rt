@@ -27,7 +27,7 @@ use rtrb::RingBuffer;
 pub use settling::{Pair, settle};
 use std::alloc::{AllocError, Global};
 
-/// A lane with room for `capacity` messages, empty and open. Its two ends may go to two threads.
+/// A lane of `capacity` places, empty and open. Its two ends may go to two threads.
 ///
 /// All the memory that the lane needs is taken here: an error means that this was refused.
 pub fn lane<T: Drop>(
