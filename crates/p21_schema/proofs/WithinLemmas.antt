@@ -4,10 +4,9 @@ use Rattle.std.proofs.lemmas.Bool.{cases_eq, cases_lt}
 use Rattle.std.proofs.lemmas.List.{get_or-set_same, get_or-set_other, get_or_past}
 use Rattle.p21_express.specs.WellFormed.{IsIn, AreDistinct, Leads, one, more, HasNoCycle}
 use Rattle.p21_schema.specs.declared.ranges.Range.{Range}
-use Rattle.p21_schema.specs.declared.reach.Reach.{Reach}
 use Rattle.p21_schema.specs.Graph.{HasEdge, AreEdgesBelow}
 use Rattle.p21_schema.specs.Ranges.{Covers, SomeCovers}
-use Rattle.p21_schema.specs.Reach.{IsTurned, IsWithin, itself, through, ArePlaces, IsPlaceRow, IsReach, IsEachAlone}
+use Rattle.p21_schema.specs.Reach.{IsTurned, IsWithin, itself, through, ArePlaces, IsPlaceRow}
 use Rattle.p21_schema.proofs.Members.{in_left, in_right, in_either, front_more, front_in, last_in, same_place, place_of}
 
 -- ---- a table in which one row is written
@@ -127,15 +126,17 @@ pub no_edge_cycle : (graph : List (List ℕ)) → ((v : ℕ) → get_or graph v 
 no_edge_cycle graph empty a (one e) = no_edge graph empty a a e
 no_edge_cycle graph empty a (more {b = w} e l) = no_edge graph empty a w e
 
-pub each_alone : (graph : List (List ℕ)) (count : ℕ) (reach : Reach) → length graph ≡ count → ((v : ℕ) → get_or graph v [] ≡ []) → IsReach graph reach → IsEachAlone count reach
-each_alone graph count reach long empty r = record {
-  places = r.places ∙ long;
-  count = r.count ∙ long;
-  alone = λ a b la lb.
-      let w = r.within a b (subst (λ u. a < u) (sym long) la) (subst (λ u. b < u) (sym long) lb) in
-      (λ c. itself_alone (w.0 c), λ e. w.1 (itself (sym e)));
-}
-  where
-    itself_alone : {a b : ℕ} → IsWithin graph a b → b ≡ a
-    itself_alone (itself e) = sym e
-    itself_alone {a} (through {b = w} e i) = absurd (no_edge graph empty a w e)
+-- the place of a vertex of an order, and where it stands there
+pub place_in : (order places : List ℕ) (v : ℕ) → ArePlaces order places → IsIn order v → (k : ℕ) × ((k < length order) × ((get_or places v 0 ≡ k) × (get_or order k 0 ≡ v)))
+place_in order places v are i =
+    let p = place_of order v i in
+    let is : get_or order p.0 0 ≡ v = p.1.1 0 in
+    (p.0, (p.1.0, (subst (λ u. get_or places u 0 ≡ p.0) is (are p.0 p.1.0), is)))
+
+-- vertices with one place are one
+pub one_place : (order places : List ℕ) (a b : ℕ) → ArePlaces order places → IsIn order a → IsIn order b → get_or places a 0 ≡ get_or places b 0 → a ≡ b
+one_place order places a b are ia ib e =
+    let p = place_in order places a are ia in
+    let q = place_in order places b are ib in
+    let same : p.0 ≡ q.0 = sym p.1.1.0 ∙ e ∙ q.1.1.0 in
+    sym p.1.1.1 ∙ ap (λ u. get_or order u 0) same ∙ q.1.1.1

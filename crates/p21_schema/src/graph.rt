@@ -79,29 +79,30 @@ fn step(
     Ok(())
 }
 
-/// Places a vertex, and before it what it reaches.
+/// Places a vertex, and before it what it reaches, by a way that is empty then.
 fn place(
-    alloc: Global,
     graph: &Graph,
     start: usize,
     placed: &mut [bool],
     looked: &mut [usize],
+    way: &mut Vec<usize>,
     order: &mut Vec<usize>,
 ) -> Result<(), AllocError>
     requires edges { AreEdgesBelow (plain_graph graph.now) (length (plain_graph graph.now)) }
     requires cycles { HasNoCycle (HasEdge (plain_graph graph.now)) }
     requires start { start < length (plain_graph graph.now) }
+    requires way { way.old.items ≡ [] }
     requires walk { IsWalk (plain_graph graph.now) placed.old looked.old [] order.old.items }
+    ensures way { OnOk result (way.new.items ≡ []) }
     ensures walk { OnOk result (IsWalk (plain_graph graph.now) placed.new looked.new [] order.new.items) }
     ensures placed { OnOk result (IsMarked placed.new start) }
     ensures grows { OnOk result ((v : ℕ) → IsMarked placed.old v → IsMarked placed.new v) }
 {
-    let mut way = Vec::new(alloc);
     if !placed[start] {
         way.push(start)?;
     }
     while !way.is_empty() {
-        step(graph, placed, looked, &mut way, order)?;
+        step(graph, placed, looked, way, order)?;
     }
     Ok(())
 }
@@ -121,9 +122,17 @@ pub(crate) fn order_from(
 {
     let mut placed = unmarked(alloc, graph.len())?;
     let mut looked = zeros(alloc, graph.len())?;
+    let mut way = Vec::new(alloc);
     let mut order = Vec::with_capacity(alloc, graph.len())?;
     for start in starts {
-        place(alloc, graph, *start, &mut placed, &mut looked, &mut order)?;
+        place(
+            graph,
+            *start,
+            &mut placed,
+            &mut looked,
+            &mut way,
+            &mut order,
+        )?;
     }
     Ok(order)
 }

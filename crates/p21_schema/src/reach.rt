@@ -1,12 +1,13 @@
 //! What each vertex of a graph reaches, by ranges of places in an order in which what a vertex reaches mostly stands together.
 
-ghost use Rattle.std.specs.Prelude.{◌≡◌, ◌<◌, ◌++◌, ◌∷◌, ◌↔◌, ◌⊎◌, ℕ, List, [], length, get_or, set, IfOk, OnOk, IsTrue};
+ghost use Rattle.std.specs.Prelude.{◌≡◌, ◌<◌, ◌-◌, ◌^◌, ◌++◌, ◌∷◌, ◌↔◌, ◌⊎◌, ℕ, List, [], length, get_or, set, IfOk, OnOk, IsTrue};
 ghost use Rattle.p21_express.specs.WellFormed.{IsIn, AreDistinct};
 ghost use Rattle.p21_schema.specs.Graph.{plain_graph, rows_of, HasEdge, AreEdgesBelow, IsOrder};
+ghost use Rattle.p21_schema.specs.Ranges.{Covers};
 ghost use Rattle.p21_schema.specs.Reach.{IsTurned, ArePlaces, IsPlaceRow, IsReach, IsWithin, IsEachAlone, IsReachTable};
 
 use crate::graph::{Graph, order_beginning, zeros};
-use crate::ranges::{Range, both, covers, row};
+use crate::ranges::{Range, alone, both, covers, row};
 use std::alloc::{AllocError, Global};
 
 /// What each vertex of a graph reaches, itself among it.
@@ -121,6 +122,19 @@ pub(crate) fn reached(
     Ok(table)
 }
 
+/// Rows of which each holds one of these places alone.
+fn alone_at(alloc: Global, places: &[usize]) -> Result<Vec<Vec<Range>>, AllocError>
+    requires { (v : ℕ) → v < length places.now → get_or places.now v 0 < 2 ^ 64 - 1 }
+    ensures count { IfOk result (λ rows. length (rows_of rows) ≡ length places.now) }
+    ensures rows { IfOk result (λ rows. (v k : ℕ) → v < length places.now → Covers (get_or (rows_of rows) v []) k ↔ (k ≡ get_or places.now v 0)) }
+{
+    let mut rows = Vec::with_capacity(alloc, places.len())?;
+    for place in places {
+        rows.push(alone(alloc, *place)?)?;
+    }
+    Ok(rows)
+}
+
 /// What so many vertices without edges reach: each itself alone. These have the first places, in their order.
 pub(crate) fn each_alone(alloc: Global, count: usize, first: &[usize]) -> Result<Reach, AllocError>
     requires { (v : ℕ) → IsIn first.now v → v < count }
@@ -128,7 +142,9 @@ pub(crate) fn each_alone(alloc: Global, count: usize, first: &[usize]) -> Result
 {
     let graph = without_edges(alloc, count)?;
     let order = order_beginning(alloc, &graph, first)?;
-    Reach::new(alloc, &graph, &order)
+    let places = places(alloc, &order, count)?;
+    let rows = alone_at(alloc, &places)?;
+    Ok(Reach { places, rows })
 }
 
 impl Reach {
