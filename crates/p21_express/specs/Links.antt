@@ -7,6 +7,6 @@ use Rattle.p21_express.specs.Search.{Reaches}
 abbrev pub IsLink : List (List ℕ) → ℕ → Link → Type 0
 IsLink g v l = Reaches g v l.above × Reaches g v l.far
 
--- a list of links, one from each vertex
+-- each of the links is one from the vertex of its number
 abbrev pub AreLinks : List (List ℕ) → List Link → Type 0
 AreLinks g links = (v : ℕ) (l : Link) → slice_get links v ≡ Some l → IsLink g v l

@@ -16,7 +16,7 @@ pub IsPosition-prop : (is : List RawInstance) (name : ℕ) (place : Option ℕ) 
 IsPosition-prop is name None = hlevel props
 IsPosition-prop is name (Some k) = hlevel props
 
--- the table has the place of each instance by its name, and no other
+-- the table has for each name the place of an instance of that name, and none where no instance has it
 abbrev pub HasPlacesOf : NameTable → List RawInstance → Type 0
 HasPlacesOf table instances = (name : ℕ) → IsPosition instances name (place_of table name)
 

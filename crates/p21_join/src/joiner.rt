@@ -51,7 +51,8 @@ impl<'a> Joiner<'a> {
     }
 
     /// Joins an instance behind the others. It is handed back as `Duplicate` exactly where one of them has its name, and
-    /// as `Memory` where there was no memory left; then nothing is changed.
+    /// as `Memory` where there was no memory left, or where 2^32 - 1 are joined, more than a file within the bound holds; then nothing is
+    /// changed.
     #[inline(always)]
     pub fn add(&mut self, instance: RawInstance<'a>) -> Result<(), JoinError<'a>>
         ensures { Joins (joined self.old) instance.entry result (joined self.new) }

@@ -1,4 +1,4 @@
--- Which entities newly declare an explicit attribute of a name, by lists.
+-- Lists of entities by names, in which all stand that newly declare an explicit attribute of a name.
 use Rattle.std.specs.Prelude.{◌≡◌, ◌<◌, ◌⊎◌, ℕ, List, [], length, get_or}
 use Rattle.p21_express.specs.Schema.{Schema}
 use Rattle.p21_express.specs.WellFormed.{IsIn, AreDistinct, new_explicit}
@@ -28,7 +28,7 @@ pub record IsNoted (old new : Owners) (entity : ℕ) : Type 0 where
   pub keeps : (n : List ℕ) (e : ℕ) → IsListed old n e → IsListed new n e
   pub only : (e : ℕ) → IsHeld new e → IsHeld old e ⊎ (e ≡ entity)
 
--- each of the first so many entities stands in the lists of the names that it newly declares, and no other stands in any
+-- each of the first so many entities stands at least in the lists of the names that it newly declares, and no other entity in any
 pub record AreOwners (s : Schema) (size : ℕ) (o : Owners) : Type 0 where
   pub lists : AreInLists o
   pub all : (e : ℕ) (n : List ℕ) → e < size → IsIn (new_explicit (get_or s.entities e no_entity).attributes) n → IsListed o n e

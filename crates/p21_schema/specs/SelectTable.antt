@@ -22,7 +22,8 @@ pub record AreSelectRows (items inner : List (List ℕ)) (reach : Reach) (table 
   pub places : table.places.items ≡ reach.places.items
   pub rows : IsReachTable items inner (rows_of reach.rows) (rows_of table.rows)
 
--- a row for each type, which holds the places of those of some named ones that it reaches and that are as wanted, and no other place
+-- A row for each type, which holds the places of those of some named ones that it reaches and that are as wanted. Where it holds any
+-- place, there is such a one.
 pub record IsSelectTable (s : Schema) (Wanted : List ℕ → Type 0) (size : ℕ) (named : ℕ → List ℕ) (table : SelectRows) : Type 0 where
   pub count : length (rows_of table.rows) ≡ length s.types
   pub places : length table.places.items ≡ size
