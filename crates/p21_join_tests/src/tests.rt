@@ -149,7 +149,14 @@ fn keeps_the_names_of_what_was_joined(rt: HostRuntime) -> Result<(), Fail> {
         assert_eq!(rt; add(&mut joiner, instance), Answer::Joined);
     }
     let mut names = InstanceNames::of(joiner);
-    let rows = [(7, false), (8, true), (3, false), (8, false), (1 << 40, true), (1 << 40, false)];
+    let rows = [
+        (7, false),
+        (8, true),
+        (3, false),
+        (8, false),
+        (1 << 40, true),
+        (1 << 40, false),
+    ];
     for (name, is_new) in rows {
         assert_eq!(rt; names.add(name)?, is_new, "of {name}");
     }
