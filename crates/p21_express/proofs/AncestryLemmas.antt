@@ -7,7 +7,7 @@ use Rattle.p21_express.specs.Owners.{IsOnly}
 use Rattle.p21_express.specs.Positions.{IsPosition, AreSupertypes}
 use Rattle.p21_express.specs.Schema.{Schema, Entity}
 use Rattle.p21_express.specs.Search.{Reaches}
-use Rattle.p21_express.specs.WellFormed.{IsIn, Leads, HasNoCycle, HasNoUnknown, AreDistinct, declared_names, IsSupertype, IsAncestor, IsOrigin, Redeclaration}
+use Rattle.p21_express.specs.WellFormed.{Leads, HasNoCycle, HasNoUnknown, AreDistinct, declared_names, IsSupertype, IsAncestor, IsOrigin, Redeclaration}
 use Rattle.p21_express.proofs.IndexLemmas.{is_in_at, at_is_in}
 use Rattle.p21_express.proofs.AgainLemmas.{same_entity}
 use Rattle.p21_express.proofs.PositionLemmas.{carried}

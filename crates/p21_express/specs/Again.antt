@@ -1,5 +1,5 @@
 -- What entities declare again, by the positions of the entities.
-use Rattle.std.specs.Prelude.{◌≡◌, ℕ, Bool, List, true, Some, MatchOption, slice_get}
+use Rattle.std.specs.Prelude.{◌≡◌, ℕ, Bool, List, Some, MatchOption, slice_get}
 use Rattle.std.specs.Borrow.{Bor}
 use Rattle.std.specs.BTreeMap.{BTreeMap, get}
 use Rattle.std.specs.List.{AllZip}

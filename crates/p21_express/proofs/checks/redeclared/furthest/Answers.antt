@@ -1,4 +1,3 @@
-use Rattle.std.proofs.Common.{◌<◌}
 use Rattle.p21_express.specs.Graph.{lists}
 use Rattle.p21_express.specs.Plain.{plain_schema}
 use Rattle.p21_express.proofs.GraphLemmas.{lists_length}

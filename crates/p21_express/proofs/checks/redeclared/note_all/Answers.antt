@@ -1,4 +1,4 @@
-use Rattle.std.proofs.Common.{◌<◌, length, sym, subst}
+use Rattle.std.proofs.Common.{◌<◌, sym, subst}
 use Rattle.p21_express.specs.Graph.{lists}
 use Rattle.p21_express.specs.Plain.{plain_schema}
 use Rattle.p21_express.proofs.GraphLemmas.{lists_length}

@@ -1,6 +1,4 @@
-use Rattle.std.proofs.Common.{ℕ, MatchOption}
 use Rattle.p21_express.specs.Graph.{lists}
-use Rattle.p21_express.specs.Owners.{IsOnly}
 use Rattle.p21_express.specs.Plain.{plain_schema}
 use Rattle.p21_express.specs.Search.{Reaches}
 use Rattle.p21_express.specs.WellFormed.{IsIn}

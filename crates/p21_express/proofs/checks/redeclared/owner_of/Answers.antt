@@ -1,8 +1,5 @@
-use Rattle.std.proofs.Common.{ℕ}
 use Rattle.p21_express.specs.Graph.{lists}
-use Rattle.p21_express.specs.Owners.{IsOnly}
 use Rattle.p21_express.specs.Plain.{plain_schema}
-use Rattle.p21_express.specs.Search.{Reaches}
 use Rattle.p21_express.proofs.SearchLemmas.{none_given}
 use Rattle.p21_express.proofs.OwnerLemmas.{only_up, only_down}
 use Rattle.p21_express.proofs.checks.redeclared.owner_of.Goals as goal

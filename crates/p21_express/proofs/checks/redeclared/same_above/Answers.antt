@@ -1,5 +1,5 @@
-use Rattle.std.proofs.Common.{◌≡◌, ◌<◌, None, length, slice_get, sym, ◌∙◌}
-use Rattle.p21_express.specs.Graph.{lists, neighbors}
+use Rattle.std.proofs.Common.{◌<◌, length, sym, ◌∙◌}
+use Rattle.p21_express.specs.Graph.{lists}
 use Rattle.p21_express.specs.Plain.{plain_schema}
 use Rattle.p21_express.proofs.GraphLemmas.{lists_length}
 use Rattle.p21_express.proofs.OwnerLemmas.{one_above, no_second}
