@@ -1,12 +1,13 @@
 -- What an entity may declare again, by positions and by names.
-use Rattle.std.proofs.Common.{◌≡◌, ℕ, List, Option, Some, None, slice_get, MatchOption, refl, sym, ap, ◌∙◌, inl, inr, ◌⊎◌, ⊎_elim, subst}
-use Rattle.p21_express.specs.Again.{IsNewAt, IsGood, IsAgainAt}
+use Rattle.std.proofs.Common.{◌≡◌, ℕ, List, Option, Some, None, slice_get, true, refl, sym, ap, ◌∙◌, inl, inr, ◌⊎◌, ⊎_elim, subst}
+use Rattle.p21_express.specs.Again.{IsNewAt, IsDerivedAt, IsAgainAt}
 use Rattle.p21_express.specs.Graph.{HasEdge}
 use Rattle.p21_express.specs.Index.{IsEntityAt}
+use Rattle.p21_express.specs.Owners.{IsOnly}
 use Rattle.p21_express.specs.Positions.{IsPosition, AreSupertypes}
 use Rattle.p21_express.specs.Schema.{Schema, Entity}
 use Rattle.p21_express.specs.Search.{Reaches}
-use Rattle.p21_express.specs.WellFormed.{IsIn, Leads, HasNoCycle, HasNoUnknown, AreDistinct, declared_names, IsSupertype, IsAncestor, IsOrigin, Redeclaration}
+use Rattle.p21_express.specs.WellFormed.{Leads, HasNoCycle, HasNoUnknown, AreDistinct, declared_names, IsSupertype, IsAncestor, IsOrigin, Redeclaration}
 use Rattle.p21_express.proofs.IndexLemmas.{is_in_at, at_is_in}
 use Rattle.p21_express.proofs.AgainLemmas.{same_entity}
 use Rattle.p21_express.proofs.PositionLemmas.{carried}
@@ -50,47 +51,52 @@ module _ (s : Schema) (d : AreDistinct (declared_names s)) (unknown : HasNoUnkno
       pub no_ancestor : ¬ (Reaches g position of) → (i : ℕ) → ¬ (IsAgainAt s e r i)
       no_ancestor none i h = none (inr (leads_of h.again.ancestor))
 
-      module _ (among : List ℕ) (only_reached : (w : ℕ) → IsIn among w → Reaches g of w) (all_reached : (w : ℕ) → Reaches g of w → IsIn among w) where
-        origin_at : (n : List ℕ) → IsOrigin s r.of r.name n → (j : ℕ) × IsEntityAt s j n × IsIn among j × IsNewAt s r.name j
-        origin_at n o =
-            let p = at_is_in s.entities o.1.entity o.1.declared in
-            let to : IsEntityAt s p.0 n = record { entity = o.1.entity; there = p.1; name_is = o.1.name_is } in
-            (p.0, to, all_reached p.0 (name_reaches of p.0 r.of n at.0 to o.0), record { entity = o.1.entity; there = p.1; newly = o.1.newly })
+      origin_at : (n : List ℕ) → IsOrigin s r.of r.name n → (j : ℕ) × IsEntityAt s j n × Reaches g of j × IsNewAt s r.name j
+      origin_at n o =
+          let p = at_is_in s.entities o.1.entity o.1.declared in
+          let to : IsEntityAt s p.0 n = record { entity = o.1.entity; there = p.1; name_is = o.1.name_is } in
+          (p.0, to, name_reaches of p.0 r.of n at.0 to o.0, record { entity = o.1.entity; there = p.1; newly = o.1.newly })
 
-        at_origin : (j : ℕ) (n : List ℕ) → IsEntityAt s j n → IsIn among j → IsNewAt s r.name j → IsOrigin s r.of r.name n
-        at_origin j n to i new =
-            let same : to.entity ≡ new.entity = same_entity s j to.entity new.entity to.there new.there in
-            (reaches_name of j r.of n at.0 to (only_reached j i), record { entity = new.entity; declared = is_in_at s.entities j new.entity new.there; name_is = ap (λ (x : Entity). x.name) (sym same) ∙ to.name_is; newly = new.newly })
+      at_origin : (j : ℕ) (n : List ℕ) → IsEntityAt s j n → Reaches g of j → IsNewAt s r.name j → IsOrigin s r.of r.name n
+      at_origin j n to i new =
+          let same : to.entity ≡ new.entity = same_entity s j to.entity new.entity to.there new.there in
+          (reaches_name of j r.of n at.0 to i, record { entity = new.entity; declared = is_in_at s.entities j new.entity new.there; name_is = ap (λ (x : Entity). x.name) (sym same) ∙ to.name_is; newly = new.newly })
 
-        pub good_again : (i : ℕ) → (of ≡ position → ⊥) → Reaches g position of → IsGood s r among i → IsAgainAt s e r i
-        good_again i other reach good =
-            let n : List ℕ = good.newly.entity.name in
-            let to : IsEntityAt s i good.newly.entity.name = record { entity = good.newly.entity; there = good.newly.there; name_is = refl } in
-            let l : Leads (HasEdge g) position of = ⊎_elim (λ (k : position ≡ of). absurd (other (sym k))) (λ (k : Leads (HasEdge g) position of). k) reach in
-            let x = to_ancestor position of e here l in
-            record {
-              name = good.newly.entity.name;
-              at = to;
-              again = record {
-                ancestor = subst (λ (k : List ℕ). IsAncestor s e k) (one_entity_name s of x.0 r.of x.1 at.0) x.2;
-                origin = at_origin i good.newly.entity.name to good.among good.newly;
-                only = λ m o. let y = origin_at m o in one_entity_name s i m good.newly.entity.name (subst (λ (p : ℕ). IsEntityAt s p m) (good.only y.0 y.2 y.3) y.1) to;
-                allowed = λ t k. good.allowed t (let p = at_is_in s.entities k.entity k.declared in let same : p.0 ≡ i = one_entity_place s d good.newly.entity.name p.0 i (record { entity = k.entity; there = p.1; name_is = k.name_is }) to in record { entity = k.entity; there = subst (λ (q : ℕ). slice_get s.entities q ≡ Some k.entity) same p.1; newly = k.newly });
-              };
-            }
+      -- the only one that newly declares the name, where it may be declared again, is declared again
+      pub only_again : (i : ℕ) → (of ≡ position → ⊥) → Reaches g position of → IsOnly s (Reaches g of) r.name i → (r.explicit ≡ true → ¬ (IsDerivedAt s r.name i)) → IsAgainAt s e r i
+      only_again i other reach good allowed =
+          let n : List ℕ = good.newly.entity.name in
+          let to : IsEntityAt s i good.newly.entity.name = record { entity = good.newly.entity; there = good.newly.there; name_is = refl } in
+          let l : Leads (HasEdge g) position of = ⊎_elim (λ (k : position ≡ of). absurd (other (sym k))) (λ (k : Leads (HasEdge g) position of). k) reach in
+          let x = to_ancestor position of e here l in
+          record {
+            name = good.newly.entity.name;
+            at = to;
+            again = record {
+              ancestor = subst (λ (k : List ℕ). IsAncestor s e k) (one_entity_name s of x.0 r.of x.1 at.0) x.2;
+              origin = at_origin i good.newly.entity.name to good.among good.newly;
+              only = λ m o. let y = origin_at m o in one_entity_name s i m good.newly.entity.name (subst (λ (p : ℕ). IsEntityAt s p m) (good.only y.0 y.2 y.3) y.1) to;
+              allowed = λ t k. allowed t (let p = at_is_in s.entities k.entity k.declared in let same : p.0 ≡ i = one_entity_place s d good.newly.entity.name p.0 i (record { entity = k.entity; there = p.1; name_is = k.name_is }) to in record { entity = k.entity; there = subst (λ (q : ℕ). slice_get s.entities q ≡ Some k.entity) same p.1; newly = k.newly });
+            };
+          }
 
-        pub again_good : (i : ℕ) → IsAgainAt s e r i → IsGood s r among i
-        again_good i h =
-            let y = origin_at h.name h.again.origin in
-            let same : y.0 ≡ i = one_entity_place s d h.name y.0 i y.1 h.at in
-            let new : IsNewAt s r.name i = subst (λ (p : ℕ). IsNewAt s r.name p) same y.3 in
-            record {
-              among = subst (λ (p : ℕ). IsIn among p) same y.2;
-              newly = new;
-              only = λ j k l. let to : IsEntityAt s j l.entity.name = record { entity = l.entity; there = l.there; name_is = refl } in let m : l.entity.name ≡ h.name = h.again.only l.entity.name (at_origin j l.entity.name to k l) in one_entity_place s d h.name j i (subst (λ (n : List ℕ). IsEntityAt s j n) m to) h.at;
-              allowed = λ t k. h.again.allowed t (let same_one : k.entity ≡ h.at.entity = same_entity s i k.entity h.at.entity k.there h.at.there in record { entity = k.entity; declared = is_in_at s.entities i k.entity k.there; name_is = ap (λ (x : Entity). x.name) same_one ∙ h.at.name_is; newly = k.newly });
-            }
+      pub again_only : (i : ℕ) → IsAgainAt s e r i → IsOnly s (Reaches g of) r.name i
+      again_only i h =
+          let y = origin_at h.name h.again.origin in
+          let same : y.0 ≡ i = one_entity_place s d h.name y.0 i y.1 h.at in
+          let new : IsNewAt s r.name i = subst (λ (p : ℕ). IsNewAt s r.name p) same y.3 in
+          record {
+            among = subst (λ (p : ℕ). Reaches g of p) same y.2;
+            newly = new;
+            only = λ j k l. let to : IsEntityAt s j l.entity.name = record { entity = l.entity; there = l.there; name_is = refl } in let m : l.entity.name ≡ h.name = h.again.only l.entity.name (at_origin j l.entity.name to k l) in one_entity_place s d h.name j i (subst (λ (n : List ℕ). IsEntityAt s j n) m to) h.at;
+          }
 
-        pub good_same : (o : Option ℕ) → (of ≡ position → ⊥) → Reaches g position of → MatchOption o ((i : ℕ) → ¬ (IsGood s r among i)) (λ i. IsGood s r among i) → MatchOption o ((i : ℕ) → ¬ (IsAgainAt s e r i)) (λ i. IsAgainAt s e r i)
-        good_same None other reach h = λ i k. h i (again_good i k)
-        good_same (Some i) other reach h = good_again i other reach h
+      again_allowed : (i : ℕ) → IsAgainAt s e r i → r.explicit ≡ true → ¬ (IsDerivedAt s r.name i)
+      again_allowed i h t k = h.again.allowed t (let same_one : k.entity ≡ h.at.entity = same_entity s i k.entity h.at.entity k.there h.at.there in record { entity = k.entity; declared = is_in_at s.entities i k.entity k.there; name_is = ap (λ (x : Entity). x.name) same_one ∙ h.at.name_is; newly = k.newly })
+
+      -- where it may not, none is
+      pub not_allowed : (i : ℕ) → IsOnly s (Reaches g of) r.name i → ¬ (r.explicit ≡ true → ¬ (IsDerivedAt s r.name i)) → (j : ℕ) → ¬ (IsAgainAt s e r j)
+      not_allowed i good refused j h =
+          let o = again_only j h in
+          let same : j ≡ i = good.only j o.among o.newly in
+          refused (λ t k. again_allowed j h t (subst (λ (p : ℕ). IsDerivedAt s r.name p) (sym same) k))

@@ -19,6 +19,7 @@ pub mod BasedOnLemmas
 pub mod Examples
 pub mod GraphLemmas
 pub mod LinkLemmas
+pub mod OwnerLemmas
 pub mod SearchLemmas
 pub mod ChecksLemmas
 pub mod IndexLemmas

@@ -21,14 +21,14 @@ first_edge g v a less e = record { is_vertex = less; listed = get_in (neighbors 
 some_same : {X : Type 0} (x y : X) → Some x ≡ Some y → x ≡ y
 some_same x y e = cc
 
-set_cases : {X : Type 0} (xs : List X) (i j : ℕ) (x y : X) → slice_get (set xs i x) j ≡ Some y → (slice_get xs j ≡ Some y) ⊎ ((j ≡ i) × (x ≡ y))
+pub set_cases : {X : Type 0} (xs : List X) (i j : ℕ) (x y : X) → slice_get (set xs i x) j ≡ Some y → (slice_get xs j ≡ Some y) ⊎ ((j ≡ i) × (x ≡ y))
 set_cases [] i j x y h = inl h
 set_cases (z ∷ zs) zero zero x y h = inr (refl, some_same x y h)
 set_cases (z ∷ zs) zero (suc j) x y h = inl h
 set_cases (z ∷ zs) (suc i) zero x y h = inl h
 set_cases (z ∷ zs) (suc i) (suc j) x y h = ⊎_elim (λ (l : slice_get zs j ≡ Some y). inl l) (λ (r : (j ≡ i) × (x ≡ y)). inr (ap suc r.0, r.1)) (set_cases zs i j x y h)
 
-push_cases : {X : Type 0} (xs : List X) (j : ℕ) (x y : X) → slice_get (xs ++ x ∷ []) j ≡ Some y → (slice_get xs j ≡ Some y) ⊎ ((j ≡ length xs) × (x ≡ y))
+pub push_cases : {X : Type 0} (xs : List X) (j : ℕ) (x y : X) → slice_get (xs ++ x ∷ []) j ≡ Some y → (slice_get xs j ≡ Some y) ⊎ ((j ≡ length xs) × (x ≡ y))
 push_cases [] zero x y h = inr (refl, some_same x y h)
 push_cases [] (suc j) x y h = inl h
 push_cases (z ∷ zs) zero x y h = inl h

@@ -1,5 +1,5 @@
 -- What entities declare again, by the positions of the entities.
-use Rattle.std.specs.Prelude.{◌≡◌, ℕ, Bool, List, true, Some, MatchOption, slice_get}
+use Rattle.std.specs.Prelude.{◌≡◌, ℕ, Bool, List, Some, MatchOption, slice_get}
 use Rattle.std.specs.Borrow.{Bor}
 use Rattle.std.specs.BTreeMap.{BTreeMap, get}
 use Rattle.std.specs.List.{AllZip}
@@ -35,13 +35,6 @@ pub record IsDerivedAt (s : Schema) (n : List ℕ) (i : ℕ) : Type 0 where
   pub entity : Entity
   pub there : slice_get s.entities i ≡ Some entity
   pub newly : IsIn (new_derived entity.derived) n
-
--- i is the only one of these positions at which the attribute is newly declared, and there it may be declared again
-pub record IsGood (s : Schema) (r : Redeclaration) (positions : List ℕ) (i : ℕ) : Type 0 where
-  pub among : IsIn positions i
-  pub newly : IsNewAt s r.name i
-  pub only : (j : ℕ) → IsIn positions j → IsNewAt s r.name j → j ≡ i
-  pub allowed : r.explicit ≡ true → ¬ (IsDerivedAt s r.name i)
 
 -- an entity declares an attribute again that the entity at this position newly declares
 pub record IsAgainAt (s : Schema) (entity : List ℕ) (r : Redeclaration) (i : ℕ) : Type 0 where

@@ -21,3 +21,4 @@ pub mod Checks
 pub mod Index
 pub mod Positions
 pub mod Again
+pub mod Owners

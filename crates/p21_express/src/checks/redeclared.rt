@@ -1,23 +1,25 @@
 //! Attributes that are declared again.
 
-ghost use Rattle.std.specs.Prelude.{◌≡◌, ◌<◌, ◌↔◌, ℕ, List, [], ◌∷◌, ◌++◌, Some, slice_get, length, IfOk, OnOk, MatchOption, MatchResult, true, map, option_map};
+ghost use Rattle.std.specs.Prelude.{◌≡◌, ◌<◌, ◌↔◌, ℕ, List, [], ◌∷◌, ◌++◌, Some, slice_get, length, IfOk, OnOk, IfSome, MatchOption, MatchResult, true, map, option_map};
 ghost use Rattle.std.specs.Option.{option_to_list};
 ghost use Rattle.std.specs.Bool.{MatchBool};
 ghost use Rattle.std.specs.List.{AllByRecursion, AllZip};
-ghost use Rattle.p21_express.specs.Again.{plain_again, plain_origin, HasNewNames, HasOrigins, IsNewAt, IsDerivedAt, IsGood, IsAgainAt, IsKnown};
+ghost use Rattle.p21_express.specs.Again.{plain_again, plain_origin, HasNewNames, HasOrigins, IsNewAt, IsDerivedAt, IsAgainAt, IsKnown};
 ghost use Rattle.p21_express.specs.Checks.{HasNames};
 ghost use Rattle.p21_express.specs.Graph.{lists};
 ghost use Rattle.p21_express.specs.Index.{IsExactIndex, IsEntityAt};
 ghost use Rattle.p21_express.specs.Misfit.{OnUnfit, Only};
+ghost use Rattle.p21_express.specs.Owners.{IsOnly, IsSame, AreNameOwners, AreOwners};
 ghost use Rattle.p21_express.specs.Plain.{plain_schema, plain_entity};
 ghost use Rattle.p21_express.specs.Positions.{AreSupertypes};
+ghost use Rattle.p21_express.specs.Schema.{Schema};
 ghost use Rattle.p21_express.specs.Search.{IsBlank, state_of, Reaches};
 ghost use Rattle.p21_express.specs.WellFormed.{IsIn, HasNoUnknown, HasNoCycles, IsRedeclaring, DeclaresAgain, with_again, redeclarations};
 ghost use Rattle.p21_express.specs.WellFormed.{Origin as SomeOrigin};
 ghost use Rattle.p21_express.specs.declared.misfit.Misfit.TheVariants.{BadRedeclaration};
 
 use super::cycles::{add, entity_at, supertypes};
-use super::graph::{Graph, Search};
+use super::graph::{Graph, Search, next};
 use super::links::{Link, is_met, links};
 use super::names::Index;
 use super::repeated::{attributes, derived_attributes};
@@ -179,18 +181,15 @@ fn is_allowed(known: &Known, position: usize, again: Again) -> bool
     true
 }
 
-/// The only one of some entities that newly declares the attribute, where it may be declared again.
-fn origin_among(known: &Known, among: &[usize], again: Again) -> Option<usize>
+/// The only one of some entities that newly declares a name.
+fn only_among(known: &Known, among: &[usize], name: &[u8]) -> Option<usize>
     requires { IsKnown known.now }
-    ensures { MatchOption result ((i : ℕ) → ¬ (IsGood (plain_schema known.now.declarations.now) (plain_again again.entry) among.now i)) (λ i. IsGood (plain_schema known.now.declarations.now) (plain_again again.entry) among.now i) }
+    ensures { MatchOption result ((i : ℕ) → ¬ (IsOnly (plain_schema known.now.declarations.now) (IsIn among.now) name.now i)) (λ i. IsOnly (plain_schema known.now.declarations.now) (IsIn among.now) name.now i) }
 {
-    let Some(position) = first_new(known, among, again.name) else {
+    let Some(position) = first_new(known, among, name) else {
         return None;
     };
-    if !is_only(known, among, again.name, position) {
-        return None;
-    }
-    if !is_allowed(known, position, again) {
+    if !is_only(known, among, name, position) {
         return None;
     }
     Some(position)
@@ -217,20 +216,212 @@ fn is_over(
     Ok(lineage.contains(&of))
 }
 
-/// The position of the entity that newly declares what another declares again, which is at this position, where that is allowed.
-fn origin_of(
+/// For names of an entity: the only one of it and its ancestors that newly declares the name, as far as that is known.
+type NameOwners<'d> = BTreeMap<&'d [u8], usize>;
+
+/// The same for each entity.
+type Owners<'d> = Vec<NameOwners<'d>>;
+
+/// Nothing is known of so many entities.
+fn no_owners<'d>(alloc: Global, count: usize) -> Result<Owners<'d>, AllocError>
+    ensures { IfOk result (λ owners. (s : Schema) (g : List (List ℕ)) → length g ≡ count → AreOwners s g owners.items) }
+{
+    let mut owners = Vec::with_capacity(alloc, count)?;
+    for _ in 0..count {
+        owners.push(BTreeMap::new(alloc))?;
+    }
+    Ok(owners)
+}
+
+/// What is known of a name of one entity.
+fn owner_in(owners: &NameOwners, name: &[u8]) -> Option<usize>
+    ensures { (s : Schema) (g : List (List ℕ)) (v : ℕ) → AreNameOwners s g v owners.now → IfSome result (λ i. IsOnly s (Reaches g v) name.now i) }
+{
+    owners.get(name).copied()
+}
+
+/// What is known of the entity at a position.
+fn owners_at<'k, 'd>(owners: &'k Owners<'d>, position: usize) -> Option<&'k NameOwners<'d>>
+    ensures { option_map (λ o. o.now) result ≡ slice_get owners.now.items position }
+{
+    owners.get(position)
+}
+
+/// What is known of an entity and a name.
+fn owner_known(owners: &Owners, position: usize, name: &[u8]) -> Option<usize>
+    ensures { (s : Schema) (g : List (List ℕ)) → AreOwners s g owners.now.items → IfSome result (λ i. IsOnly s (Reaches g position) name.now i) }
+{
+    match owners_at(owners, position) {
+        Some(known) => owner_in(known, name),
+        None => None,
+    }
+}
+
+/// The one supertype of an entity that does not newly declare a name itself: what both have under that name is the same.
+fn same_above(known: &Known, position: usize, name: &[u8]) -> Option<usize>
+    requires { IsKnown known.now }
+    ensures { IfSome result (λ above. IsSame (plain_schema known.now.declarations.now) (lists known.now.supertypes.items) name.now position above) }
+{
+    if is_new_at(known, position, name) {
+        return None;
+    }
+    let Some(above) = next(&known.supertypes, position, 0) else {
+        return None;
+    };
+    if next(&known.supertypes, position, 1).is_some() {
+        return None;
+    }
+    if above >= known.supertypes.len() {
+        return None;
+    }
+    Some(above)
+}
+
+/// The entity furthest above another of which what both have under a name is known to be the same, or the first of which it is known.
+fn furthest(known: &Known, owners: &Owners, of: usize, name: &[u8]) -> usize
+    requires known { IsKnown known.now }
+    requires of { of < length known.now.supertypes.items }
+    ensures { IsSame (plain_schema known.now.declarations.now) (lists known.now.supertypes.items) name.now of result }
+{
+    let mut position = of;
+    for _ in 0..known.supertypes.len() {
+        if owner_known(owners, position, name).is_some() {
+            return position;
+        }
+        let Some(above) = same_above(known, position, name) else {
+            return position;
+        };
+        position = above;
+    }
+    position
+}
+
+/// Keeps what is known of an entity and a name, where that is due.
+fn note<'d>(
+    owners: &mut Owners<'d>,
+    position: usize,
+    name: &'d [u8],
+    owner: usize,
+    is_due: bool,
+) -> Result<(), AllocError>
+    requires { position < length owners.old.items }
+    ensures { (s : Schema) (g : List (List ℕ)) → AreOwners s g owners.old.items → IsOnly s (Reaches g position) name.now owner → OnOk result (AreOwners s g owners.new.items) }
+{
+    if !is_due {
+        return Ok(());
+    }
+    owners[position].insert(name, owner)?;
+    Ok(())
+}
+
+/// The step at which something is kept next, behind this one: after 1, 2, 4, 8 steps and so on.
+fn next_due(step: usize, due: usize) -> usize {
+    if step == due {
+        due.saturating_mul(2).max(1)
+    } else {
+        due
+    }
+}
+
+/// Keeps what is known of a name, for an entity and some of those above it up to another, which stand ever further apart. So few are
+/// kept, and of the others none is far below one that is.
+fn note_all<'d>(
+    known: &Known<'d>,
+    owners: &mut Owners<'d>,
+    of: usize,
+    to: usize,
+    name: &'d [u8],
+    owner: usize,
+) -> Result<(), AllocError>
+    requires known { IsKnown known.now }
+    requires owners { AreOwners (plain_schema known.now.declarations.now) (lists known.now.supertypes.items) owners.old.items }
+    requires of { of < length known.now.supertypes.items }
+    requires owner { IsOnly (plain_schema known.now.declarations.now) (Reaches (lists known.now.supertypes.items) of) name.now owner }
+    ensures { OnOk result (AreOwners (plain_schema known.now.declarations.now) (lists known.now.supertypes.items) owners.new.items) }
+{
+    let mut position = of;
+    let mut due = 0;
+    for step in 0..known.supertypes.len() {
+        note(owners, position, name, owner, step == due)?;
+        due = next_due(step, due);
+        if position == to {
+            return Ok(());
+        }
+        let Some(above) = same_above(known, position, name) else {
+            return Ok(());
+        };
+        position = above;
+    }
+    Ok(())
+}
+
+/// The only one of an entity and its ancestors that newly declares a name: what is known, or by a walk through them.
+fn owner_at(
     alloc: Global,
     known: &Known,
-    index: &Index,
+    owners: &Owners,
     search: &mut Search,
     position: usize,
-    again: Again,
+    name: &[u8],
 ) -> Result<Option<usize>, AllocError>
-    requires index { IsExactIndex (plain_schema known.now.declarations.now) index.now }
     requires known { IsKnown known.now }
+    requires owners { AreOwners (plain_schema known.now.declarations.now) (lists known.now.supertypes.items) owners.now.items }
     requires blank { IsBlank (lists known.now.supertypes.items) (state_of search.old) }
     requires position { position < length known.now.supertypes.items }
     ensures blank { OnOk result (IsBlank (lists known.now.supertypes.items) (state_of search.new)) }
+    ensures owner { let s = plain_schema known.now.declarations.now in let g = lists known.now.supertypes.items in IfOk result (λ o. MatchOption o ((i : ℕ) → ¬ (IsOnly s (Reaches g position) name.now i)) (λ i. IsOnly s (Reaches g position) name.now i)) }
+{
+    if let Some(owner) = owner_known(owners, position, name) {
+        return Ok(Some(owner));
+    }
+    let among = search.reached(alloc, &known.supertypes, position)?;
+    Ok(only_among(known, &among, name))
+}
+
+/// The only one of an entity and its ancestors that newly declares a name. As long as there is one supertype, and the entity does not
+/// newly declare the name itself, the supertype is asked in its place, and what it answers is kept: so a chain is not gone up again
+/// for each entity of it.
+fn owner_of<'d>(
+    alloc: Global,
+    known: &Known<'d>,
+    owners: &mut Owners<'d>,
+    search: &mut Search,
+    of: usize,
+    name: &'d [u8],
+) -> Result<Option<usize>, AllocError>
+    requires known { IsKnown known.now }
+    requires owners { AreOwners (plain_schema known.now.declarations.now) (lists known.now.supertypes.items) owners.old.items }
+    requires blank { IsBlank (lists known.now.supertypes.items) (state_of search.old) }
+    requires of { of < length known.now.supertypes.items }
+    ensures blank { OnOk result (IsBlank (lists known.now.supertypes.items) (state_of search.new)) }
+    ensures owners { OnOk result (AreOwners (plain_schema known.now.declarations.now) (lists known.now.supertypes.items) owners.new.items) }
+    ensures owner { let s = plain_schema known.now.declarations.now in let g = lists known.now.supertypes.items in IfOk result (λ o. MatchOption o ((i : ℕ) → ¬ (IsOnly s (Reaches g of) name.now i)) (λ i. IsOnly s (Reaches g of) name.now i)) }
+{
+    let furthest = furthest(known, owners, of, name);
+    let Some(owner) = owner_at(alloc, known, owners, search, furthest, name)? else {
+        return Ok(None);
+    };
+    note_all(known, owners, of, furthest, name, owner)?;
+    Ok(Some(owner))
+}
+
+/// The position of the entity that newly declares what another declares again, which is at this position, where that is allowed.
+fn origin_of<'d>(
+    alloc: Global,
+    known: &Known<'d>,
+    index: &Index,
+    owners: &mut Owners<'d>,
+    search: &mut Search,
+    position: usize,
+    again: Again<'d>,
+) -> Result<Option<usize>, AllocError>
+    requires index { IsExactIndex (plain_schema known.now.declarations.now) index.now }
+    requires known { IsKnown known.now }
+    requires owners { AreOwners (plain_schema known.now.declarations.now) (lists known.now.supertypes.items) owners.old.items }
+    requires blank { IsBlank (lists known.now.supertypes.items) (state_of search.old) }
+    requires position { position < length known.now.supertypes.items }
+    ensures blank { OnOk result (IsBlank (lists known.now.supertypes.items) (state_of search.new)) }
+    ensures owners { OnOk result (AreOwners (plain_schema known.now.declarations.now) (lists known.now.supertypes.items) owners.new.items) }
     ensures origin { let s = plain_schema known.now.declarations.now in (e : List ℕ) → IsEntityAt s position e → IfOk result (λ o. MatchOption o ((i : ℕ) → ¬ (IsAgainAt s e (plain_again again.entry) i)) (λ i. IsAgainAt s e (plain_again again.entry) i)) }
 {
     let Some(of) = entity_at(index, again.of) else {
@@ -243,8 +434,13 @@ fn origin_of(
     if !is_ancestor {
         return Ok(None);
     }
-    let among = search.reached(alloc, &known.supertypes, of)?;
-    Ok(origin_among(known, &among, again))
+    let Some(owner) = owner_of(alloc, known, owners, search, of, again.name)? else {
+        return Ok(None);
+    };
+    if !is_allowed(known, owner, again) {
+        return Ok(None);
+    }
+    Ok(Some(owner))
 }
 
 /// What an attribute declares again, if it does.
@@ -302,20 +498,23 @@ fn meet<'d>(origins: &mut Origins<'d>, origin: Origin<'d>) -> Result<bool, Alloc
 }
 
 /// Refuses where an entity may not declare again what it does.
-fn entity(
+fn entity<'d>(
     alloc: Global,
-    known: &Known,
+    known: &Known<'d>,
     index: &Index,
+    owners: &mut Owners<'d>,
     search: &mut Search,
     position: usize,
-    decl: &EntityDecl,
+    decl: &'d EntityDecl,
     places: &EntityPlaces,
 ) -> Result<(), Unfit>
     requires index { IsExactIndex (plain_schema known.now.declarations.now) index.now }
     requires known { IsKnown known.now }
+    requires owners { AreOwners (plain_schema known.now.declarations.now) (lists known.now.supertypes.items) owners.old.items }
     requires blank { IsBlank (lists known.now.supertypes.items) (state_of search.old) }
     requires decl { slice_get (plain_schema known.now.declarations.now).entities position ≡ Some (plain_entity decl.now) }
     ensures blank { OnOk result (IsBlank (lists known.now.supertypes.items) (state_of search.new)) }
+    ensures owners { OnOk result (AreOwners (plain_schema known.now.declarations.now) (lists known.now.supertypes.items) owners.new.items) }
     ensures redeclared { let s = plain_schema known.now.declarations.now in MatchResult result (λ _. IsRedeclaring s (plain_entity decl.now)) (λ e. OnUnfit e (Only BadRedeclaration (¬ (IsRedeclaring s (plain_entity decl.now))))) }
 {
     let all = all_again(alloc, decl, places)?;
@@ -325,7 +524,7 @@ fn entity(
     let mut origins = BTreeMap::new(alloc);
     for again in &all {
         let refusal = Unfit::Found(Misfit::BadRedeclaration, again.place);
-        let Some(place) = origin_of(alloc, known, index, search, position, *again)? else {
+        let Some(place) = origin_of(alloc, known, index, owners, search, position, *again)? else {
             return Err(refusal);
         };
         let origin = Origin {
@@ -356,10 +555,20 @@ pub(super) fn check(alloc: Global, checked: Checked, index: &Index) -> Result<()
         links,
         names: all_new_names(alloc, checked)?,
     };
+    let mut owners = no_owners(alloc, known.supertypes.len())?;
     let mut search = Search::new(alloc, known.supertypes.len())?;
     for (position, decl) in checked.declarations.entities.iter().enumerate() {
         let places = checked.entity_places(position);
-        entity(alloc, &known, index, &mut search, position, decl, places)?;
+        entity(
+            alloc,
+            &known,
+            index,
+            &mut owners,
+            &mut search,
+            position,
+            decl,
+            places,
+        )?;
     }
     Ok(())
 }

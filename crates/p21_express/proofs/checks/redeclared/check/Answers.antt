@@ -23,10 +23,10 @@ pub entity-requires-clause-decl : goal.entity-requires-clause-decl
 entity-requires-clause-decl c = entity_there_at c.args.checked.declarations.now.entities.items c.loop-position.position c.decl-item.result (rw c.deref-decl-items.ensures.value at c.loop-position-test.true) (rw c.deref-decl-items.ensures.value at c.decl-item.is)
 
 pub loop-position-init : goal.loop-position-init
-loop-position-init c = (c.in_ok-search.ensures (lists c.in_ok-supertypes.supertypes.items) (lists_length c.in_ok-supertypes.supertypes.items ∙ sym c.in_ok-supertypes.supertypes.ok.0 ∙ sym c.len.ensures), tt)
+loop-position-init c = ((c.in_ok-search.ensures (lists c.in_ok-supertypes.supertypes.items) (lists_length c.in_ok-supertypes.supertypes.items ∙ sym c.in_ok-supertypes.supertypes.ok.0 ∙ sym c.len-2.ensures), c.in_ok-owners.ensures (plain_schema c.args.checked.declarations.now) (lists c.in_ok-supertypes.supertypes.items) (lists_length c.in_ok-supertypes.supertypes.items ∙ sym c.in_ok-supertypes.supertypes.ok.0 ∙ sym c.len.ensures)), tt)
 
 pub loop-position-preserved : goal.loop-position-preserved
-loop-position-preserved c = (c.in_ok-entity.ensures.blank, all_step (IsRedeclaring (plain_schema c.args.checked.declarations.now)) c.args.checked.declarations.now.entities.items c.loop-position.position c.decl-item.result (rw c.deref-decl-items.ensures.value at c.loop-position-test.true) (rw c.deref-decl-items.ensures.value at c.decl-item.is) c.loop-position.invariant.1 c.in_ok-entity.ensures.redeclared)
+loop-position-preserved c = ((c.in_ok-entity.ensures.blank, c.in_ok-entity.ensures.owners), all_step (IsRedeclaring (plain_schema c.args.checked.declarations.now)) c.args.checked.declarations.now.entities.items c.loop-position.position c.decl-item.result (rw c.deref-decl-items.ensures.value at c.loop-position-test.true) (rw c.deref-decl-items.ensures.value at c.decl-item.is) c.loop-position.invariant.1 c.in_ok-entity.ensures.redeclared)
 
 pub returns-in_err-entity : goal.returns-in_err-entity
 returns-in_err-entity c =

@@ -21,7 +21,7 @@ pub origin_of-requires-clause-position : goal.origin_of-requires-clause-position
 origin_of-requires-clause-position c = vertex_within (plain_schema c.args.known.now.declarations.now) c.args.known.now.supertypes.items c.args.position (plain_entity c.args.decl.now) c.requires.known.supertypes c.requires.decl
 
 pub loop-again-init : goal.loop-again-init
-loop-again-init c = (c.requires.blank, ([], origins_start (plain_schema c.args.known.now.declarations.now) c.args.decl.now.name.items, origins_none c.new-origins.result c.new-origins.ensures.empty))
+loop-again-init c = ((c.requires.blank, c.requires.owners), ([], origins_start (plain_schema c.args.known.now.declarations.now) c.args.decl.now.name.items, origins_none c.new-origins.result c.new-origins.ensures.empty))
 
 pub returns-in_default-clause-redeclared : goal.returns-in_default-clause-redeclared
 returns-in_default-clause-redeclared c = (refl, not_again (plain_schema c.args.known.now.declarations.now) (plain_entity c.args.decl.now) (map plain_again (take c.loop-again.again-index c.deref-again-items.result.now)) _ (map plain_again (drop (c.loop-again.again-index + 1) c.deref-again-items.result.now)) (let e0 : map plain_again c.deref-again-items.result.now ≡ redeclarations (plain_entity c.args.decl.now) = rw c.deref-again-items.ensures.value c.in_ok-all.ensures in sym e0 ∙ split_at plain_again c.deref-again-items.result.now c.loop-again.again-index _ c.loop-again-test.true (any_default c.deref-again-items.result.now c.loop-again.again-index _ _ c.loop-again-test.true)) (none_given c.in_ok-place.field-0 _ _ c.in_default.not-Some (c.in_ok-place.ensures.origin c.args.decl.now.name.items (record { entity = plain_entity c.args.decl.now; there = c.requires.decl; name_is = refl }))))
@@ -36,7 +36,7 @@ pub loop-again-preserved : goal.loop-again-preserved
 loop-again-preserved c =
     let found = rw c.in-Some.is at (c.in_ok-place.ensures.origin c.args.decl.now.name.items (record { entity = plain_entity c.args.decl.now; there = c.requires.decl; name_is = refl })) in
     let fresh = rw c.if-is_again.false at (c.in_ok-is_again.ensures c.loop-again.invariant.1.0 c.loop-again.invariant.1.2) in
-    (c.in_ok-place.ensures.blank, (_, origins_step (plain_schema c.args.known.now.declarations.now) c.args.decl.now.name.items c.deref-again-items.result.now c.loop-again.again-index _ c.loop-again.invariant.1.0 _ found.name c.loop-again-test.true (any_default c.deref-again-items.result.now c.loop-again.again-index _ _ c.loop-again-test.true) c.loop-again.invariant.1.1 (c.name_at.ensures found.name found.at) refl found.again fresh.0, fresh.1))
+    ((c.in_ok-place.ensures.blank, c.in_ok-place.ensures.owners), (_, origins_step (plain_schema c.args.known.now.declarations.now) c.args.decl.now.name.items c.deref-again-items.result.now c.loop-again.again-index _ c.loop-again.invariant.1.0 _ found.name c.loop-again-test.true (any_default c.deref-again-items.result.now c.loop-again.again-index _ _ c.loop-again-test.true) c.loop-again.invariant.1.1 (c.name_at.ensures found.name found.at) refl found.again fresh.0, fresh.1))
 
 pub returns-clause-redeclared : goal.returns-clause-redeclared
 returns-clause-redeclared c = redeclares (plain_schema c.args.known.now.declarations.now) (plain_entity c.args.decl.now) (map plain_again c.deref-again-items.result.now) c.loop-again.invariant.1.0 (rw c.deref-again-items.ensures.value c.in_ok-all.ensures) (rw (take_all c.loop-again.again-index c.deref-again-items.result.now c.loop-again-test.false) at c.loop-again.invariant.1.1)
