@@ -1,6 +1,6 @@
 //! The whole reading of a file against a schema, from its bytes in memory to the answer.
 
-use p21_crew::OpenGate;
+use crate::watch::Watch;
 use p21_desk::LaneCount;
 use p21_express::read_declarations;
 use p21_lanes::Capacity;
@@ -10,7 +10,7 @@ use std::alloc::Global;
 use std::io::{self, ErrorKind};
 use std::sync::Wait;
 use std::thread::Threads;
-use std::time::{Clock, Duration, Instant};
+use std::time::{Clock, Duration};
 
 /// Who reads the file.
 #[derive(Clone, Copy)]
@@ -43,34 +43,50 @@ pub fn schema_of(alloc: Global, text: &[u8]) -> io::Result<Schema> {
     Ok(Schema::build(alloc, declarations, Rules::default())?)
 }
 
-/// How long the answer to a file took, and how many instances it has: none where the file has a fault.
+/// What a reading of a file took.
+#[derive(Clone, Copy)]
+pub struct Times {
+    /// From the file's bytes in memory to the answer.
+    pub answer: Duration,
+    /// The part of it behind the last piece, where lanes read: the tail is read, and the references are followed.
+    pub references: Option<Duration>,
+    /// How many instances the file has: none where it has a fault.
+    pub instances: usize,
+}
+
+/// What the reading of a file takes.
 pub fn time<R: Clock + Threads + Wait + Sync>(
     rt: &R,
     alloc: Global,
     readers: Readers,
     schema: &Schema,
     file: &[u8],
-) -> io::Result<(Duration, usize)> {
-    let start = Instant::now(rt)?;
-    let reading = read(rt, alloc, readers, schema, file);
-    let taken = start.elapsed(rt)?;
+) -> io::Result<Times> {
+    let watch = Watch::start(rt)?;
+    let reading = read(rt, alloc, readers, schema, &watch, file);
+    let answer = watch.taken()?;
     match reading {
-        Ok(reading) => Ok((taken, instances(&reading))),
+        Ok(reading) => Ok(Times {
+            answer,
+            references: watch.behind_pieces(answer),
+            instances: instances(&reading),
+        }),
         Err(ReadError::Memory) => Err(io::Error::from(ErrorKind::OutOfMemory)),
     }
 }
 
-fn read<'a, R: Threads + Wait + Sync>(
+fn read<'a, R: Clock + Threads + Wait + Sync>(
     rt: &R,
     alloc: Global,
     readers: Readers,
     schema: &Schema,
+    watch: &Watch<'_, R>,
     file: &'a [u8],
 ) -> Result<Reading<'a>, ReadError> {
     match readers {
         Readers::Serial => read_serial(alloc, schema, file),
         Readers::Lanes(lanes, capacity) => {
-            read_lanes(rt, alloc, schema, &OpenGate, file, lanes, capacity)
+            read_lanes(rt, alloc, schema, watch, file, lanes, capacity)
         }
     }
 }

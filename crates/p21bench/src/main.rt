@@ -1,12 +1,13 @@
 //! `p21bench STAGE < FILE`: runs one stage of the reader over a file, so that it can be timed, and prints what it counted.
 //! `p21bench serial SCHEMA < FILE` and `p21bench lanes SCHEMA N < FILE`: the whole reading, and how many microseconds it took from
-//! the file's bytes in memory to the answer.
+//! the file's bytes in memory to the answer; of lanes, how many of them were behind the last piece, where the references are followed.
 #![tactic(auto)]
 
 mod answers;
 mod stages;
+mod watch;
 
-use answers::{Readers, schema_of, time};
+use answers::{Readers, Times, schema_of, time};
 use stages::Stage;
 use std::io::{self, Read, Write};
 use std::process::ExitCode;
@@ -34,9 +35,21 @@ fn main(rt: HostRuntime) -> io::Result<ExitCode> {
     let text = fs::read(&rt, schema.as_str())?;
     let schema = schema_of(rt.alloc(), text.as_slice())?;
     let _length = rt.stdin().read_to_end(&mut file)?;
-    let (taken, count) = time(&rt, rt.alloc(), readers, &schema, file.as_slice())?;
-    writeln!(rt.stdout(), "{count} instances {} us", taken.as_micros())?;
+    let times = time(&rt, rt.alloc(), readers, &schema, file.as_slice())?;
+    tell(&rt, &times)?;
     Ok(ExitCode::from(0))
+}
+
+fn tell(rt: &HostRuntime, times: &Times) -> io::Result<()> {
+    let (instances, answer) = (times.instances, times.answer.as_micros());
+    match times.references {
+        None => writeln!(rt.stdout(), "{instances} instances {answer} us"),
+        Some(references) => writeln!(
+            rt.stdout(),
+            "{instances} instances {answer} us, references {} us",
+            references.as_micros(),
+        ),
+    }
 }
 
 fn refuse(rt: &HostRuntime) -> io::Result<ExitCode> {
