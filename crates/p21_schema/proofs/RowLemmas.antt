@@ -1,5 +1,5 @@
 -- Rows of attributes.
-use Rattle.std.proofs.Common.{◌≡◌, ℕ, zero, suc, ◌+◌, ◌-◌, ◌<◌, ◌≤◌, Bool, true, false, not, cond, ◌||◌, List, [], ◌∷◌, ◌++◌, Option, Some, None, is_some, option_map, length, get_or, take, drop, replicate, map, refl, sym, ap, ◌∙◌, subst, inl, inr, ⊎_elim, arith, append_assoc, add-zero, ◌⊎◌}
+use Rattle.std.proofs.Common.{◌≡◌, ℕ, zero, suc, ◌+◌, ◌-◌, ◌<◌, ◌≤◌, Bool, true, false, not, cond, ◌||◌, List, [], ◌∷◌, ◌++◌, Option, Some, None, is_some, option_map, length, get_or, take, drop, replicate, map, refl, sym, ap, ◌∙◌, subst, inl, inr, ⊎_elim, arith, append_assoc, add-zero, rules, ◌⊎◌}
 use Rattle.std.specs.Prelude.{slice_get}
 use Rattle.std.specs.List.{list_any, filter, AllByRecursion}
 use Rattle.std.specs.Cmp.Lexicographic.{bytes_decides}
@@ -16,7 +16,10 @@ use Rattle.p21_schema.specs.declared.ids.EntityId.{EntityId}
 use Rattle.p21_schema.specs.Place.{no_entity, entity_at, entity_name, IsEntityOf}
 use Rattle.p21_schema.specs.Ancestry.{entity_id, AreNamed}
 use Rattle.p21_schema.specs.Row.{own_attributes, attributes_of, no_attribute, attribute_at, IsAttributeOf, same_origin, first_places, IsRow, AreRows, row, none, more}
-use Rattle.p21_schema.specs.RowTable.{same_id, kept, all_kept, ids_from, joined, first_of, IsOwn, IsOwnTable, IsRowAt, no_own}
+use Rattle.std.specs.BTreeSet.{BTreeSet, Updates}
+use Rattle.std.specs.Ordering.{nat_cmp}
+use Rattle.std.proofs.lemmas.List.Folds.{list_any-append}
+use Rattle.p21_schema.specs.RowTable.{same_id, AreIndicesOf, kept, all_kept, ids_from, joined, first_of, IsOwn, IsOwnTable, IsRowAt, no_own}
 use Rattle.p21_schema.specs.declared.rows.Own.{Own}
 use Rattle.p21_schema.proofs.AncestryLemmas.{all_names, name_at}
 use Rattle.p21_schema.proofs.Members.{in_either, from_map, distinct_left, same_place, place_of, at_place, holds_of, in_map, in_front, distinct_apart}
@@ -26,6 +29,10 @@ use Rattle.p21_schema.proofs.Members.{in_either, from_map, distinct_left, same_p
 pub all_kept_append : (r xs ys : List AttrId) → all_kept r (xs ++ ys) ≡ all_kept (all_kept r xs) ys
 all_kept_append r [] ys = refl
 all_kept_append r (x ∷ xs) ys = all_kept_append (kept r x) xs ys
+
+-- the indices of a row with one attribute more
+pub indices_more : (old new : BTreeSet ℕ) (r : List AttrId) (a : AttrId) → Updates nat_cmp old new a.index true → AreIndicesOf old r → AreIndicesOf new (r ++ a ∷ [])
+indices_more old new r a updates before = λ i. rw (list_any-append (λ b. same_id b (record { index = i })) r (a ∷ []), updates.0 i, before i) (search rules)
 
 pub kept_more : (r now new xs : List AttrId) (i : ℕ) (d : AttrId) → i < length xs → now ≡ all_kept r (take i xs) → new ≡ kept now (get_or xs i d) → new ≡ all_kept r (take (i + 1) xs)
 kept_more r now new xs i d less h e = e ∙ ap (λ (u : List AttrId). kept u (get_or xs i d)) h ∙ sym (all_kept_append r (take i xs) (get_or xs i d ∷ [])) ∙ ap (λ (u : List AttrId). all_kept r u) (sym (take_more xs i d less))

@@ -1,6 +1,8 @@
 -- Own attributes and rows by their places.
 use Rattle.std.specs.Prelude.{◌≡◌, ◌<◌, ◌≤◌, ◌+◌, ◌-◌, ℕ, zero, suc, Bool, nat_eq, cond, List, [], ◌∷◌, ◌++◌, map, length, get_or, slice_get, take}
 use Rattle.std.specs.List.{list_any}
+use Rattle.std.specs.BTreeSet.{BTreeSet, contains}
+use Rattle.std.specs.Ordering.{nat_cmp}
 use Rattle.p21_express.specs.Schema.{Schema}
 use Rattle.p21_express.specs.WellFormed.{IsIn}
 use Rattle.p21_schema.specs.declared.ids.AttrId.{AttrId}
@@ -34,6 +36,10 @@ kept row a = cond (list_any (λ b. same_id b a) row) row (row ++ a ∷ [])
 abbrev pub all_kept : List AttrId → List AttrId → List AttrId
 all_kept row [] = row
 all_kept row (a ∷ others) = all_kept (kept row a) others
+
+-- a set has the indices of the attributes of a row, and no others
+abbrev pub AreIndicesOf : BTreeSet ℕ → List AttrId → Type 0
+AreIndicesOf indices row = (i : ℕ) → contains nat_cmp indices i ≡ list_any (λ b. same_id b (record { index = i })) row
 
 -- so many ids from one on
 abbrev pub ids_from : ℕ → ℕ → List AttrId

@@ -7,7 +7,7 @@ ghost use Rattle.p21_express.specs.WellFormed.{IsIn, AreDistinct, IsWellFormed, 
 ghost use Rattle.p21_schema.specs.Graph.{rows_of, plain_graph, IsOrder};
 ghost use Rattle.p21_schema.specs.Ancestry.{AreSupertypesNamed};
 ghost use Rattle.p21_schema.specs.Row.{attributes_of};
-ghost use Rattle.p21_schema.specs.RowTable.{no_own, IsOwnTable, IsRowTable, kept, all_kept, ids_from, joined, first_of, row_in, Begins, IsSharedRow, AreSharedRows, IsSamePosition, IsNextRow};
+ghost use Rattle.p21_schema.specs.RowTable.{no_own, IsOwnTable, IsRowTable, kept, all_kept, ids_from, joined, first_of, row_in, AreIndicesOf, Begins, IsSharedRow, AreSharedRows, IsSamePosition, IsNextRow};
 ghost use Rattle.p21_schema.specs.declared.ids.AttrId.{AttrId};
 ghost use Rattle.p21_schema.specs.declared.rows.Row.{Row};
 
@@ -17,6 +17,7 @@ use crate::ids::AttrId;
 use crate::reach::places;
 use p21_express::{Declarations, EntityDecl};
 use std::alloc::{AllocError, Global};
+use std::collections::BTreeSet;
 
 /// The attributes that an entity newly declares, from one place up to another among those of all entities.
 #[derive(Clone, Copy, Debug)]
@@ -60,11 +61,28 @@ pub(crate) fn own_attributes(
     Ok((table, lists))
 }
 
-/// An attribute behind the others, where it does not stand among them.
-fn keep(row: &mut Vec<AttrId>, attribute: AttrId) -> Result<(), AllocError>
-    ensures { OnOk result (row.new.items ≡ kept row.old.items attribute) }
+/// The indices of the attributes of a row.
+fn indices_of(alloc: Global, row: &[AttrId]) -> Result<BTreeSet<usize>, AllocError>
+    ensures { IfOk result (λ indices. AreIndicesOf indices row.now) }
 {
-    if !row.contains(&attribute) {
+    let mut indices = BTreeSet::new(alloc);
+    for attribute in row {
+        indices.insert(attribute.index)?;
+    }
+    Ok(indices)
+}
+
+/// An attribute behind the others of a row, of which these are the indices, where it does not stand among them.
+fn keep(
+    row: &mut Vec<AttrId>,
+    indices: &mut BTreeSet<usize>,
+    attribute: AttrId,
+) -> Result<(), AllocError>
+    requires { AreIndicesOf indices.old row.old.items }
+    ensures row { OnOk result (row.new.items ≡ kept row.old.items attribute) }
+    ensures indices { OnOk result (AreIndicesOf indices.new row.new.items) }
+{
+    if indices.insert(attribute.index)? {
         row.push(attribute)?;
     }
     Ok(())
@@ -84,21 +102,33 @@ fn common(row: &[AttrId], attributes: &[AttrId]) -> usize
 }
 
 /// Each of these attributes behind the others, where it does not stand among them.
-fn keep_each(row: &mut Vec<AttrId>, attributes: &[AttrId]) -> Result<(), AllocError>
-    ensures { OnOk result (row.new.items ≡ all_kept row.old.items attributes.now) }
+fn keep_each(
+    row: &mut Vec<AttrId>,
+    indices: &mut BTreeSet<usize>,
+    attributes: &[AttrId],
+) -> Result<(), AllocError>
+    requires { AreIndicesOf indices.old row.old.items }
+    ensures row { OnOk result (row.new.items ≡ all_kept row.old.items attributes.now) }
+    ensures indices { OnOk result (AreIndicesOf indices.new row.new.items) }
 {
     for attribute in attributes {
-        keep(row, *attribute)?;
+        keep(row, indices, *attribute)?;
     }
     Ok(())
 }
 
 /// The same, where those with which both begin are passed at once.
-fn keep_all(row: &mut Vec<AttrId>, attributes: &[AttrId]) -> Result<(), AllocError>
-    ensures { OnOk result (row.new.items ≡ all_kept row.old.items attributes.now) }
+fn keep_all(
+    row: &mut Vec<AttrId>,
+    indices: &mut BTreeSet<usize>,
+    attributes: &[AttrId],
+) -> Result<(), AllocError>
+    requires { AreIndicesOf indices.old row.old.items }
+    ensures row { OnOk result (row.new.items ≡ all_kept row.old.items attributes.now) }
+    ensures indices { OnOk result (AreIndicesOf indices.new row.new.items) }
 {
     let same = common(row, attributes);
-    keep_each(row, &attributes[same..])
+    keep_each(row, indices, &attributes[same..])
 }
 
 /// The row of an entity: it begins with so many attributes of an earlier row, and then has the rest. So a long row that many
@@ -290,9 +320,10 @@ fn row_of(
     ensures { IfOk result (λ row. (all : List (List AttrId)) → AreSharedRows all rows.now → IsSharedRow (all ++ (all_kept (first_of (row_in all places.now) supertypes.now) (joined (row_in all places.now) supertypes.now) ++ ids_from own.from (own.to - own.from)) ∷ []) (length rows.now) row) }
 {
     let mut row = first_row(alloc, supertypes, places, rows)?;
+    let mut indices = indices_of(alloc, &row)?;
     for supertype in supertypes {
         let ids = whole(alloc, rows, places[*supertype])?;
-        keep_all(&mut row, &ids)?;
+        keep_all(&mut row, &mut indices, &ids)?;
     }
     push_own(&mut row, own)?;
     Ok(alone(rows.len(), row))
