@@ -18,7 +18,7 @@ ghost use Rattle.p21_reader.specs.declared.judged.Judgement.{Judgement};
 
 use crate::all_laws::values_give_all_faults;
 use crate::fault_gathering::FaultGathering;
-use crate::judged::LocalReader;
+use crate::judged::Locally;
 use crate::judging::{Judging, judge_pieces};
 use crate::local::checked_preface;
 use crate::pieces::Pieces;
@@ -76,9 +76,8 @@ pub fn read_all_faults<'a, G: Gate + Sync, R: Threads + Wait + Sync>(
     let pieces = Pieces {
         cutter: Cutter::new(file, preface.data_at as usize),
     };
-    let judge = LocalReader { schema };
     let work = Judging {
-        judge: &judge,
+        judge: &Locally,
         schema,
     };
     let gathering = FaultGathering::new(alloc, schema);

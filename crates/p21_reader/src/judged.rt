@@ -1,6 +1,7 @@
 //! What pieces are by themselves.
 
 ghost use Rattle.std.specs.Prelude.{IfOk};
+ghost use Rattle.p21_express.specs.Schema.{Schema};
 ghost use Rattle.p21_tree.specs.declared.pieces.Piece.{Piece};
 ghost use Rattle.p21_reader.specs.Values.{IsJudged};
 ghost use Rattle.p21_reader.specs.Judged.{HasOwnEntity, value_of};
@@ -92,21 +93,62 @@ pub(crate) fn judge_local<'a>(
     })
 }
 
-/// Judges a piece by any judge, and looks the keyword of its instance up.
-#[inline(always)]
-pub(crate) fn judge_by<'a, J: Judge>(
-    judge: &J,
-    schema: &Schema,
-    reader: &mut InstanceReader<'a>,
-    piece: Piece<'a>,
-) -> Result<Judgement<'a>, AllocError>
-    ensures judged { IfOk result (λ judgement. J.judges judge.now piece.entry judgement.judged) }
-    ensures entity { IfOk result (HasOwnEntity schema.now) }
-{
-    let judged = judge.judge(reader, piece)?;
-    let entity = match &judged {
-        Judged::Grammar(_) => None,
-        Judged::Whole(instance, _) => simple_entity(schema, instance),
-    };
-    Ok(Judgement { judged, entity })
+/// Judges pieces by themselves, and finds the entity of each instance in a schema.
+pub(crate) trait EntityJudge {
+    /// What a piece may be judged to be against a schema.
+    ghost judges: { Self → Schema → Piece → Judged → Type 0 };
+
+    /// Judges a piece by itself, and finds the entity of its instance. The reader may have read any pieces before. An error is
+    /// want of memory.
+    fn judge_entity<'a>(
+        &self,
+        schema: &Schema,
+        reader: &mut InstanceReader<'a>,
+        piece: Piece<'a>,
+    ) -> Result<Judgement<'a>, AllocError>
+        ensures judged { IfOk result (λ judgement. judges self.now schema.now piece.entry judgement.judged) }
+        ensures entity { IfOk result (HasOwnEntity schema.now) };
+}
+
+/// Judges pieces as a `LocalReader` of the schema does, and looks each keyword up once.
+#[derive(Clone, Copy)]
+pub(crate) struct Locally;
+
+impl EntityJudge for Locally {
+    ghost judges = { λ judge schema piece judged. IsJudged schema piece (value_of judged) };
+
+    #[inline(always)]
+    fn judge_entity<'a>(
+        &self,
+        schema: &Schema,
+        reader: &mut InstanceReader<'a>,
+        piece: Piece<'a>,
+    ) -> Result<Judgement<'a>, AllocError> {
+        judge_local(schema, reader, piece)
+    }
+}
+
+/// Judges pieces as any judge does, and looks the keywords of their instances up.
+#[derive(Clone, Copy)]
+pub(crate) struct ByJudge<'r, J> {
+    pub(crate) judge: &'r J,
+}
+
+impl<J: Judge> EntityJudge for ByJudge<'_, J> {
+    ghost judges = { λ by schema piece judged. J.judges by.judge.now piece judged };
+
+    #[inline(always)]
+    fn judge_entity<'a>(
+        &self,
+        schema: &Schema,
+        reader: &mut InstanceReader<'a>,
+        piece: Piece<'a>,
+    ) -> Result<Judgement<'a>, AllocError> {
+        let judged = self.judge.judge(reader, piece)?;
+        let entity = match &judged {
+            Judged::Grammar(_) => None,
+            Judged::Whole(instance, _) => simple_entity(schema, instance),
+        };
+        Ok(Judgement { judged, entity })
+    }
 }

@@ -7,7 +7,8 @@ ghost use Rattle.p21_crew.specs.Run.{IsRun};
 ghost use Rattle.p21_reader.specs.Lanes.{IsStated};
 ghost use Rattle.p21_reader.specs.declared.judged.Judgement.{Judgement};
 
-use crate::judged::{Judge, Judged, Judgement, judge_by};
+use crate::ahead::Ahead;
+use crate::judged::{EntityJudge, Judge, Judged, Judgement};
 use crate::pieces::Pieces;
 use p21_crew::{Gate, Gathers, Run, Work, run_crew};
 use p21_desk::LaneCount;
@@ -18,51 +19,63 @@ use std::alloc::{AllocError, Global};
 use std::sync::Wait;
 use std::thread::Threads;
 
-/// The work of judging pieces, by any judge, and of looking up the entity of each instance.
+/// What a worker keeps from piece to piece.
+#[derive(Drop)]
+pub(crate) struct Bench<'a> {
+    reader: InstanceReader<'a>,
+    ahead: Ahead,
+}
+
+/// The work of judging pieces and of finding the entity of each instance.
 #[derive(Clone, Copy)]
-pub(crate) struct Judging<'r, J> {
-    pub(crate) judge: &'r J,
+pub(crate) struct Judging<'r, E> {
+    pub(crate) judge: &'r E,
     pub(crate) schema: &'r Schema,
 }
 
-impl<'a, J: Judge> Work<Piece<'a>> for Judging<'_, J> {
+impl<'a, E: EntityJudge> Work<Piece<'a>> for Judging<'_, E> {
     type Out = Judgement<'a>;
 
-    type Kept = InstanceReader<'a>;
+    type Kept = Bench<'a>;
 
     ghost use Rattle.p21_reader.specs.Lanes.{IsStated};
 
-    ghost stated = { λ work piece judgement. IsStated (J.judges work.judge.now) work.schema.now piece judgement };
+    ghost stated = { λ work piece judgement. IsStated (E.judges work.judge.now work.schema.now) work.schema.now piece judgement };
 
     fn number(&self, piece: &Piece<'a>) -> u64 {
         piece.number
     }
 
-    fn begin(&self, alloc: Global) -> InstanceReader<'a> {
-        InstanceReader::new(alloc)
+    fn begin(&self, alloc: Global) -> Bench<'a> {
+        Bench {
+            reader: InstanceReader::new(alloc),
+            ahead: Ahead::new(),
+        }
     }
 
     fn read(
         &self,
-        _alloc: Global,
-        kept: &mut InstanceReader<'a>,
+        alloc: Global,
+        kept: &mut Bench<'a>,
         piece: Piece<'a>,
     ) -> Result<Judgement<'a>, AllocError> {
-        judge_by(self.judge, self.schema, kept, piece)
+        kept.ahead.read(alloc, piece.bytes.len());
+        let reader = &mut kept.reader;
+        self.judge.judge_entity(self.schema, reader, piece)
     }
 }
 
-/// The run of a crew that judges pieces, by any judge. An error is want of memory, or of a thread.
+/// The run of a crew that judges pieces. An error is want of memory, or of a thread.
 pub(crate) fn judge_pieces<
     'a,
-    J: Judge + Sync,
+    E: EntityJudge + Sync,
     G: Gate + Sync,
     A: Gathers<Judgement<'a>> + Drop,
     R: Threads + Wait + Sync,
 >(
     rt: &R,
     alloc: Global,
-    judging: &Judging<'_, J>,
+    judging: &Judging<'_, E>,
     gate: &G,
     pieces: Pieces<'a>,
     gathering: A,
@@ -72,7 +85,7 @@ pub(crate) fn judge_pieces<
     requires { A.holds gathering [] }
     ensures { IfOk result (λ run. (ps : List Piece) × (js : List Judgement)
         × (Gives pieces.entry.cutter (map plain_piece ps) run.tail × (run.tail ≤ length (file_of pieces.entry.cutter)))
-        × IsRun (IsStated (J.judges judging.now.judge.now) judging.now.schema.now) lanes ps js run.dealt.items run.receipts.items run.returned.items
+        × IsRun (IsStated (E.judges judging.now.judge.now judging.now.schema.now) judging.now.schema.now) lanes ps js run.dealt.items run.receipts.items run.returned.items
         × A.holds run.gatherer js) }
 {
     run_crew(rt, alloc, judging, gate, pieces, gathering, lanes, capacity)

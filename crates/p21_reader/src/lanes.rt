@@ -15,7 +15,7 @@ ghost use Rattle.p21_reader.specs.Values.{IsAnswerTo};
 ghost use Rattle.p21_reader.specs.declared.judged.Judgement.{Judgement};
 
 use crate::gathering::Gathering;
-use crate::judged::{Judge, LocalReader};
+use crate::judged::{ByJudge, EntityJudge, Judge, Locally};
 use crate::judging::Judging;
 use crate::laws::values_give_reading;
 use crate::local::checked_preface;
@@ -52,16 +52,7 @@ pub fn read_lanes<'a, G: Gate + Sync, R: Threads + Wait + Sync>(
     ensures answer { IfOk result (λ reading. IsReading schema.now file.now (plain_answer reading.answer)) }
 {
     values_give_reading();
-    read_lanes_by(
-        rt,
-        alloc,
-        schema,
-        &LocalReader { schema },
-        gate,
-        file,
-        lanes,
-        capacity,
-    )
+    read_pieces(rt, alloc, schema, &Locally, gate, file, lanes, capacity)
 }
 
 /// Reads a whole file against a schema, by so many lanes whose workers ask a judge.
@@ -82,6 +73,32 @@ pub fn read_lanes_by<'a, J: Judge + Sync, G: Gate + Sync, R: Threads + Wait + Sy
     requires { FindsEachFault (J.judges judge.now) schema.now }
     ensures { IfOk result (IsReadBy (J.judges judge.now) schema.now file.now lanes) }
 {
+    read_pieces(
+        rt,
+        alloc,
+        schema,
+        &ByJudge { judge },
+        gate,
+        file,
+        lanes,
+        capacity,
+    )
+}
+
+/// Reads a whole file against a schema, by so many lanes whose workers judge pieces and find the entities of their instances.
+fn read_pieces<'a, E: EntityJudge + Sync, G: Gate + Sync, R: Threads + Wait + Sync>(
+    rt: &R,
+    alloc: Global,
+    schema: &Schema,
+    judge: &E,
+    gate: &G,
+    file: &'a [u8],
+    lanes: LaneCount,
+    capacity: Capacity,
+) -> Result<Reading<'a>, ReadError>
+    requires { FindsEachFault (E.judges judge.now schema.now) schema.now }
+    ensures { IfOk result (IsReadBy (E.judges judge.now schema.now) schema.now file.now lanes) }
+{
     let preface = match checked_preface(alloc, schema, file) {
         Ok(preface) => preface,
         Err(stop) => return Reading::stopped(alloc, stop),
@@ -95,7 +112,7 @@ pub fn read_lanes_by<'a, J: Judge + Sync, G: Gate + Sync, R: Threads + Wait + Sy
         return Err(ReadError::Memory);
     };
     gate.close();
-    let answer = conclude::<J, R>(rt, schema, judge, file, run.tail as usize, run.gatherer);
+    let answer = conclude::<E, R>(rt, schema, judge, file, run.tail as usize, run.gatherer);
     Ok(Reading {
         answer,
         receipts: run.receipts,
@@ -104,18 +121,18 @@ pub fn read_lanes_by<'a, J: Judge + Sync, G: Gate + Sync, R: Threads + Wait + Sy
 }
 
 /// The answer to what was gathered of the pieces of a file.
-fn conclude<'a, J: Judge, R: Threads + Sync>(
+fn conclude<'a, E: EntityJudge, R: Threads + Sync>(
     rt: &R,
     schema: &Schema,
-    judge: &J,
+    judge: &E,
     file: &[u8],
     tail: usize,
     gathering: Gathering<'a>,
 ) -> Result<Model<'a>, Fault>
-    requires finds { FindsEachFault (J.judges judge.now) schema.now }
+    requires finds { FindsEachFault (E.judges judge.now schema.now) schema.now }
     requires within { tail ≤ length file.now }
-    requires gathered { AreGathered (J.judges judge.now) schema.now gathering }
-    ensures { (pieces : List Piece) (js : List Judgement) → IsGathered gathering.entry js → AllZip (IsStated (J.judges judge.now) schema.now) pieces js
+    requires gathered { AreGathered (E.judges judge.now schema.now) schema.now gathering }
+    ensures { (pieces : List Piece) (js : List Judgement) → IsGathered gathering.entry js → AllZip (IsStated (E.judges judge.now schema.now) schema.now) pieces js
         → IsAnswerTo schema.now file.now tail (values_of js) (plain_answer result) }
 {
     let (model, entities) = gathering.conclude(file, tail)?;

@@ -1,6 +1,7 @@
 //! The reading of a whole file against a schema: the list of its instances, or its first fault, or all its faults.
 #![tactic(auto)]
 
+mod ahead;
 mod all_faults;
 mod all_laws;
 mod fault_gathering;

@@ -5,14 +5,14 @@ use Rattle.p21_tree.specs.declared.pieces.Piece.{Piece}
 use Rattle.p21_reader.specs.Lanes as dealing
 use Rattle.p21_reader.specs.ReadingBy.{by_pieces}
 use Rattle.p21_reader.proofs.LaneLemmas.{judged_only, values_only, stopped_before}
-use Rattle.p21_reader.proofs.lanes.read_lanes_by.Goals as goal
+use Rattle.p21_reader.proofs.lanes.read_pieces.Goals as goal
 
 pub returns-in-Err : goal.returns-in-Err
-returns-in-Err g c = stopped_before (g.J.Judge.judges c.args.judge.now) c.args.schema.now c.args.file.now c.args.lanes _ c.stopped.result c.in-Err.ensures.fault c.stopped.ensures
+returns-in-Err g c = stopped_before (g.E.EntityJudge.judges c.args.judge.now c.args.schema.now) c.args.schema.now c.args.file.now c.args.lanes _ c.stopped.result c.in-Err.ensures.fault c.stopped.ensures
 
 pub returns : goal.returns
 returns g c =
-    let judges = g.J.Judge.judges c.args.judge.now in
+    let judges = g.E.EntityJudge.judges c.args.judge.now c.args.schema.now in
     let s = c.args.schema.now in
     let cutter = c.new.result in
     let all = c.in-Ok-run_crew.ensures in
