@@ -59,6 +59,7 @@ impl<T: Drop> LaneOut<T> {
     }
 
     /// Takes the oldest message, if this end sees one. Once the end was taken, the answer stays `Ended`.
+    #[inline(always)]
     pub fn take(&mut self) -> Taken<T>
         ensures lane { SameOut self.old self.new }
         ensures took { Took result self.old self.new }
