@@ -16,8 +16,8 @@ use std::alloc::{AllocError, Global};
 use std::mem;
 use std::sync::Wait;
 
-/// How many results are gathered at most before pieces are dealt again.
-const AT_ONCE: u32 = 256;
+/// How many results are gathered at most before pieces are dealt again: few, so that no worker waits for pieces meanwhile.
+const AT_ONCE: u32 = 64;
 
 /// Deals the pieces of a text to the lanes, and gathers what the workers return, in the order of the pieces.
 pub(crate) struct Dealer<P, O, W: Work<P, Out = O>, C, A> {
