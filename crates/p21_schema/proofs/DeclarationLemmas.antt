@@ -18,9 +18,6 @@ use Rattle.p21_schema.proofs.Members.{at_place, in_either, in_left, in_right, fr
 use Rattle.p21_schema.proofs.AncestryLemmas.{distinct_entities, supertypes_known}
 use Rattle.p21_schema.proofs.RowLemmas.{own_at, own_below, attributes_distinct}
 
-pub not_last : {X : Type 0} (xs : List X) (y x : X) → ¬ (IsIn xs x) → ¬ (y ≡ x) → ¬ (IsIn (xs ++ y ∷ []) x)
-not_last xs y x h n i = ⊎_elim (λ (l : IsIn xs x). h l) (λ (r : IsIn (y ∷ []) x). ⊎_elim (λ (e : y ≡ x). n e) (λ (f : ⊥). absurd f) r) (in_either xs (y ∷ []) x i)
-
 -- ---- what is newly declared
 
 -- an attribute without SELF is newly declared

@@ -1,149 +1,179 @@
 -- Which entities newly declare an explicit attribute of a name, by lists.
-use Rattle.std.proofs.Common.{◌≡◌, ℕ, ◌+◌, ◌<◌, ◌≤◌, List, [], ◌∷◌, ◌++◌, ◌⊎◌, None, Some, Option, length, get_or, set, refl, sym, ap, ◌∙◌, subst, inl, inr, ⊎_elim, arith}
-use Rattle.std.proofs.lemmas.Bool.{cases_eq, cases_lt}
-use Rattle.std.proofs.lemmas.List.{length-set, length_push, get_or-set_same, get_or-set_other, get_or_append_left, get_or_push, get_or_past}
-use Rattle.p21_express.specs.Schema.{Schema, Attribute}
-use Rattle.p21_express.specs.WellFormed.{IsIn, AreDistinct, new_explicit, with_new}
+use Rattle.std.proofs.Common.{◌≡◌, ℕ, ◌+◌, ◌<◌, List, [], ◌∷◌, ◌++◌, ◌⊎◌, length, get_or, set, refl, sym, ap, ◌∙◌, subst, inl, inr, ⊎_elim, arith}
+use Rattle.std.proofs.lemmas.Bool.{cases_eq}
+use Rattle.std.proofs.lemmas.List.{length-set, length_push, get_or-set_same, get_or-set_other, get_or_append_left, get_or_push}
+use Rattle.std.specs.List.{HoldsAt}
+use Rattle.std.specs.Ordering.{nat_cmp}
+use Rattle.std.specs.declared.cmp.Ordering.TheVariants.{Equal}
+use Rattle.std.specs.FinMap.{nat_cmp-IsAntisymmetric}
+use Rattle.p21_express.specs.Schema.{Schema, Entity}
+use Rattle.p21_express.specs.WellFormed.{IsIn, AreDistinct, new_explicit}
+use Rattle.p21_schema.specs.declared.owners.Owner.{Owner}
 use Rattle.p21_schema.specs.declared.owners.Owners.{Owners}
 use Rattle.p21_schema.specs.Graph.{rows_of}
-use Rattle.p21_schema.specs.Owners.{IsListed, IsHeld, AreInLists, IsNoted, AreOwners}
+use Rattle.p21_schema.specs.Owners.{IsListed, IsOwned, IsOwnedBy, AreInLists, IsNoted, AreOwners}
 use Rattle.p21_schema.specs.Place.{no_entity}
 use Rattle.p21_schema.proofs.Members.{in_left, in_right, in_either, same_place}
 use Rattle.p21_schema.proofs.Members as members
 
-is_one : {X : Type 0} (y x : X) → IsIn (y ∷ []) x → x ≡ y
+pub is_one : {X : Type 0} (y x : X) → IsIn (y ∷ []) x → x ≡ y
 is_one y x h = ⊎_elim (λ (e : y ≡ x). sym e) (λ (n : ⊥). absurd n) h
 
 distinct_push : {X : Type 0} (xs : List X) (x : X) → AreDistinct xs → ¬ (IsIn xs x) → AreDistinct (xs ++ x ∷ [])
 distinct_push [] x d n = ((λ i. i), tt)
 distinct_push (y ∷ ys) x d n = (λ i. ⊎_elim (λ (l : IsIn ys y). d.0 l) (λ (r : IsIn (x ∷ []) y). n (inl (is_one x y r))) (in_either ys (x ∷ []) y i), distinct_push ys x d.1 (λ i. n (inr i)))
 
--- ---- an entity more in a list that is there
+-- ---- an owner more in a list that is there
 
-module _ (old new : Owners) (place entity : ℕ) (n : List ℕ) (h : AreInLists old) (less : place < length old.names) (named : get_or old.names place [] ≡ n) (same : new.names ≡ old.names)
-    (is : rows_of new.lists ≡ set (rows_of old.lists) place (get_or (rows_of old.lists) place [] ++ entity ∷ [])) where
-  abbrev row : List ℕ
-  row = get_or (rows_of old.lists) place [] ++ entity ∷ []
+module _ (old new : Owners) (place : ℕ) (owner : Owner) (n : List ℕ) (h : AreInLists old) (less : place < length old.names) (named : get_or old.names place [] ≡ n) (same : new.names ≡ old.names)
+    (is : rows_of new.lists ≡ set (rows_of old.lists) place (get_or (rows_of old.lists) place [] ++ owner ∷ [])) where
+  abbrev row : List Owner
+  row = get_or (rows_of old.lists) place [] ++ owner ∷ []
 
-  at_place : get_or (set (rows_of old.lists) place row) place [] ≡ row
-  at_place = get_or-set_same (rows_of old.lists) place row [] (subst (λ (u : ℕ). place < u) (sym h.count) less)
+  at_place : get_or (rows_of new.lists) place [] ≡ row
+  at_place = ap (λ (u : List (List Owner)). get_or u place []) is ∙ get_or-set_same (rows_of old.lists) place row [] (subst (λ (u : ℕ). place < u) (sym h.count) less)
 
-  kept : (k e : ℕ) → IsIn (get_or (rows_of old.lists) k []) e → IsIn (get_or (set (rows_of old.lists) place row) k []) e
-  kept k e i = ⊎_elim
-      (λ (q : k ≡ place). subst (λ (u : ℕ). IsIn (get_or (set (rows_of old.lists) place row) u []) e) (sym q) (subst (λ (u : List ℕ). IsIn u e) (sym at_place) (in_left (get_or (rows_of old.lists) place []) (entity ∷ []) e (subst (λ (u : ℕ). IsIn (get_or (rows_of old.lists) u []) e) q i))))
-      (λ (ne : (k ≡ place) → ⊥). subst (λ (u : List ℕ). IsIn u e) (sym (get_or-set_other (rows_of old.lists) place k row [] ne)) i)
+  at_another : (k : ℕ) → ¬ (k ≡ place) → get_or (rows_of new.lists) k [] ≡ get_or (rows_of old.lists) k []
+  at_another k ne = ap (λ (u : List (List Owner)). get_or u k []) is ∙ get_or-set_other (rows_of old.lists) place k row [] ne
+
+  kept : (k : ℕ) (o : Owner) → IsIn (get_or (rows_of old.lists) k []) o → IsIn (get_or (rows_of new.lists) k []) o
+  kept k o i = ⊎_elim
+      (λ (q : k ≡ place). subst (λ (u : ℕ). IsIn (get_or (rows_of new.lists) u []) o) (sym q) (subst (λ (u : List Owner). IsIn u o) (sym at_place) (in_left (get_or (rows_of old.lists) place []) (owner ∷ []) o (subst (λ (u : ℕ). IsIn (get_or (rows_of old.lists) u []) o) q i))))
+      (λ (ne : (k ≡ place) → ⊥). subst (λ (u : List Owner). IsIn u o) (sym (at_another k ne)) i)
       (cases_eq k place)
 
-  only : (e k : ℕ) → IsIn (get_or (set (rows_of old.lists) place row) k []) e → IsHeld old e ⊎ (e ≡ entity)
-  only e k i = ⊎_elim
-      (λ (q : k ≡ place). ⊎_elim
-      (λ (l : IsIn (get_or (rows_of old.lists) place []) e). inl (place, l))
-      (λ (r : IsIn (entity ∷ []) e). inr (is_one entity e r))
-      (in_either (get_or (rows_of old.lists) place []) (entity ∷ []) e (subst (λ (u : List ℕ). IsIn u e) at_place (subst (λ (u : ℕ). IsIn (get_or (set (rows_of old.lists) place row) u []) e) q i))))
-      (λ (ne : (k ≡ place) → ⊥). inl (k, subst (λ (u : List ℕ). IsIn u e) (get_or-set_other (rows_of old.lists) place k row [] ne) i))
-      (cases_eq k place)
+  abbrev IsThis : List ℕ → Owner → Type 0
+  IsThis m o = (m ≡ n) × (o ≡ owner)
 
-  pub added : IsNoted old new entity
+  listed_before : (m : List ℕ) (o : Owner) (l : IsListed new m o) → IsIn (get_or (rows_of old.lists) l.place []) o → IsListed old m o
+  listed_before m o l i = record { place = l.place; below = subst (λ (u : List (List ℕ)). l.place < length u) same l.below; named = ap (λ (u : List (List ℕ)). get_or u l.place []) (sym same) ∙ l.named; listed = i }
+
+  only : (m : List ℕ) (o : Owner) → IsListed new m o → IsListed old m o ⊎ IsThis m o
+  only m o l = ⊎_elim
+      (λ (q : l.place ≡ place).
+      let this : m ≡ n = sym l.named ∙ ap (λ (u : List (List ℕ)). get_or u l.place []) same ∙ ap (λ (u : ℕ). get_or old.names u []) q ∙ named in
+      ⊎_elim
+      (λ (i : IsIn (get_or (rows_of old.lists) place []) o). inl (listed_before m o l (subst (λ (u : ℕ). IsIn (get_or (rows_of old.lists) u []) o) (sym q) i)))
+      (λ (r : IsIn (owner ∷ []) o). inr (this, is_one owner o r))
+      (in_either (get_or (rows_of old.lists) place []) (owner ∷ []) o (subst (λ (u : List Owner). IsIn u o) at_place (subst (λ (u : ℕ). IsIn (get_or (rows_of new.lists) u []) o) q l.listed))))
+      (λ (ne : (l.place ≡ place) → ⊥). inl (listed_before m o l (subst (λ (u : List Owner). IsIn u o) (at_another l.place ne) l.listed)))
+      (cases_eq l.place place)
+
+  pub added : IsNoted old new IsThis
   added = record {
     lists = record { count = ap length is ∙ length-set (rows_of old.lists) place row ∙ h.count ∙ ap length (sym same); distinct = subst (λ (u : List (List ℕ)). AreDistinct u) (sym same) h.distinct };
-    keeps = λ m e l. record { place = l.place; below = subst (λ (u : List (List ℕ)). l.place < length u) (sym same) l.below; named = ap (λ (u : List (List ℕ)). get_or u l.place []) same ∙ l.named; listed = subst (λ (u : List (List ℕ)). IsIn (get_or u l.place []) e) (sym is) (kept l.place e l.listed) };
-    only = λ e i. only e i.0 (subst (λ (u : List (List ℕ)). IsIn (get_or u i.0 []) e) is i.1);
+    keeps = λ m o l. record { place = l.place; below = subst (λ (u : List (List ℕ)). l.place < length u) (sym same) l.below; named = ap (λ (u : List (List ℕ)). get_or u l.place []) same ∙ l.named; listed = kept l.place o l.listed };
+    only = only;
   }
 
-  pub added_there : IsListed new n entity
+  pub added_there : IsListed new n owner
   added_there = record {
     place = place;
     below = subst (λ (u : List (List ℕ)). place < length u) (sym same) less;
     named = ap (λ (u : List (List ℕ)). get_or u place []) same ∙ named;
-    listed = subst (λ (u : List (List ℕ)). IsIn (get_or u place []) entity) (sym is) (subst (λ (u : List ℕ). IsIn u entity) (sym at_place) (in_right (get_or (rows_of old.lists) place []) (entity ∷ []) entity (inl refl)));
+    listed = subst (λ (u : List Owner). IsIn u owner) (sym at_place) (in_right (get_or (rows_of old.lists) place []) (owner ∷ []) owner (inl refl));
   }
 
 -- ---- a list more
 
-module _ (old new : Owners) (entity : ℕ) (n : List ℕ) (h : AreInLists old) (absent : ¬ (IsIn old.names n)) (names : new.names ≡ old.names ++ n ∷ []) (is : rows_of new.lists ≡ rows_of old.lists ++ (entity ∷ []) ∷ []) where
-  left : (k e : ℕ) → IsIn (get_or (rows_of old.lists) k []) e → k < length (rows_of old.lists)
-  left k e i = ⊎_elim (λ (l : k < length (rows_of old.lists)). l) (λ (g : length (rows_of old.lists) ≤ k). absurd (subst (λ (u : List ℕ). IsIn u e) (get_or_past (rows_of old.lists) k [] g) i)) (cases_lt k (length (rows_of old.lists)))
+module _ (old new : Owners) (owner : Owner) (n : List ℕ) (h : AreInLists old) (absent : ¬ (IsIn old.names n)) (names : new.names ≡ old.names ++ n ∷ []) (is : rows_of new.lists ≡ rows_of old.lists ++ (owner ∷ []) ∷ []) where
+  long : length new.names ≡ length old.names + 1
+  long = ap length names ∙ length_push old.names n
 
-  held : (e k : ℕ) → IsIn (get_or (rows_of old.lists ++ (entity ∷ []) ∷ []) k []) e → IsHeld old e ⊎ (e ≡ entity)
-  held e k i = ⊎_elim
-      (λ (l : k < length (rows_of old.lists)). inl (k, subst (λ (u : List ℕ). IsIn u e) (get_or_append_left (rows_of old.lists) ((entity ∷ []) ∷ []) [] k l) i))
-      (λ (g : length (rows_of old.lists) ≤ k). ⊎_elim
-      (λ (q : k ≡ length (rows_of old.lists)). inr (is_one entity e (subst (λ (u : List ℕ). IsIn u e) (get_or_push (rows_of old.lists) (entity ∷ []) [] k (sym q)) i)))
-      (λ (ne : (k ≡ length (rows_of old.lists)) → ⊥).
-      let long : length (rows_of old.lists ++ (entity ∷ []) ∷ []) ≡ length (rows_of old.lists) + 1 = length_push (rows_of old.lists) (entity ∷ []) in
-      let past : length (rows_of old.lists ++ (entity ∷ []) ∷ []) ≤ k = omega (arith, long, g, ne) in
-      absurd (subst (λ (u : List ℕ). IsIn u e) (get_or_past (rows_of old.lists ++ (entity ∷ []) ∷ []) k [] past) i))
-      (cases_eq k (length (rows_of old.lists))))
-      (cases_lt k (length (rows_of old.lists)))
+  name_before : (k : ℕ) → k < length old.names → get_or new.names k [] ≡ get_or old.names k []
+  name_before k less = ap (λ (u : List (List ℕ)). get_or u k []) names ∙ get_or_append_left old.names (n ∷ []) [] k less
 
-  pub listed_more : IsNoted old new entity
+  list_before : (k : ℕ) → k < length old.names → get_or (rows_of new.lists) k [] ≡ get_or (rows_of old.lists) k []
+  list_before k less = ap (λ (u : List (List Owner)). get_or u k []) is ∙ get_or_append_left (rows_of old.lists) ((owner ∷ []) ∷ []) [] k (subst (λ (u : ℕ). k < u) (sym h.count) less)
+
+  name_last : get_or new.names (length old.names) [] ≡ n
+  name_last = ap (λ (u : List (List ℕ)). get_or u (length old.names) []) names ∙ get_or_push old.names n [] (length old.names) refl
+
+  list_last : get_or (rows_of new.lists) (length old.names) [] ≡ owner ∷ []
+  list_last = ap (λ (u : List (List Owner)). get_or u (length old.names) []) is ∙ get_or_push (rows_of old.lists) (owner ∷ []) [] (length old.names) h.count
+
+  abbrev IsThese : List ℕ → Owner → Type 0
+  IsThese m o = (m ≡ n) × (o ≡ owner)
+
+  only_more : (m : List ℕ) (o : Owner) → IsListed new m o → IsListed old m o ⊎ IsThese m o
+  only_more m o l = ⊎_elim
+      (λ (q : l.place ≡ length old.names).
+      inr (sym l.named ∙ ap (λ (u : ℕ). get_or new.names u []) q ∙ name_last, is_one owner o (subst (λ (u : List Owner). IsIn u o) list_last (subst (λ (u : ℕ). IsIn (get_or (rows_of new.lists) u []) o) q l.listed))))
+      (λ (ne : (l.place ≡ length old.names) → ⊥).
+      let below : l.place < length new.names = l.below in
+      let before : l.place < length old.names = omega (arith, below, long, ne) in
+      inl (record { place = l.place; below = before; named = sym (name_before l.place before) ∙ l.named; listed = subst (λ (u : List Owner). IsIn u o) (list_before l.place before) l.listed }))
+      (cases_eq l.place (length old.names))
+
+  pub listed_more : IsNoted old new IsThese
   listed_more = record {
     lists = record {
-      count = ap length is ∙ length_push (rows_of old.lists) (entity ∷ []) ∙ ap (λ (u : ℕ). u + 1) h.count ∙ sym (ap length names ∙ length_push old.names n);
+      count = ap length is ∙ length_push (rows_of old.lists) (owner ∷ []) ∙ ap (λ (u : ℕ). u + 1) h.count ∙ sym long;
       distinct = subst (λ (u : List (List ℕ)). AreDistinct u) (sym names) (distinct_push old.names n h.distinct absent);
     };
-    keeps = λ m e l.
-        let less = left l.place e l.listed in
-        let below : l.place < length (old.names ++ n ∷ []) = (let long = length_push old.names n in let b = l.below in omega (arith, long, b)) in
-        record {
-          place = l.place;
-          below = subst (λ (u : List (List ℕ)). l.place < length u) (sym names) below;
-          named = ap (λ (u : List (List ℕ)). get_or u l.place []) names ∙ get_or_append_left old.names (n ∷ []) [] l.place l.below ∙ l.named;
-          listed = subst (λ (u : List (List ℕ)). IsIn (get_or u l.place []) e) (sym is) (subst (λ (u : List ℕ). IsIn u e) (sym (get_or_append_left (rows_of old.lists) ((entity ∷ []) ∷ []) [] l.place less)) l.listed);
-        };
-    only = λ e i. held e i.0 (subst (λ (u : List (List ℕ)). IsIn (get_or u i.0 []) e) is i.1);
+    keeps = λ m o l.
+        let before : l.place < length old.names = l.below in
+        let below : l.place < length new.names = omega (arith, before, long) in
+        record { place = l.place; below = below; named = name_before l.place before ∙ l.named; listed = subst (λ (u : List Owner). IsIn u o) (sym (list_before l.place before)) l.listed };
+    only = only_more;
   }
 
-  pub listed_there : IsListed new n entity
+  pub listed_there : IsListed new n owner
   listed_there = record {
     place = length old.names;
-    below = subst (λ (u : List (List ℕ)). length old.names < length u) (sym names) (let long = length_push old.names n in omega (arith, long));
-    named = ap (λ (u : List (List ℕ)). get_or u (length old.names) []) names ∙ get_or_push old.names n [] (length old.names) refl;
-    listed = subst (λ (u : List (List ℕ)). IsIn (get_or u (length old.names) []) entity) (sym is) (subst (λ (u : List ℕ). IsIn u entity) (sym (get_or_push (rows_of old.lists) (entity ∷ []) [] (length old.names) h.count)) (inl refl));
+    below = omega (arith, long);
+    named = name_last;
+    listed = subst (λ (u : List Owner). IsIn u owner) (sym list_last) (inl refl);
   }
 
 -- ---- one after the other
 
-pub noted_none : (o : Owners) (e : ℕ) → AreInLists o → IsNoted o o e
-noted_none o e h = record { lists = h; keeps = λ n d l. l; only = λ d i. inl i }
+pub noted_none : (os : Owners) (Further : List ℕ → Owner → Type 0) → AreInLists os → IsNoted os os Further
+noted_none os Further h = record { lists = h; keeps = λ n o l. l; only = λ n o l. inl l }
 
-pub noted_more : (a b c : Owners) (e : ℕ) → IsNoted a b e → IsNoted b c e → IsNoted a c e
-noted_more a b c e f g = record {
+pub noted_more : (a b c : Owners) (Further One : List ℕ → Owner → Type 0) → ((n : List ℕ) (o : Owner) → One n o → Further n o) → IsNoted a b Further → IsNoted b c One → IsNoted a c Further
+noted_more a b c Further One such f g = record {
   lists = g.lists;
-  keeps = λ n d l. g.keeps n d (f.keeps n d l);
-  only = λ d i. ⊎_elim (λ (h : IsHeld b d). f.only d h) (λ (q : d ≡ e). inr q) (g.only d i);
+  keeps = λ n o l. g.keeps n o (f.keeps n o l);
+  only = λ n o l. ⊎_elim (λ (h : IsListed b n o). f.only n o h) (λ (q : One n o). inr (such n o q)) (g.only n o l);
 }
 
--- a name that is newly declared is an attribute's
-pub from_new : (xs : List Attribute) (n : List ℕ) → IsIn (new_explicit xs) n → (a : Attribute) × (IsIn xs a × ((a.of ≡ None) × (a.name ≡ n)))
-from_new [] n i = absurd i
-from_new (x ∷ xs) n i = by x.of refl (λ j. let r = from_new xs n j in (r.0, (inr r.1.0, r.1.1))) i
-  where
-    by : (o : Option (List ℕ)) → x.of ≡ o → (IsIn (new_explicit xs) n → (a : Attribute) × (IsIn (x ∷ xs) a × ((a.of ≡ None) × (a.name ≡ n)))) → IsIn (with_new o x.name (new_explicit xs)) n → (a : Attribute) × (IsIn (x ∷ xs) a × ((a.of ≡ None) × (a.name ≡ n)))
-    by None e further j = ⊎_elim (λ (q : x.name ≡ n). (x, (inl refl, (e, q)))) further j
-    by (Some p) e further j = further j
+-- one owner is such as all of its entity
+pub owned_one : (d : Entity) (e position : ℕ) (m : List ℕ) → IsOwnedBy d m position → (n : List ℕ) (o : Owner) → (n ≡ m) × (o ≡ record { entity = e; position = position }) → (o.entity ≡ e) × IsOwnedBy d n o.position
+owned_one d e position m owned n o q =
+    let at : position ≡ o.position = sym (ap (λ (u : Owner). u.position) q.1) in
+    (ap (λ (u : Owner). u.entity) q.1, subst (λ (u : ℕ). IsOwnedBy d n u) at (subst (λ (u : List ℕ). IsOwnedBy d u position) (sym q.0) owned))
 
-pub owners_none : (s : Schema) (o : Owners) → o.names ≡ [] → rows_of o.lists ≡ [] → AreOwners s 0 o
-owners_none s o names lists = record {
-  lists = record { count = ap length lists ∙ sym (ap length names); distinct = subst (λ (u : List (List ℕ)). AreDistinct u) (sym names) tt };
-  all = λ e n less i. absurd (omega arith);
-  below = λ e i. absurd (subst (λ (u : List (List ℕ)). IsIn (get_or u i.0 []) e) lists i.1);
-}
-
-pub owners_more : (s : Schema) (k : ℕ) (old new : Owners) → AreOwners s k old → IsNoted old new k → ((n : List ℕ) → IsIn (new_explicit (get_or s.entities k no_entity).attributes) n → IsListed new n k) → AreOwners s (k + 1) new
-owners_more s k old new h noted this = record {
+pub owners_more : (s : Schema) (k : ℕ) (old new : Owners) (d : Entity) → get_or s.entities k no_entity ≡ d → AreOwners s k old → IsNoted old new (λ n. λ o. (o.entity ≡ k) × IsOwnedBy d n o.position)
+    → ((n : List ℕ) → IsIn (new_explicit d.attributes) n → (position : ℕ) × IsListed new n (record { entity = k; position = position })) → AreOwners s (k + 1) new
+owners_more s k old new d at h noted this = record {
   lists = noted.lists;
   all = λ e n less i. ⊎_elim
-      (λ (q : e ≡ k). subst (λ (u : ℕ). IsListed new n u) (sym q) (this n (subst (λ (u : ℕ). IsIn (new_explicit (get_or s.entities u no_entity).attributes) n) q i)))
-      (λ (ne : (e ≡ k) → ⊥). let before : e < k = omega (arith, less, ne) in noted.keeps n e (h.all e n before i))
+      (λ (q : e ≡ k). subst (λ (u : ℕ). (position : ℕ) × IsListed new n (record { entity = u; position = position })) (sym q) (this n (subst (λ (u : Entity). IsIn (new_explicit u.attributes) n) (ap (λ (u : ℕ). get_or s.entities u no_entity) q ∙ at) i)))
+      (λ (ne : (e ≡ k) → ⊥). let before : e < k = omega (arith, less, ne) in let r = h.all e n before i in (r.0, noted.keeps n (record { entity = e; position = r.0 }) r.1))
       (cases_eq e k);
-  below = λ e i. ⊎_elim (λ (o : IsHeld old e). let b : e < k = h.below e o in let r : e < k + 1 = omega (arith, b) in r) (λ (q : e ≡ k). let r : e < k + 1 = omega (arith, q) in r) (noted.only e i);
+  only = λ n o l. ⊎_elim
+      (λ (b : IsListed old n o). let r = h.only n o b in let less : o.entity < k = r.0 in (omega (arith, less), r.1))
+      (λ (q : (o.entity ≡ k) × IsOwnedBy d n o.position). let is : o.entity ≡ k = q.0 in (omega (arith, is), subst (λ (u : Entity). IsOwnedBy u n o.position) (sym (ap (λ (u : ℕ). get_or s.entities u no_entity) is ∙ at)) q.1))
+      (noted.only n o l);
 }
 
+abbrev pub no_owner : Owner
+no_owner = record { entity = 0; position = 0 }
+
+-- what stands at a place of a list of a name
+pub owned_at : (s : Schema) (os : Owners) (size : ℕ) (n : List ℕ) (list : List Owner) (k : ℕ) (d : Owner) → AreOwners s size os → ((o : Owner) → IsIn list o → IsListed os n o) → k < length list
+    → ((get_or list k d).entity < size) × IsOwned s n (get_or list k d)
+owned_at s os size n list k d h only less = h.only n (get_or list k d) (only (get_or list k d) (members.at_place list k d less))
+
+-- what a search by the entity finds
+pub owner_found : (os : List Owner) (e i : ℕ) → HoldsAt (λ o. nat_cmp o.entity e ≡ Equal) os i → (d : Owner) → (get_or os i d).entity ≡ e
+owner_found os e i h d = nat_cmp-IsAntisymmetric (get_or os i d).entity e (h d)
+
 -- two places of a name are one
-pub listed_at : (o : Owners) (n : List ℕ) (e place : ℕ) → AreInLists o → place < length o.names → get_or o.names place [] ≡ n → IsListed o n e → IsIn (get_or (rows_of o.lists) place []) e
-listed_at o n e place h less named l = subst (λ (u : ℕ). IsIn (get_or (rows_of o.lists) u []) e) (same_place o.names l.place place [] h.distinct l.below less (l.named ∙ sym named)) l.listed
+pub listed_at : (os : Owners) (n : List ℕ) (o : Owner) (place : ℕ) → AreInLists os → place < length os.names → get_or os.names place [] ≡ n → IsListed os n o → IsIn (get_or (rows_of os.lists) place []) o
+listed_at os n o place h less named l = subst (λ (u : ℕ). IsIn (get_or (rows_of os.lists) u []) o) (same_place os.names l.place place [] h.distinct l.below less (l.named ∙ sym named)) l.listed
 
 -- a name with a list is there
-pub listed_in : (o : Owners) (n : List ℕ) (e : ℕ) → IsListed o n e → IsIn o.names n
-listed_in o n e l = subst (λ (u : List ℕ). IsIn o.names u) l.named (members.at_place o.names l.place [] l.below)
+pub listed_in : (os : Owners) (n : List ℕ) (o : Owner) → IsListed os n o → IsIn os.names n
+listed_in os n o l = subst (λ (u : List ℕ). IsIn os.names u) l.named (members.at_place os.names l.place [] l.below)

@@ -1,35 +1,40 @@
--- Lists of entities by names, in which all stand that newly declare an explicit attribute of a name.
+-- Lists of owners by names, in which all stand that newly declare an explicit attribute of a name, each with the attribute's position.
 use Rattle.std.specs.Prelude.{◌≡◌, ◌<◌, ◌⊎◌, ℕ, List, [], length, get_or}
-use Rattle.p21_express.specs.Schema.{Schema}
+use Rattle.p21_express.specs.Schema.{Schema, Entity}
 use Rattle.p21_express.specs.WellFormed.{IsIn, AreDistinct, new_explicit}
+use Rattle.p21_schema.specs.declared.owners.Owner.{Owner}
 use Rattle.p21_schema.specs.declared.owners.Owners.{Owners}
 use Rattle.p21_schema.specs.Graph.{rows_of}
 use Rattle.p21_schema.specs.Place.{no_entity}
 
--- the entity at a place stands in the list of the name
-pub record IsListed (o : Owners) (n : List ℕ) (e : ℕ) : Type 0 where
+-- the owner stands in the list of the name
+pub record IsListed (os : Owners) (n : List ℕ) (o : Owner) : Type 0 where
   pub place : ℕ
-  pub below : place < length o.names
-  pub named : get_or o.names place [] ≡ n
-  pub listed : IsIn (get_or (rows_of o.lists) place []) e
+  pub below : place < length os.names
+  pub named : get_or os.names place [] ≡ n
+  pub listed : IsIn (get_or (rows_of os.lists) place []) o
 
--- it stands in some list
-abbrev pub IsHeld : Owners → ℕ → Type 0
-IsHeld o e = (i : ℕ) × IsIn (get_or (rows_of o.lists) i []) e
+-- among the explicit attributes that an entity newly declares the one at this position has the name
+abbrev pub IsOwnedBy : Entity → List ℕ → ℕ → Type 0
+IsOwnedBy e n position = (position < length (new_explicit e.attributes)) × (get_or (new_explicit e.attributes) position [] ≡ n)
+
+-- the same of an owner in a schema
+abbrev pub IsOwned : Schema → List ℕ → Owner → Type 0
+IsOwned s n o = IsOwnedBy (get_or s.entities o.entity no_entity) n o.position
 
 -- each name has one list
-pub record AreInLists (o : Owners) : Type 0 where
-  pub count : length (rows_of o.lists) ≡ length o.names
-  pub distinct : AreDistinct o.names
+pub record AreInLists (os : Owners) : Type 0 where
+  pub count : length (rows_of os.lists) ≡ length os.names
+  pub distinct : AreDistinct os.names
 
--- the lists with one entity more in some of them
-pub record IsNoted (old new : Owners) (entity : ℕ) : Type 0 where
+-- the lists with further owners in some of them, each of which is such for the name of its list
+pub record IsNoted (old new : Owners) (Further : List ℕ → Owner → Type 0) : Type 0 where
   pub lists : AreInLists new
-  pub keeps : (n : List ℕ) (e : ℕ) → IsListed old n e → IsListed new n e
-  pub only : (e : ℕ) → IsHeld new e → IsHeld old e ⊎ (e ≡ entity)
+  pub keeps : (n : List ℕ) (o : Owner) → IsListed old n o → IsListed new n o
+  pub only : (n : List ℕ) (o : Owner) → IsListed new n o → IsListed old n o ⊎ Further n o
 
--- each of the first so many entities stands at least in the lists of the names that it newly declares, and no other entity in any
-pub record AreOwners (s : Schema) (size : ℕ) (o : Owners) : Type 0 where
-  pub lists : AreInLists o
-  pub all : (e : ℕ) (n : List ℕ) → e < size → IsIn (new_explicit (get_or s.entities e no_entity).attributes) n → IsListed o n e
-  pub below : (e : ℕ) → IsHeld o e → e < size
+-- each of the first so many entities stands in the lists of the names that it newly declares, and none stands in another list or with another position
+pub record AreOwners (s : Schema) (size : ℕ) (os : Owners) : Type 0 where
+  pub lists : AreInLists os
+  pub all : (e : ℕ) (n : List ℕ) → e < size → IsIn (new_explicit (get_or s.entities e no_entity).attributes) n → (position : ℕ) × IsListed os n (record { entity = e; position = position })
+  pub only : (n : List ℕ) (o : Owner) → IsListed os n o → (o.entity < size) × IsOwned s n o

@@ -1,7 +1,7 @@
 //! The declarations of each attribute.
 
 ghost use Rattle.std.specs.Prelude.{◌≡◌, ◌<◌, ◌↔◌, ◌++◌, ◌∷◌, ℕ, List, [], length, get_or, map, set, IfOk, OnOk, IsTrue, MatchOption, None};
-ghost use Rattle.p21_express.specs.Plain.{plain_entity, plain_attribute, plain_derived};
+ghost use Rattle.p21_express.specs.Plain.{plain_attribute, plain_derived};
 ghost use Rattle.p21_schema.specs.DeclarationTable.{known_schema, IsNotOwn, IsOwnAt, IsOriginAt, IsDeclared, IsDeclarationTable, IsFitting};
 ghost use Rattle.p21_express.specs.WellFormed.{IsIn, IsEntity, IsOrigin, Origin, new_explicit};
 ghost use Rattle.p21_schema.specs.Ancestry.{entity_id, IsA};
@@ -12,12 +12,12 @@ ghost use Rattle.p21_schema.specs.Row.{attributes_of};
 
 use crate::ids::EntityId;
 use crate::names::Names;
-use crate::owners::Owners;
+use crate::owners::{Owners, owner_at};
 use crate::reach::Reach;
 use crate::resolved::{ResolvedExpr, resolve};
 use crate::rows::Own;
 use crate::rules::Rules;
-use p21_express::{AttrDecl, Declarations, DeriveDecl, EntityDecl};
+use p21_express::{AttrDecl, Declarations, DeriveDecl};
 use std::alloc::{AllocError, Global};
 
 /// What a declaration makes of an attribute.
@@ -53,31 +53,15 @@ pub(crate) struct Known<'a> {
     pub(crate) owners: &'a Owners,
 }
 
-/// The place of a name among the explicit attributes that an entity newly declares.
-fn own_position(entity: &EntityDecl, name: &[u8]) -> Option<usize>
-    ensures { MatchOption result (¬ (IsIn (new_explicit (plain_entity entity.now).attributes) name.now)) (λ k. (k < length (new_explicit (plain_entity entity.now).attributes)) × (get_or (new_explicit (plain_entity entity.now).attributes) k [] ≡ name.now)) }
-{
-    let mut position = 0;
-    for attribute in &entity.attributes {
-        if attribute.of.is_none() {
-            if attribute.name.as_slice() == name {
-                return Some(position);
-            }
-            position += 1;
-        }
-    }
-    None
-}
-
-/// The attribute of this name that an entity newly declares as an explicit one.
-fn own_attribute(known: &Known, entity: usize, name: &[u8]) -> Option<usize>
+/// The attribute at a position among the explicit ones that an entity newly declares.
+fn own_attribute(known: &Known, entity: usize, position: usize) -> usize
     requires known { IsFitting known.now }
     requires entity { entity < length (known_schema known.now).entities }
-    ensures { MatchOption result (IsNotOwn (known_schema known.now) entity name.now) (λ i. IsOwnAt (known_schema known.now) entity name.now i) }
+    requires position { position < length (new_explicit (get_or (known_schema known.now).entities entity no_entity).attributes) }
+    ensures { IsOwnAt (known_schema known.now) entity (get_or (new_explicit (get_or (known_schema known.now).entities entity no_entity).attributes) position []) result }
 {
-    let position = own_position(&known.declarations.entities[entity], name)?;
     let own = known.own[entity];
-    Some(own.from + position)
+    own.from + position
 }
 
 /// Whether the first entity is the second, or has it as an ancestor.
@@ -96,15 +80,14 @@ fn attribute_above(known: &Known, entity: usize, name: &[u8]) -> Option<usize>
     requires entity { entity < length (known_schema known.now).entities }
     ensures { MatchOption result ((d : ℕ) → d < length (known_schema known.now).entities → IsA (known_schema known.now) (entity_id entity) (entity_id d) → IsNotOwn (known_schema known.now) d name.now) (λ i. (d : ℕ) × ((d < length (known_schema known.now).entities) × (IsA (known_schema known.now) (entity_id entity) (entity_id d) × IsOwnAt (known_schema known.now) d name.now i))) }
 {
+    let owners = known.owners.of(name);
     // Mostly it is the entity's own, and then no other has to be looked at.
-    if let Some(attribute) = own_attribute(known, entity, name) {
-        return Some(attribute);
+    if let Some(owner) = owner_at(owners, entity) {
+        return Some(own_attribute(known, owner.entity, owner.position));
     }
-    for owner in known.owners.of(name) {
-        if is_over(known, entity, *owner) {
-            if let Some(attribute) = own_attribute(known, *owner, name) {
-                return Some(attribute);
-            }
+    for owner in owners {
+        if is_over(known, entity, owner.entity) {
+            return Some(own_attribute(known, owner.entity, owner.position));
         }
     }
     None
@@ -133,10 +116,7 @@ fn explicit_attribute(
     ensures { IsDeclared (known_schema known.now) (written_explicit (get_or (known_schema known.now).entities entity no_entity).name (plain_attribute attribute.now)) result }
 {
     match &attribute.of {
-        None => {
-            let own = known.own[entity];
-            Some(own.from + position)
-        }
+        None => Some(own_attribute(known, entity, position)),
         Some(of) => again(known, of, &attribute.name),
     }
 }

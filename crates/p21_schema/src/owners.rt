@@ -1,76 +1,66 @@
-//! Which entities newly declare an explicit attribute of a name.
+//! Which entities newly declare an explicit attribute of a name, and where it stands among their own.
 
-ghost use Rattle.std.specs.Prelude.{◌≡◌, ◌<◌, ◌++◌, ◌∷◌, ℕ, [], length, get_or, map, set, IfOk, OnOk, None};
-ghost use Rattle.p21_express.specs.Plain.{plain_entity, plain_attribute};
+ghost use Rattle.std.specs.Prelude.{◌≡◌, ◌<◌, ◌++◌, ◌∷◌, ℕ, List, [], length, get_or, map, set, IfOk, IfSome, OnOk};
+ghost use Rattle.p21_express.specs.Plain.{plain_entity};
 ghost use Rattle.p21_express.specs.Schema.{Schema};
 ghost use Rattle.p21_express.specs.WellFormed.{IsIn, new_explicit};
 ghost use Rattle.p21_schema.specs.Graph.{rows_of};
-ghost use Rattle.p21_schema.specs.Owners.{IsListed, IsHeld, AreInLists, IsNoted, AreOwners};
+ghost use Rattle.p21_schema.specs.Owners.{IsListed, IsOwnedBy, AreInLists, IsNoted, AreOwners};
 
 use crate::names::Names;
-use p21_express::{AttrDecl, EntityDecl};
+use p21_express::EntityDecl;
 use p21_hash::HashKey;
 use std::alloc::{AllocError, Global};
 
-/// For each name the entities that newly declare an explicit attribute of it.
+/// An entity that newly declares an explicit attribute, and the attribute's position among those that it newly declares.
+#[derive(Clone, Copy, Debug)]
+pub(crate) struct Owner {
+    pub(crate) entity: usize,
+    pub(crate) position: usize,
+}
+
+/// For each name the owners of the explicit attributes of it, in the order of the entities.
 #[derive(Drop)]
 pub(crate) struct Owners {
     names: Names,
-    lists: Vec<Vec<usize>>,
+    lists: Vec<Vec<Owner>>,
 }
 
-/// One entity more in the list at a place.
-fn add(lists: &mut Vec<Vec<usize>>, place: usize, entity: usize) -> Result<(), AllocError>
+/// One owner more in the list at a place.
+fn add(lists: &mut Vec<Vec<Owner>>, place: usize, owner: Owner) -> Result<(), AllocError>
     requires { place < length (rows_of lists.old) }
-    ensures { OnOk result (rows_of lists.new ≡ set (rows_of lists.old) place (get_or (rows_of lists.old) place [] ++ entity ∷ [])) }
+    ensures { OnOk result (rows_of lists.new ≡ set (rows_of lists.old) place (get_or (rows_of lists.old) place [] ++ owner ∷ [])) }
 {
-    lists[place].push(entity)?;
+    lists[place].push(owner)?;
     Ok(())
 }
 
-/// A list more, of one entity.
-fn add_list(alloc: Global, lists: &mut Vec<Vec<usize>>, entity: usize) -> Result<(), AllocError>
-    ensures { OnOk result (rows_of lists.new ≡ rows_of lists.old ++ (entity ∷ []) ∷ []) }
+/// A list more, of one owner.
+fn add_list(alloc: Global, lists: &mut Vec<Vec<Owner>>, owner: Owner) -> Result<(), AllocError>
+    ensures { OnOk result (rows_of lists.new ≡ rows_of lists.old ++ (owner ∷ []) ∷ []) }
 {
     let mut list = Vec::new(alloc);
-    list.push(entity)?;
+    list.push(owner)?;
     lists.push(list)?;
     Ok(())
 }
 
-/// An entity goes into the list of a name.
-fn note(alloc: Global, owners: &mut Owners, name: &[u8], entity: usize) -> Result<(), AllocError>
+/// An owner goes into the list of a name.
+fn note(alloc: Global, owners: &mut Owners, name: &[u8], owner: Owner) -> Result<(), AllocError>
     requires { AreInLists owners.old }
-    ensures noted { OnOk result (IsNoted owners.old owners.new entity) }
-    ensures listed { OnOk result (IsListed owners.new name.now entity) }
+    ensures noted { OnOk result (IsNoted owners.old owners.new (λ n. λ o. (n ≡ name.now) × (o ≡ owner))) }
+    ensures listed { OnOk result (IsListed owners.new name.now owner) }
 {
     match owners.names.place(name) {
-        Some(place) => add(&mut owners.lists, place, entity),
+        Some(place) => add(&mut owners.lists, place, owner),
         None => {
             owners.names.push(alloc, name)?;
-            add_list(alloc, &mut owners.lists, entity)
+            add_list(alloc, &mut owners.lists, owner)
         }
     }
 }
 
-/// An entity goes into the list of the name that one of its attributes newly declares, where it does.
-fn note_attribute(
-    alloc: Global,
-    owners: &mut Owners,
-    attribute: &AttrDecl,
-    entity: usize,
-) -> Result<(), AllocError>
-    requires { AreInLists owners.old }
-    ensures noted { OnOk result (IsNoted owners.old owners.new entity) }
-    ensures listed { OnOk result ((plain_attribute attribute.now).of ≡ None → IsListed owners.new (plain_attribute attribute.now).name entity) }
-{
-    if attribute.of.is_some() {
-        return Ok(());
-    }
-    note(alloc, owners, &attribute.name, entity)
-}
-
-/// An entity goes into the lists of all names that it newly declares.
+/// An entity goes into the lists of all names that it newly declares, with the position of each.
 fn note_entity(
     alloc: Global,
     owners: &mut Owners,
@@ -78,13 +68,28 @@ fn note_entity(
     entity: usize,
 ) -> Result<(), AllocError>
     requires { AreInLists owners.old }
-    ensures noted { OnOk result (IsNoted owners.old owners.new entity) }
-    ensures listed { OnOk result ((n : _) → IsIn (new_explicit (plain_entity decl.now).attributes) n → IsListed owners.new n entity) }
+    ensures noted { OnOk result (IsNoted owners.old owners.new (λ n. λ o. (o.entity ≡ entity) × IsOwnedBy (plain_entity decl.now) n o.position)) }
+    ensures listed { OnOk result ((n : List ℕ) → IsIn (new_explicit (plain_entity decl.now).attributes) n → (position : ℕ) × IsListed owners.new n (record { entity = entity; position = position })) }
 {
+    let mut position = 0;
     for attribute in &decl.attributes {
-        note_attribute(alloc, owners, attribute, entity)?;
+        if attribute.of.is_none() {
+            note(alloc, owners, &attribute.name, Owner { entity, position })?;
+            position += 1;
+        }
     }
     Ok(())
+}
+
+/// The owner in a list that is this entity, by halving the list, which is in the order of the entities. That it is none is not told:
+/// a walk through the list finds it as well.
+pub(crate) fn owner_at(owners: &[Owner], entity: usize) -> Option<Owner>
+    ensures { IfSome result (λ owner. IsIn owners.now owner × (owner.entity ≡ entity)) }
+{
+    match owners.binary_search_by_key(&entity, |owner| owner.entity) {
+        Ok(place) => Some(owners[place]),
+        Err(_) => None,
+    }
 }
 
 impl Owners {
@@ -105,11 +110,11 @@ impl Owners {
         Ok(owners)
     }
 
-    /// Those that newly declare an explicit attribute of a name.
-    pub(crate) fn of(&self, name: &[u8]) -> &[usize]
+    /// The owners of the explicit attributes of a name.
+    pub(crate) fn of(&self, name: &[u8]) -> &[Owner]
         requires { AreInLists self.now }
-        ensures all { (e : ℕ) → IsListed self.now name.now e → IsIn result.now e }
-        ensures only { (e : ℕ) → IsIn result.now e → IsHeld self.now e }
+        ensures all { (o : _) → IsListed self.now name.now o → IsIn result.now o }
+        ensures only { (o : _) → IsIn result.now o → IsListed self.now name.now o }
     {
         match self.names.place(name) {
             Some(place) => &self.lists[place],

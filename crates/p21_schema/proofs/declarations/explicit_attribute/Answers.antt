@@ -1,11 +1,10 @@
-use Rattle.std.proofs.Common.{◌≡◌, ◌+◌, Some, None, option_map, get_or, refl, ap, ℕ}
+use Rattle.std.proofs.Common.{◌≡◌, Some, None, option_map, get_or, ap, subst, ℕ, List}
 use Rattle.std.specs.Prelude.{Vec}
 use Rattle.p21_express.specs.Plain.{plain_attribute}
-use Rattle.p21_schema.specs.DeclarationTable.{known_schema}
+use Rattle.p21_schema.specs.DeclarationTable.{known_schema, IsOwnAt}
 use Rattle.p21_schema.specs.Declaration.{written_explicit}
 use Rattle.p21_schema.specs.Place.{no_entity}
-use Rattle.p21_schema.specs.RowTable.{no_own}
-use Rattle.p21_schema.proofs.DeclarationLemmas.{explicit_redeclares, ancestor_known, declared_newly, declared_again, own_is_at}
+use Rattle.p21_schema.proofs.DeclarationLemmas.{explicit_redeclares, ancestor_known, declared_newly, declared_again}
 use Rattle.p21_schema.proofs.declarations.explicit_attribute.Goals as goal
 
 pub again-requires-clause-of : goal.again-requires-clause-of
@@ -15,15 +14,17 @@ again-requires-clause-of c =
     let r = explicit_redeclares s c.requires.known.well_formed c.args.entity c.requires.entity (plain_attribute c.args.attribute.now) c.in-Some.of.items c.requires.attribute of in
     rw c.deref.ensures.value (ancestor_known s c.requires.known.well_formed r.1.ancestor)
 
+pub own_attribute-requires-clause-position : goal.own_attribute-requires-clause-position
+own_attribute-requires-clause-position c = (c.requires.position (ap (option_map (λ (n : Vec ℕ _). n.items)) c.in-None.is)).0
+
 pub returns-in-None : goal.returns-in-None
 returns-in-None c =
     let s = known_schema c.args.known.now in
     let a = plain_attribute c.args.attribute.now in
-    let table = c.args.known.now.own.now in
     let e = c.args.entity in
     let of : a.of ≡ None = ap (option_map (λ (n : Vec ℕ _). n.items)) c.in-None.is in
-    declared_newly s c.requires.known.well_formed e a (Some ((get_or table e no_own).from + c.args.position)) c.requires.attribute of
-    (own_is_at s table e (get_or table e no_own) a.name c.args.position ((get_or table e no_own).from + c.args.position) c.requires.known.own c.requires.entity refl (c.requires.position of) refl)
+    declared_newly s c.requires.known.well_formed e a (Some c.own_attribute.result) c.requires.attribute of
+    (subst (λ (n : List ℕ). IsOwnAt s e n c.own_attribute.result) (c.requires.position of).1 c.own_attribute.ensures)
 
 pub returns-in-Some : goal.returns-in-Some
 returns-in-Some c =

@@ -2,7 +2,6 @@ use Rattle.std.proofs.Common.{◌≡◌, ℕ, List, length, get_or, sym, ap, sub
 use Rattle.std.proofs.lemmas.List.{length-map, get_or-map}
 use Rattle.p21_express.specs.Plain.{plain_entity}
 use Rattle.p21_express.specs.Schema.{Entity}
-use Rattle.p21_express.specs.WellFormed.{IsIn, new_explicit}
 use Rattle.p21_schema.specs.Owners.{AreOwners}
 use Rattle.p21_schema.specs.Place.{no_entity}
 use Rattle.p21_schema.proofs.OwnerLemmas.{owners_more}
@@ -20,7 +19,7 @@ loop-entity-preserved c =
       lists = noted.lists;
       owners = λ s is.
           let at : get_or s.entities k no_entity ≡ plain_entity item = ap (λ (es : List Entity). get_or es k no_entity) is ∙ get_or-map plain_entity c.args.entities.now k item no_entity c.loop-entity-test.true ∙ ap plain_entity (sym c.index-entities-entity.is) in
-          owners_more s k c.loop-entity.owners c.note_entity.new.owners (c.loop-entity.invariant.owners s is) noted (λ n i. c.in_ok-note_entity.ensures.listed n (subst (λ (e : Entity). IsIn (new_explicit e.attributes) n) at i));
+          owners_more s k c.loop-entity.owners c.note_entity.new.owners (plain_entity item) at (c.loop-entity.invariant.owners s is) noted c.in_ok-note_entity.ensures.listed;
     }
 
 pub returns : goal.returns
