@@ -16,7 +16,7 @@ use std::alloc::{AllocError, Global};
 use std::mem;
 use std::sync::Wait;
 
-/// How many results are gathered at most before pieces are dealt again: few, so that no worker waits for pieces meanwhile.
+/// How many results are gathered at most before pieces are dealt again: few, so that workers seldom wait for pieces meanwhile.
 const AT_ONCE: u32 = 64;
 
 /// Deals the pieces of a text to the lanes, and gathers what the workers return, in the order of the pieces.

@@ -8,7 +8,7 @@ use std::alloc::{AllocError, Global};
 /// The size of the blocks, in bytes: below that from which on each block is the system's own.
 const BLOCK: usize = 120_000;
 
-/// How many bytes of a file are read between two blocks. Their instances take about three times as much.
+/// How many bytes of a file are read between two blocks. Their instances take three to four times as much.
 const TEXT: usize = 32_768;
 
 /// How much of a file may be read with what was taken. No answer hangs on it.

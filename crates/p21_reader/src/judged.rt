@@ -110,7 +110,7 @@ pub(crate) trait EntityJudge {
         ensures entity { IfOk result (HasOwnEntity schema.now) };
 }
 
-/// Judges pieces as a `LocalReader` of the schema does, and looks each keyword up once.
+/// Judges pieces as a `LocalReader` of the schema does; the keyword of a simple instance without a fault is looked up once.
 #[derive(Clone, Copy)]
 pub(crate) struct Locally;
 

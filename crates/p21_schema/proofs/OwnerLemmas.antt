@@ -11,7 +11,7 @@ use Rattle.p21_express.specs.WellFormed.{IsIn, AreDistinct, new_explicit}
 use Rattle.p21_schema.specs.declared.owners.Owner.{Owner}
 use Rattle.p21_schema.specs.declared.owners.Owners.{Owners}
 use Rattle.p21_schema.specs.Graph.{rows_of}
-use Rattle.p21_schema.specs.Owners.{IsListed, IsOwned, IsOwnedBy, AreInLists, IsNoted, AreOwners}
+use Rattle.p21_schema.specs.Owners.{IsListed, IsOwned, OwnsAt, AreInLists, IsNoted, AreOwners}
 use Rattle.p21_schema.specs.Place.{no_entity}
 use Rattle.p21_schema.proofs.Members.{in_left, in_right, in_either, same_place}
 use Rattle.p21_schema.proofs.Members as members
@@ -139,12 +139,12 @@ noted_more a b c Further One such f g = record {
 }
 
 -- one owner is such as all of its entity
-pub owned_one : (d : Entity) (e position : ℕ) (m : List ℕ) → IsOwnedBy d m position → (n : List ℕ) (o : Owner) → (n ≡ m) × (o ≡ record { entity = e; position = position }) → (o.entity ≡ e) × IsOwnedBy d n o.position
+pub owned_one : (d : Entity) (e position : ℕ) (m : List ℕ) → OwnsAt d m position → (n : List ℕ) (o : Owner) → (n ≡ m) × (o ≡ record { entity = e; position = position }) → (o.entity ≡ e) × OwnsAt d n o.position
 owned_one d e position m owned n o q =
     let at : position ≡ o.position = sym (ap (λ (u : Owner). u.position) q.1) in
-    (ap (λ (u : Owner). u.entity) q.1, subst (λ (u : ℕ). IsOwnedBy d n u) at (subst (λ (u : List ℕ). IsOwnedBy d u position) (sym q.0) owned))
+    (ap (λ (u : Owner). u.entity) q.1, subst (λ (u : ℕ). OwnsAt d n u) at (subst (λ (u : List ℕ). OwnsAt d u position) (sym q.0) owned))
 
-pub owners_more : (s : Schema) (k : ℕ) (old new : Owners) (d : Entity) → get_or s.entities k no_entity ≡ d → AreOwners s k old → IsNoted old new (λ n. λ o. (o.entity ≡ k) × IsOwnedBy d n o.position)
+pub owners_more : (s : Schema) (k : ℕ) (old new : Owners) (d : Entity) → get_or s.entities k no_entity ≡ d → AreOwners s k old → IsNoted old new (λ n. λ o. (o.entity ≡ k) × OwnsAt d n o.position)
     → ((n : List ℕ) → IsIn (new_explicit d.attributes) n → (position : ℕ) × IsListed new n (record { entity = k; position = position })) → AreOwners s (k + 1) new
 owners_more s k old new d at h noted this = record {
   lists = noted.lists;
@@ -154,7 +154,7 @@ owners_more s k old new d at h noted this = record {
       (cases_eq e k);
   only = λ n o l. ⊎_elim
       (λ (b : IsListed old n o). let r = h.only n o b in let less : o.entity < k = r.0 in (omega (arith, less), r.1))
-      (λ (q : (o.entity ≡ k) × IsOwnedBy d n o.position). let is : o.entity ≡ k = q.0 in (omega (arith, is), subst (λ (u : Entity). IsOwnedBy u n o.position) (sym (ap (λ (u : ℕ). get_or s.entities u no_entity) is ∙ at)) q.1))
+      (λ (q : (o.entity ≡ k) × OwnsAt d n o.position). let is : o.entity ≡ k = q.0 in (omega (arith, is), subst (λ (u : Entity). OwnsAt u n o.position) (sym (ap (λ (u : ℕ). get_or s.entities u no_entity) is ∙ at)) q.1))
       (noted.only n o l);
 }
 

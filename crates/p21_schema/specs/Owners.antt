@@ -15,25 +15,25 @@ pub record IsListed (os : Owners) (n : List ℕ) (o : Owner) : Type 0 where
   pub listed : IsIn (get_or (rows_of os.lists) place []) o
 
 -- among the explicit attributes that an entity newly declares the one at this position has the name
-abbrev pub IsOwnedBy : Entity → List ℕ → ℕ → Type 0
-IsOwnedBy e n position = (position < length (new_explicit e.attributes)) × (get_or (new_explicit e.attributes) position [] ≡ n)
+abbrev pub OwnsAt : Entity → List ℕ → ℕ → Type 0
+OwnsAt e n position = (position < length (new_explicit e.attributes)) × (get_or (new_explicit e.attributes) position [] ≡ n)
 
--- the same of an owner in a schema
+-- among the explicit attributes that the owner's entity newly declares in a schema the one at the owner's position has the name
 abbrev pub IsOwned : Schema → List ℕ → Owner → Type 0
-IsOwned s n o = IsOwnedBy (get_or s.entities o.entity no_entity) n o.position
+IsOwned s n o = OwnsAt (get_or s.entities o.entity no_entity) n o.position
 
 -- each name has one list
 pub record AreInLists (os : Owners) : Type 0 where
   pub count : length (rows_of os.lists) ≡ length os.names
   pub distinct : AreDistinct os.names
 
--- the lists with further owners in some of them, each of which is such for the name of its list
+-- each name has one list, what was listed under a name still is, and what is listed there besides stands in the relation to it
 pub record IsNoted (old new : Owners) (Further : List ℕ → Owner → Type 0) : Type 0 where
   pub lists : AreInLists new
   pub keeps : (n : List ℕ) (o : Owner) → IsListed old n o → IsListed new n o
   pub only : (n : List ℕ) (o : Owner) → IsListed new n o → IsListed old n o ⊎ Further n o
 
--- each of the first so many entities stands in the lists of the names that it newly declares, and none stands in another list or with another position
+-- each name has one list; each of the first so many entities stands, with some position, in the list of each name of which it newly declares an explicit attribute; and whatever stands in a list is one of these entities, with a position at which it newly declares one of that name
 pub record AreOwners (s : Schema) (size : ℕ) (os : Owners) : Type 0 where
   pub lists : AreInLists os
   pub all : (e : ℕ) (n : List ℕ) → e < size → IsIn (new_explicit (get_or s.entities e no_entity).attributes) n → (position : ℕ) × IsListed os n (record { entity = e; position = position })

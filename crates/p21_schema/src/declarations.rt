@@ -1,6 +1,6 @@
 //! The declarations of each attribute.
 
-ghost use Rattle.std.specs.Prelude.{◌≡◌, ◌<◌, ◌↔◌, ◌++◌, ◌∷◌, ℕ, List, [], length, get_or, map, set, IfOk, OnOk, IsTrue, MatchOption, None};
+ghost use Rattle.std.specs.Prelude.{◌≡◌, ◌<◌, ◌↔◌, ◌++◌, ◌∷◌, ℕ, List, [], length, get_or, set, IfOk, OnOk, IsTrue, MatchOption, None};
 ghost use Rattle.p21_express.specs.Plain.{plain_attribute, plain_derived};
 ghost use Rattle.p21_schema.specs.DeclarationTable.{known_schema, IsNotOwn, IsOwnAt, IsOriginAt, IsDeclared, IsDeclarationTable, IsFitting};
 ghost use Rattle.p21_express.specs.WellFormed.{IsIn, IsEntity, IsOrigin, Origin, new_explicit};
@@ -81,7 +81,7 @@ fn attribute_above(known: &Known, entity: usize, name: &[u8]) -> Option<usize>
     ensures { MatchOption result ((d : ℕ) → d < length (known_schema known.now).entities → IsA (known_schema known.now) (entity_id entity) (entity_id d) → IsNotOwn (known_schema known.now) d name.now) (λ i. (d : ℕ) × ((d < length (known_schema known.now).entities) × (IsA (known_schema known.now) (entity_id entity) (entity_id d) × IsOwnAt (known_schema known.now) d name.now i))) }
 {
     let owners = known.owners.of(name);
-    // Mostly it is the entity's own, and then no other has to be looked at.
+    // Mostly it is the entity's own, and then none has to be asked whether it is above.
     if let Some(owner) = owner_at(owners, entity) {
         return Some(own_attribute(known, owner.entity, owner.position));
     }

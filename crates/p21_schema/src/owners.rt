@@ -5,7 +5,7 @@ ghost use Rattle.p21_express.specs.Plain.{plain_entity};
 ghost use Rattle.p21_express.specs.Schema.{Schema};
 ghost use Rattle.p21_express.specs.WellFormed.{IsIn, new_explicit};
 ghost use Rattle.p21_schema.specs.Graph.{rows_of};
-ghost use Rattle.p21_schema.specs.Owners.{IsListed, IsOwnedBy, AreInLists, IsNoted, AreOwners};
+ghost use Rattle.p21_schema.specs.Owners.{IsListed, OwnsAt, AreInLists, IsNoted, AreOwners};
 
 use crate::names::Names;
 use p21_express::EntityDecl;
@@ -68,7 +68,7 @@ fn note_entity(
     entity: usize,
 ) -> Result<(), AllocError>
     requires { AreInLists owners.old }
-    ensures noted { OnOk result (IsNoted owners.old owners.new (λ n. λ o. (o.entity ≡ entity) × IsOwnedBy (plain_entity decl.now) n o.position)) }
+    ensures noted { OnOk result (IsNoted owners.old owners.new (λ n. λ o. (o.entity ≡ entity) × OwnsAt (plain_entity decl.now) n o.position)) }
     ensures listed { OnOk result ((n : List ℕ) → IsIn (new_explicit (plain_entity decl.now).attributes) n → (position : ℕ) × IsListed owners.new n (record { entity = entity; position = position })) }
 {
     let mut position = 0;
@@ -81,8 +81,8 @@ fn note_entity(
     Ok(())
 }
 
-/// The owner in a list that is this entity, by halving the list, which is in the order of the entities. That it is none is not told:
-/// a walk through the list finds it as well.
+/// An owner of a list whose entity this is, found by halving the list, which `Owners` keeps in the order of the entities. `None` says
+/// nothing: no contract says that the list is in order, so whoever has to know goes through it.
 pub(crate) fn owner_at(owners: &[Owner], entity: usize) -> Option<Owner>
     ensures { IfSome result (λ owner. IsIn owners.now owner × (owner.entity ≡ entity)) }
 {

@@ -6,7 +6,7 @@ use Rattle.p21_express.specs.Plain.{plain_entity, plain_attribute}
 use Rattle.p21_express.specs.WellFormed.{IsIn, new_explicit}
 use Rattle.p21_schema.specs.declared.owners.Owner.{Owner}
 use Rattle.p21_schema.specs.declared.owners.Owners.{Owners}
-use Rattle.p21_schema.specs.Owners.{IsListed, IsNoted, IsOwnedBy}
+use Rattle.p21_schema.specs.Owners.{IsListed, IsNoted, OwnsAt}
 use Rattle.p21_schema.proofs.Members.{in_either}
 use Rattle.p21_schema.proofs.RowLemmas.{new_place, new_more, new_same, is_new, is_again}
 use Rattle.p21_schema.proofs.OwnerLemmas.{is_one, noted_none, noted_more, owned_one}
@@ -17,7 +17,7 @@ pub loop-attribute-init : goal.loop-attribute-init
 loop-attribute-init c = record {
   position = refl;
   few = omega arith;
-  noted = noted_none c.args.owners.now (λ n. λ o. (o.entity ≡ c.args.entity) × IsOwnedBy (plain_entity c.args.decl.now) n o.position) c.requires;
+  noted = noted_none c.args.owners.now (λ n. λ o. (o.entity ≡ c.args.entity) × OwnsAt (plain_entity c.args.decl.now) n o.position) c.requires;
   listed = λ n i. absurd i;
 }
 
@@ -47,13 +47,13 @@ loop-attribute-preserved c =
           let called = w.deref.result.now in
           let is_name : called ≡ name = w.deref.ensures.value in
           let named : get_or (new_explicit xs) position [] ≡ called = ap (λ (u : ℕ). get_or (new_explicit xs) u []) inv.position ∙ p.1 ∙ ap (λ (a : Attribute). a.name) at ∙ sym is_name in
-          let owned : IsOwnedBy d called position = (subst (λ u. u < length (new_explicit xs)) (sym inv.position) p.0, named) in
+          let owned : OwnsAt d called position = (subst (λ u. u < length (new_explicit xs)) (sym inv.position) p.0, named) in
           let this : Owner = record { entity = e; position = position } in
           let kept = w.in_ok-note.ensures.noted.keeps in
           record {
             position = w.position-is ∙ ap (λ (n : ℕ). n + 1) inv.position ∙ sym (ap length more ∙ length-append (new_explicit (take k xs)) (name ∷ []));
             few = subst (λ (u : ℕ). u ≤ k + 1) (sym w.position-is) (omega (arith, inv.few));
-            noted = subst (λ (u : Owners). IsNoted c.args.owners.now u (λ n. λ o. (o.entity ≡ e) × IsOwnedBy d n o.position)) (sym w.owners-is) (noted_more c.args.owners.now c.loop-attribute.owners w.note.new.owners (λ n. λ o. (o.entity ≡ e) × IsOwnedBy d n o.position) (λ n. λ o. (n ≡ called) × (o ≡ this)) (owned_one d e position called owned) inv.noted w.in_ok-note.ensures.noted);
+            noted = subst (λ (u : Owners). IsNoted c.args.owners.now u (λ n. λ o. (o.entity ≡ e) × OwnsAt d n o.position)) (sym w.owners-is) (noted_more c.args.owners.now c.loop-attribute.owners w.note.new.owners (λ n. λ o. (o.entity ≡ e) × OwnsAt d n o.position) (λ n. λ o. (n ≡ called) × (o ≡ this)) (owned_one d e position called owned) inv.noted w.in_ok-note.ensures.noted);
             listed = λ n i. subst (λ (u : Owners). (place : ℕ) × IsListed u n (record { entity = e; position = place })) (sym w.owners-is) (⊎_elim
                 (λ (l : IsIn (new_explicit (take k xs)) n). let r = inv.listed n l in (r.0, kept n (record { entity = e; position = r.0 }) r.1))
                 (λ (r : IsIn (name ∷ []) n). (position, subst (λ (u : List ℕ). IsListed w.note.new.owners u this) (is_name ∙ sym (is_one name n r)) w.in_ok-note.ensures.listed))
@@ -65,7 +65,7 @@ loop-attribute-preserved c =
           record {
             position = w.position-is ∙ inv.position ∙ ap length (sym same);
             few = subst (λ (u : ℕ). u ≤ k + 1) (sym w.position-is) (omega (arith, inv.few));
-            noted = subst (λ (u : Owners). IsNoted c.args.owners.now u (λ n. λ o. (o.entity ≡ e) × IsOwnedBy d n o.position)) (sym w.owners-is) inv.noted;
+            noted = subst (λ (u : Owners). IsNoted c.args.owners.now u (λ n. λ o. (o.entity ≡ e) × OwnsAt d n o.position)) (sym w.owners-is) inv.noted;
             listed = λ n i. subst (λ (u : Owners). (place : ℕ) × IsListed u n (record { entity = e; position = place })) (sym w.owners-is) (inv.listed n (subst (λ (u : List (List ℕ)). IsIn u n) same i));
           }
     ]
