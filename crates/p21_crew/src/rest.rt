@@ -1,17 +1,18 @@
 //! How the threads of a crew wait for each other.
 
-use crossbeam_utils::Backoff;
 use crossbeam_utils::sync::{Parker, Unparker};
 use std::alloc::{AllocError, Global};
+use std::hint;
 use std::sync::Wait;
 
-/// How often a thread that has nothing to do looks again before it sleeps. To be woken costs both sides more than many looks.
+/// How often a thread that has nothing to do looks again, two pauses of the processor apart, before it sleeps. To be woken costs both
+/// sides more than many looks.
 const LOOKS: u32 = 512;
 
-/// Where a thread waits that has nothing to do: it pauses, then yields, and then sleeps until it is woken.
+/// Where a thread waits that has nothing to do: it looks again for some microseconds, and then sleeps until it is woken. It never yields
+/// its processor: where other programs want it, it would come back only after their whole turn, and whoever sleeps is woken sooner.
 #[derive(Drop)]
 pub(crate) struct Rest {
-    backoff: Backoff,
     /// How often it looked in vain.
     looks: u32,
     parker: Parker,
@@ -27,7 +28,6 @@ impl Rest {
     /// A place to rest at. An error means that memory was refused.
     pub(crate) fn new(alloc: Global) -> Result<Rest, AllocError> {
         Ok(Rest {
-            backoff: Backoff::new(),
             looks: 0,
             parker: Parker::new(alloc)?,
         })
@@ -43,10 +43,10 @@ impl Rest {
     /// Rests where nothing was done: the longer so, the longer.
     pub(crate) fn rest_unless<R: Wait>(&mut self, rt: &R, busy: bool) {
         if busy {
-            self.backoff.reset();
             self.looks = 0;
         } else if self.looks < LOOKS {
-            self.backoff.snooze();
+            hint::spin_loop();
+            hint::spin_loop();
             self.looks += 1;
         } else {
             self.parker.park(rt);
