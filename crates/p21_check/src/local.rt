@@ -23,7 +23,7 @@ use p21_tree::{FaultKind, RawInstance, Record};
 /// (`Schema::distinct`), `RepeatedReference` where a list in a parameter names one instance twice and stands for a SET or a
 /// LIST OF UNIQUE, by a declaration of the attribute that counts.
 ///
-/// This takes no memory.
+/// This takes no memory but for the names of such a list of more than 16384 elements, where there is some.
 pub fn check_local(schema: &Schema, instance: &RawInstance<'_>) -> Result<(), FaultKind>
     ensures { MatchResult result (λ _. IsLocalFault schema.now (plain_instance instance.now) None) (λ kind. IsLocalFault schema.now (plain_instance instance.now) (Some kind)) }
 {
@@ -33,8 +33,6 @@ pub fn check_local(schema: &Schema, instance: &RawInstance<'_>) -> Result<(), Fa
 
 /// Checks one instance by itself as `check_local` does, and answers its entity where it is a simple one without a fault, so
 /// that its keyword is looked up once.
-///
-/// This takes no memory.
 pub fn check_local_entity(
     schema: &Schema,
     instance: &RawInstance<'_>,

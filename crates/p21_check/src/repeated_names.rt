@@ -1,6 +1,6 @@
-//! Whether a list names an instance twice, without memory and with few passes over the list.
+//! Whether a list names an instance twice.
 
-ghost use Rattle.std.specs.Prelude.{◌≡◌, ◌⊎◌, ◌↔◌, ◌<◌, ◌≤◌, ◌%◌, true, take, length, IsTrue};
+ghost use Rattle.std.specs.Prelude.{◌≡◌, ◌⊎◌, ◌↔◌, ◌<◌, ◌≤◌, ◌%◌, true, take, length, IsTrue, IfOk};
 ghost use Rattle.std.specs.List.Sorted.{IsNonDecreasing};
 ghost use Rattle.p21_express.specs.WellFormed.{IsIn};
 ghost use Rattle.p21_tree.specs.Plain.{plain};
@@ -8,6 +8,7 @@ ghost use Rattle.p21_check.specs.Repeats.{name_in, HasTwice};
 ghost use Rattle.p21_check.specs.RepeatedNames.{names_of, HasCommon, IsAbove, AreMarked};
 
 use p21_tree::Param;
+use std::alloc::{AllocError, Global};
 
 /// How many elements a short list has at most.
 const FEW: usize = 32;
@@ -15,14 +16,15 @@ const FEW: usize = 32;
 /// How many elements a list of middle length has at most.
 const SOME: usize = 1024;
 
-/// How many names of a long list are compared in one pass.
+/// How many elements a list has at most whose names fit into a table on the stack.
 const MANY: usize = 16384;
 
 /// Whether two elements are one instance name. Other elements are not compared.
 ///
-/// Names that do not rise go part by part into a table on the stack, are sorted there and marked, and each name behind the part is
-/// looked up in it. So n names take n * n / 32768 look-ups at most, in whatever order they stand and whatever they are.
-pub(crate) fn repeats_name(elements: &[Param<'_>]) -> bool
+/// Names that do not rise are sorted: n * log n steps for n names, in whatever order they stand and whatever they are. A list of up to
+/// 16384 elements takes no memory. Where a longer one is refused memory for its names, they go part by part into a table on the stack, are
+/// sorted there and marked, and each name behind the part is looked up in it: n * n / 32768 look-ups at most.
+pub(crate) fn repeats_name(alloc: Global, elements: &[Param<'_>]) -> bool
     ensures { IsTrue result ↔ HasTwice (names_of elements.now) }
 {
     // Most lists name instances in the order of their names.
@@ -35,7 +37,41 @@ pub(crate) fn repeats_name(elements: &[Param<'_>]) -> bool
     if elements.len() <= SOME {
         return repeats_among_some(elements);
     }
-    repeats_among_many(elements)
+    if elements.len() <= MANY {
+        return repeats_among_many(elements);
+    }
+    repeats_among_all(alloc, elements)
+}
+
+/// Whether two elements are, by all names at once where there is memory for them.
+fn repeats_among_all(alloc: Global, elements: &[Param<'_>]) -> bool
+    ensures { IsTrue result ↔ HasTwice (names_of elements.now) }
+{
+    match names_among(alloc, elements) {
+        Ok(mut names) => repeats_when_sorted(names.as_mut_slice()),
+        Err(AllocError) => repeats_among_many(elements),
+    }
+}
+
+/// The instance names among some elements.
+fn names_among(alloc: Global, elements: &[Param<'_>]) -> Result<Vec<u64>, AllocError>
+    ensures { IfOk result (λ names. names.items ≡ names_of elements.now) }
+{
+    let mut names = Vec::with_capacity(alloc, elements.len())?;
+    for element in elements {
+        if let Some(name) = name_of(element) {
+            names.push(name)?;
+        }
+    }
+    Ok(names)
+}
+
+/// Whether one of these names stands twice. They are sorted.
+fn repeats_when_sorted(names: &mut [u64]) -> bool
+    ensures { IsTrue result ↔ HasTwice names.old }
+{
+    names.sort_unstable();
+    has_twice(names)
 }
 
 // A function pays at its beginning for all its tables, so each table stands in one of its own, which stays one.

@@ -11,6 +11,7 @@ use crate::lists::Lists;
 use crate::repeated_names::repeats_name;
 use p21_schema::Schema;
 use p21_tree::Param;
+use std::alloc::Global;
 
 /// Whether a list in the parameter does, at any depth.
 pub(crate) fn repeats<'s>(schema: &'s Schema, lists: Lists<'s>, param: &Param<'_>) -> bool
@@ -20,7 +21,7 @@ pub(crate) fn repeats<'s>(schema: &'s Schema, lists: Lists<'s>, param: &Param<'_
     match param {
         Param::Items(elements) => {
             let inner = lists.of_elements(schema);
-            if repeats_here(lists, elements) {
+            if repeats_here(lists, *elements.allocator(), elements) {
                 return true;
             }
             // Lists of numbers and of instance names are many and long.
@@ -40,10 +41,10 @@ pub(crate) fn repeats<'s>(schema: &'s Schema, lists: Lists<'s>, param: &Param<'_
 }
 
 /// Whether these elements of a list do, where no two of them may be equal.
-fn repeats_here(lists: Lists<'_>, elements: &[Param<'_>]) -> bool
+fn repeats_here(lists: Lists<'_>, alloc: Global, elements: &[Param<'_>]) -> bool
     ensures { IsTrue result ↔ ((is_unique lists.entry ≡ true) × HasTwice (names_of elements.now)) }
 {
-    lists.is_unique() && repeats_name(elements)
+    lists.is_unique() && repeats_name(alloc, elements)
 }
 
 /// Whether a list may stand in the parameter.
