@@ -87,12 +87,25 @@ fn push_excerpt(
     say(&mut margin, &[Part::Number(place.line as u64)])?;
     let room = width.saturating_sub(margin.len()).max(FEWEST);
     let before = end_shown(alloc, &line[..offset], room / 3 * 2)?;
-    let columns = before.as_str().width();
+    push_marked(text, &margin, before.as_str(), &line[offset..], room)
+}
 
-    push_shown(text, &margin, usize::MAX)?;
+/// Adds a line by what is shown of it before a place and what stands behind, in so many columns, and a line with a caret under the place.
+fn push_marked(
+    text: &mut String,
+    margin: &[u8],
+    before: &str,
+    behind: &[u8],
+    room: usize,
+) -> Result<(), AllocError>
+    requires { IsPrinted (string_bytes text.old) }
+    ensures { OnOk result (IsPrinted (string_bytes text.new)) }
+{
+    let columns = before.width();
+    push_shown(text, margin, usize::MAX)?;
     push_shown(text, b" | ", usize::MAX)?;
     push_shown(text, before.as_bytes(), usize::MAX)?;
-    let is_whole = push_shown(text, &line[offset..], room.saturating_sub(columns))?;
+    let is_whole = push_shown(text, behind, room.saturating_sub(columns))?;
     let left_out: &[u8] = if is_whole { b"" } else { LEFT_OUT };
     push_shown(text, left_out, usize::MAX)?;
     push_line_end(text)?;

@@ -110,26 +110,38 @@ pub(crate) fn say_meaning(
 fn say_under<'a>(said: &mut Vec<u8>, under: &'a Under) -> Result<Option<&'a [u8]>, AllocError> {
     match under {
         Under::Items(items) => {
-            say(said, &[Part::Words(", which is an ENUMERATION OF (")])?;
-            say_names(said, items)?;
-            say(said, &[Part::Words(")")])?;
+            say_listed(said, ", which is an ENUMERATION OF (", items)?;
             Ok(None)
         }
         Under::Select(items) => {
-            say(said, &[Part::Words(", which is a SELECT (")])?;
-            say_names(said, items)?;
-            say(said, &[Part::Words(")")])?;
+            say_listed(said, ", which is a SELECT (", items)?;
             Ok(None)
         }
         Under::Plain(texpr) => {
-            say(
-                said,
-                &[Part::Words(", which is "), Part::Words(article_of(texpr))],
-            )?;
-            say_type(said, texpr)?;
+            say_plain(said, texpr)?;
             Ok(name_in(texpr))
         }
     }
+}
+
+/// Adds the names of a list, which stand in parentheses that these words open.
+fn say_listed(
+    said: &mut Vec<u8>,
+    words: &'static str,
+    items: &[Vec<u8>],
+) -> Result<(), AllocError> {
+    say(said, &[Part::Words(words)])?;
+    say_names(said, items)?;
+    say(said, &[Part::Words(")")])
+}
+
+/// Adds which type another one is.
+fn say_plain(said: &mut Vec<u8>, texpr: &TypeExpr) -> Result<(), AllocError> {
+    say(
+        said,
+        &[Part::Words(", which is "), Part::Words(article_of(texpr))],
+    )?;
+    say_type(said, texpr)
 }
 
 /// The article before a type.

@@ -95,19 +95,17 @@ impl<'a, C: Clock, P: Write> Explainer<'a, C, P> {
     }
 
     fn add_line(&mut self, path: &str, words: &str) -> Result<(), AllocError> {
-        let told = explain_device(self.alloc, path, words)?;
-        self.said.push_str(told.as_str())
+        say(&mut self.said, explain_device(self.alloc, path, words)?)
     }
 
     /// Adds the first faults, and of several a summary.
     fn add(&mut self, schema: &Schema, file: &[u8], faults: &[Fault]) -> Result<(), AllocError> {
         for fault in faults.iter().take(self.most) {
             let told = explain_fault(self.alloc, schema, self.file, file, fault, COLUMNS)?;
-            self.said.push_str(told.as_str())?;
+            say(&mut self.said, told)?;
         }
         if faults.len() > 1 {
-            let told = summary(self.alloc, schema, file, faults)?;
-            self.said.push_str(told.as_str())?;
+            say(&mut self.said, summary(self.alloc, schema, file, faults)?)?;
         }
         Ok(())
     }
@@ -115,7 +113,7 @@ impl<'a, C: Clock, P: Write> Explainer<'a, C, P> {
     /// Adds the fault of a schema.
     fn add_refused(&mut self, text: &[u8], error: &SchemaError) -> Result<(), AllocError> {
         let told = explain_schema_fault(self.alloc, self.schema, text, error, COLUMNS)?;
-        self.said.push_str(told.as_str())
+        say(&mut self.said, told)
     }
 }
 
@@ -148,4 +146,9 @@ impl<C: Clock, P: Write> Listener for Explainer<'_, C, P> {
     fn let_go<T: Drop>(&mut self, read: T) {
         forget(read);
     }
+}
+
+/// Adds a text to what is said.
+fn say(said: &mut String, told: String) -> Result<(), AllocError> {
+    said.push_str(told.as_str())
 }

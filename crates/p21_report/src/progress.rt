@@ -189,13 +189,7 @@ fn pieces_in(file: &[u8]) -> u64 {
 
 /// How many semicolons some bytes have.
 fn semicolons_in(bytes: &[u8]) -> u64 {
-    let mut count: u64 = 0;
-    for byte in bytes {
-        if *byte == b';' {
-            count = count.saturating_add(1);
-        }
-    }
-    count
+    bytes.iter().filter(|byte| **byte == b';').count() as u64
 }
 
 /// A clock that tells no time: nothing is shown by it.

@@ -19,6 +19,7 @@ use p21_reader::{AllFaults, ReadError, Reading, read_all_faults, read_lanes};
 use p21_render::{render_all_by_threads, render_by_threads, schema_fault_line};
 use p21_schema::Schema;
 use std::alloc::{AllocError, Global};
+use std::slice;
 use std::sync::Wait;
 use std::thread::Threads;
 
@@ -137,7 +138,7 @@ fn hear_reading<L: Listener>(
     reading: &Reading<'_>,
 ) {
     if let Err(fault) = &reading.answer {
-        listener.hear(schema, file, &[*fault]);
+        listener.hear(schema, file, slice::from_ref(fault));
     }
 }
 
