@@ -17,15 +17,7 @@ pub(crate) enum ProgramError {
     Device,
     /// Memory was refused, or a thread for a lane.
     #[error("p21check: out of memory")]
-    Memory(AllocError),
-}
-
-impl From<AllocError> for ProgramError {
-    ghost from_gives = { λ error e. e ≡ Memory error };
-
-    fn from(error: AllocError) -> ProgramError {
-        ProgramError::Memory(error)
-    }
+    Memory(#[from(alloc)] AllocError),
 }
 
 impl From<clap::Error> for ProgramError {
