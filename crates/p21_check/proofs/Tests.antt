@@ -2,6 +2,10 @@
 use Rattle.std.proofs.Common.{◌≡◌, ◌⊎◌, ◌↔◌, ⊎_elim, inl, inr, Bool, true, false, IsTrue, sym, ◌∙◌}
 use Rattle.std.proofs.lemmas.Bool.{false≢true}
 
+-- the other way round
+pub turned : {A B : Type 0} → A ↔ B → B ↔ A
+turned f = (f.1, f.0)
+
 -- one way and back, through a third
 pub both : {A B C : Type 0} → A ↔ B → B ↔ C → A ↔ C
 both f g = (λ a. g.0 (f.0 a), λ c. f.1 (g.1 c))

@@ -1,12 +1,8 @@
-use Rattle.std.proofs.Common.{◌↔◌}
 use Rattle.std.proofs.lemmas.List.Sorted.{IsNonDecreasingBy-from_sort}
 use Rattle.p21_check.specs.RepeatedNames.{names_of}
-use Rattle.p21_check.proofs.Tests.{both, either_true, either_false}
+use Rattle.p21_check.proofs.Tests.{turned, both, either_true, either_false}
 use Rattle.p21_check.proofs.TwiceLemmas.{twice_permuted, common_permuted}
 use Rattle.p21_check.proofs.repeated_names.repeats_in_part.Goals as goal
-
-turned : {A B : Type 0} → A ↔ B → B ↔ A
-turned f = (f.1, f.0)
 
 pub has_twice-requires : goal.has_twice-requires
 has_twice-requires c = IsNonDecreasingBy-from_sort (λ x. x) c.sort_unstable.new.self c.sort_unstable.ensures.sorted

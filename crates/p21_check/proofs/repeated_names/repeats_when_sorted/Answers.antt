@@ -1,11 +1,7 @@
-use Rattle.std.proofs.Common.{◌↔◌}
 use Rattle.std.proofs.lemmas.List.Sorted.{IsNonDecreasingBy-from_sort}
-use Rattle.p21_check.proofs.Tests.{both}
+use Rattle.p21_check.proofs.Tests.{turned, both}
 use Rattle.p21_check.proofs.TwiceLemmas.{twice_permuted}
 use Rattle.p21_check.proofs.repeated_names.repeats_when_sorted.Goals as goal
-
-turned : {A B : Type 0} → A ↔ B → B ↔ A
-turned f = (f.1, f.0)
 
 pub has_twice-requires : goal.has_twice-requires
 has_twice-requires c = IsNonDecreasingBy-from_sort (λ x. x) c.sort_unstable.new.self c.sort_unstable.ensures.sorted
