@@ -5,7 +5,7 @@ use Rattle.std.proofs.lemmas.Bool.{cases_eq, cases_lt}
 use Rattle.std.proofs.lemmas.List.{length-map, get_or-map, length-set, get_or-set_same, get_or-set_other, take_more, append-nil, map-append, get_or-replicate, length-replicate, get_or_past}
 use Rattle.std.proofs.lemmas.Slice.Zip.{all_zipped_more}
 use Rattle.p21_express.specs.Schema.{Schema, Entity, Attribute, Derived}
-use Rattle.p21_express.specs.WellFormed.{IsIn, IsEntity, IsKnown, one, more, Origin, IsOrigin, IsNewIn, IsAncestor, DeclaresAgain, DeclareAgain, IsRedeclaring, IsWellFormed, Redeclaration, redeclarations, again_explicit, again_derived, with_again, new_explicit, new_derived, with_new, HasNoUnknown}
+use Rattle.p21_express.specs.WellFormed.{IsIn, AreDistinct, IsEntity, IsKnown, one, more, Origin, IsOrigin, IsNewIn, IsAncestor, DeclaresAgain, DeclareAgain, IsRedeclaring, IsWellFormed, Redeclaration, redeclarations, again_explicit, again_derived, with_again, new_explicit, new_derived, new_names, with_new, HasNoUnknown}
 use Rattle.p21_schema.specs.declared.declarations.Declaration.{Declaration as Coded}
 use Rattle.p21_schema.specs.declared.rows.Own.{Own}
 use Rattle.p21_schema.specs.Place.{no_entity, entity_name}
@@ -13,9 +13,9 @@ use Rattle.p21_schema.specs.Ancestry.{entity_id, IsA}
 use Rattle.p21_schema.specs.Row.{own_attributes, attributes_of, no_attribute}
 use Rattle.p21_schema.specs.RowTable.{IsOwnTable, no_own}
 use Rattle.p21_schema.specs.Declaration.{derived, explicit, Declaration, Written, written_explicit, written_derived, explicit_in, derived_in, written, is_explicit, Declares, newly, again, Chosen, none, kept, dropped, declaration, AreDeclarations, IsResolvedDeclaration, AreResolvedIn}
-use Rattle.p21_schema.specs.DeclarationTable.{AreAmong, IsDeclarationTable, IsNotOwn, IsOwnAt, IsOriginAt, IsDeclared}
-use Rattle.p21_schema.proofs.Members.{at_place, in_either, in_left, in_right, from_map, holds_of, same_place}
-use Rattle.p21_schema.proofs.AncestryLemmas.{distinct_entities, supertypes_known}
+use Rattle.p21_schema.specs.DeclarationTable.{AreAmong, IsDeclarationTable, IsNotOwn, IsOwnAt, HasOneOrigin, IsOriginAt, IsDeclared}
+use Rattle.p21_schema.proofs.Members.{at_place, in_either, in_left, in_right, from_map, holds_of, same_place, distinct_apart}
+use Rattle.p21_schema.proofs.AncestryLemmas.{distinct_entities, supertypes_known, name_at, name_count}
 use Rattle.p21_schema.proofs.RowLemmas.{own_at, own_below, attributes_distinct}
 
 -- ---- what is newly declared
@@ -120,6 +120,29 @@ module _ (s : Schema) (formed : IsWellFormed s) where
         name = ap (λ (u : Origin). u.name) own.is;
         origin = subst (λ (u : List ℕ). IsOrigin s of n u) by (above, new);
       }
+
+  -- what is declared again has one origin
+  pub one_origin : {e : List ℕ} {r : Redeclaration} {d : List ℕ} → DeclaresAgain s e r d → HasOneOrigin s r.of r.name
+  one_origin h = λ a b x y. h.only a x ∙ sym (h.only b y)
+
+  -- where there is one origin at most, two that newly declare the name are one entity
+  one_owner : (i a b : ℕ) (n : List ℕ) → HasOneOrigin s (entity_name s (entity_id i)) n → a < length s.entities → b < length s.entities → IsA s (entity_id i) (entity_id a) → IsA s (entity_id i) (entity_id b)
+      → IsIn (new_names (get_or s.entities a no_entity)) n → IsIn (new_names (get_or s.entities b no_entity)) n → a ≡ b
+  one_owner i a b n single less-a less-b over-a over-b newly-a newly-b =
+      let new : (e : ℕ) → e < length s.entities → IsIn (new_names (get_or s.entities e no_entity)) n → IsNewIn s (get_or s.entities e no_entity).name n =
+      λ e less newly. record { entity = get_or s.entities e no_entity; declared = at_place s.entities e no_entity less; name_is = refl; newly = newly } in
+      let same = single (get_or s.entities a no_entity).name (get_or s.entities b no_entity).name (over-a, new a less-a newly-a) (over-b, new b less-b newly-b) in
+      same_place (map (λ (e : Entity). e.name) s.entities) a b [] (distinct_entities s formed.repeated) (subst (λ u. a < u) (sym (name_count s)) less-a) (subst (λ u. b < u) (sym (name_count s)) less-b) (name_at s a ∙ same ∙ sym (name_at s b))
+
+  -- and where one of them newly declares it in DERIVE, none does as an explicit one
+  pub none_beside : (i d : ℕ) (n : List ℕ) → HasOneOrigin s (entity_name s (entity_id i)) n → d < length s.entities → IsA s (entity_id i) (entity_id d) → IsIn (new_derived (get_or s.entities d no_entity).derived) n
+      → (e : ℕ) → e < length s.entities → IsA s (entity_id i) (entity_id e) → IsNotOwn s e n
+  none_beside i d n single less over derived_there e less' over' = λ own.
+      let this = get_or s.entities d no_entity in
+      let other = get_or s.entities e no_entity in
+      let same : e ≡ d = one_owner i e d n single less' less over' over (in_left (new_explicit other.attributes) (new_derived other.derived) n own) (in_right (new_explicit this.attributes) (new_derived this.derived) n derived_there) in
+      distinct_apart (new_explicit this.attributes) (new_derived this.derived) n (holds_of (λ (x : Entity). AreDistinct (new_names x)) s.entities this formed.repeated.attributes (at_place s.entities d no_entity less))
+      (subst (λ (u : ℕ). IsIn (new_explicit (get_or s.entities u no_entity).attributes) n) same own) derived_there
 
 -- ---- what is declared
 

@@ -1,20 +1,21 @@
 -- Which entities newly declare an explicit attribute of a name, by lists.
-use Rattle.std.proofs.Common.{◌≡◌, ℕ, ◌+◌, ◌<◌, List, [], ◌∷◌, ◌++◌, ◌⊎◌, length, get_or, set, refl, sym, ap, ◌∙◌, subst, inl, inr, ⊎_elim, arith}
+use Rattle.std.proofs.Common.{◌≡◌, ℕ, ◌+◌, ◌<◌, List, [], ◌∷◌, ◌++◌, ◌⊎◌, length, get_or, set, take, Option, Some, None, refl, sym, ap, ◌∙◌, subst, inl, inr, ⊎_elim, arith}
 use Rattle.std.proofs.lemmas.Bool.{cases_eq}
-use Rattle.std.proofs.lemmas.List.{length-set, length_push, get_or-set_same, get_or-set_other, get_or_append_left, get_or_push}
+use Rattle.std.proofs.lemmas.List.{length-set, length_push, get_or-set_same, get_or-set_other, get_or_append_left, get_or_push, take_more, append-nil}
 use Rattle.std.specs.List.{HoldsAt}
 use Rattle.std.specs.Ordering.{nat_cmp}
 use Rattle.std.specs.declared.cmp.Ordering.TheVariants.{Equal}
 use Rattle.std.specs.FinMap.{nat_cmp-IsAntisymmetric}
-use Rattle.p21_express.specs.Schema.{Schema, Entity}
-use Rattle.p21_express.specs.WellFormed.{IsIn, AreDistinct, new_explicit}
+use Rattle.p21_express.specs.Schema.{Schema, Entity, Derived}
+use Rattle.p21_express.specs.WellFormed.{IsIn, AreDistinct, with_new, new_derived, new_names}
 use Rattle.p21_schema.specs.declared.owners.Owner.{Owner}
 use Rattle.p21_schema.specs.declared.owners.Owners.{Owners}
 use Rattle.p21_schema.specs.Graph.{rows_of}
-use Rattle.p21_schema.specs.Owners.{IsListed, IsOwned, OwnsAt, AreInLists, IsNoted, AreOwners}
+use Rattle.p21_schema.specs.Owners.{IsListed, AreListed, IsOwned, IsOwnerIn, OwnsAt, AreInLists, IsNoted, AreOwners}
 use Rattle.p21_schema.specs.Place.{no_entity}
 use Rattle.p21_schema.proofs.Members.{in_left, in_right, in_either, same_place}
 use Rattle.p21_schema.proofs.Members as members
+use Rattle.p21_schema.proofs.RowLemmas.{with_new_append}
 
 pub is_one : {X : Type 0} (y x : X) → IsIn (y ∷ []) x → x ≡ y
 is_one y x h = ⊎_elim (λ (e : y ≡ x). sym e) (λ (n : ⊥). absurd n) h
@@ -126,6 +127,30 @@ module _ (old new : Owners) (owner : Owner) (n : List ℕ) (h : AreInLists old) 
     listed = subst (λ (u : List Owner). IsIn u owner) (sym list_last) (inl refl);
   }
 
+-- ---- what is new in DERIVE
+
+pub in_derived : (xs : List Derived) (a : Derived) → IsIn xs a → a.of ≡ None → IsIn (new_derived xs) a.name
+in_derived [] a i e = absurd i
+in_derived (x ∷ xs) a (inl h) e = subst (λ (o : Option (List ℕ)). IsIn (with_new o x.name (new_derived xs)) a.name) (sym (ap (λ (b : Derived). b.of) h ∙ e)) (inl (ap (λ (b : Derived). b.name) h))
+in_derived (x ∷ xs) a (inr h) e = later x.of x.name (new_derived xs) (in_derived xs a h e)
+  where
+    later : (o : Option (List ℕ)) (n : List ℕ) (ns : List (List ℕ)) → IsIn ns a.name → IsIn (with_new o n ns) a.name
+    later None n ns i = inr i
+    later (Some p) n ns i = i
+
+derived_append : (xs ys : List Derived) → new_derived (xs ++ ys) ≡ new_derived xs ++ new_derived ys
+derived_append [] ys = refl
+derived_append (a ∷ others) ys = ap (λ (u : List (List ℕ)). with_new a.of a.name u) (derived_append others ys) ∙ with_new_append a.of a.name (new_derived others) (new_derived ys)
+
+derived_at : (xs : List Derived) (i : ℕ) (d : Derived) → i < length xs → new_derived (take (i + 1) xs) ≡ new_derived (take i xs) ++ with_new (get_or xs i d).of (get_or xs i d).name []
+derived_at xs i d less = ap new_derived (take_more xs i d less) ∙ derived_append (take i xs) (get_or xs i d ∷ [])
+
+pub derived_more : (xs : List Derived) (i : ℕ) (d : Derived) → i < length xs → (get_or xs i d).of ≡ None → new_derived (take (i + 1) xs) ≡ new_derived (take i xs) ++ (get_or xs i d).name ∷ []
+derived_more xs i d less e = derived_at xs i d less ∙ ap (λ (o : Option (List ℕ)). new_derived (take i xs) ++ with_new o (get_or xs i d).name []) e
+
+pub derived_same : (xs : List Derived) (i : ℕ) (d : Derived) (o : List ℕ) → i < length xs → (get_or xs i d).of ≡ Some o → new_derived (take (i + 1) xs) ≡ new_derived (take i xs)
+derived_same xs i d o less e = derived_at xs i d less ∙ ap (λ (o : Option (List ℕ)). new_derived (take i xs) ++ with_new o (get_or xs i d).name []) e ∙ append-nil (new_derived (take i xs))
+
 -- ---- one after the other
 
 pub noted_none : (os : Owners) (Further : List ℕ → Owner → Type 0) → AreInLists os → IsNoted os os Further
@@ -139,27 +164,33 @@ noted_more a b c Further One such f g = record {
 }
 
 -- one owner is such as all of its entity
-pub owned_one : (d : Entity) (e position : ℕ) (m : List ℕ) → OwnsAt d m position → (n : List ℕ) (o : Owner) → (n ≡ m) × (o ≡ record { entity = e; position = position }) → (o.entity ≡ e) × OwnsAt d n o.position
+pub owned_one : (d : Entity) (e : ℕ) (position : Option ℕ) (m : List ℕ) → OwnsAt d m position → (n : List ℕ) (o : Owner) → (n ≡ m) × (o ≡ record { entity = e; position = position }) → IsOwnerIn d e n o
 owned_one d e position m owned n o q =
     let at : position ≡ o.position = sym (ap (λ (u : Owner). u.position) q.1) in
-    (ap (λ (u : Owner). u.entity) q.1, subst (λ (u : ℕ). OwnsAt d n u) at (subst (λ (u : List ℕ). OwnsAt d u position) (sym q.0) owned))
+    (ap (λ (u : Owner). u.entity) q.1, subst (λ (u : Option ℕ). OwnsAt d n u) at (subst (λ (u : List ℕ). OwnsAt d u position) (sym q.0) owned))
 
-pub owners_more : (s : Schema) (k : ℕ) (old new : Owners) (d : Entity) → get_or s.entities k no_entity ≡ d → AreOwners s k old → IsNoted old new (λ n. λ o. (o.entity ≡ k) × OwnsAt d n o.position)
-    → ((n : List ℕ) → IsIn (new_explicit d.attributes) n → (position : ℕ) × IsListed new n (record { entity = k; position = position })) → AreOwners s (k + 1) new
+-- what is listed still is behind what is noted after it
+pub listed_both : (old new : Owners) (Further : List ℕ → Owner → Type 0) (e : ℕ) (xs ys : List (List ℕ)) → IsNoted old new Further → AreListed old e xs → AreListed new e ys → AreListed new e (xs ++ ys)
+listed_both old new Further e xs ys noted before behind = λ n i. ⊎_elim
+    (λ (l : IsIn xs n). let r = before n l in (r.0, noted.keeps n (record { entity = e; position = r.0 }) r.1))
+    (λ (r : IsIn ys n). behind n r)
+    (in_either xs ys n i)
+
+pub owners_more : (s : Schema) (k : ℕ) (old new : Owners) (d : Entity) → get_or s.entities k no_entity ≡ d → AreOwners s k old → IsNoted old new (IsOwnerIn d k) → AreListed new k (new_names d) → AreOwners s (k + 1) new
 owners_more s k old new d at h noted this = record {
   lists = noted.lists;
-  all = λ e n less i. ⊎_elim
-      (λ (q : e ≡ k). subst (λ (u : ℕ). (position : ℕ) × IsListed new n (record { entity = u; position = position })) (sym q) (this n (subst (λ (u : Entity). IsIn (new_explicit u.attributes) n) (ap (λ (u : ℕ). get_or s.entities u no_entity) q ∙ at) i)))
-      (λ (ne : (e ≡ k) → ⊥). let before : e < k = omega (arith, less, ne) in let r = h.all e n before i in (r.0, noted.keeps n (record { entity = e; position = r.0 }) r.1))
+  all = λ e less n i. ⊎_elim
+      (λ (q : e ≡ k). subst (λ (u : ℕ). (position : Option ℕ) × IsListed new n (record { entity = u; position = position })) (sym q) (this n (subst (λ (u : Entity). IsIn (new_names u) n) (ap (λ (u : ℕ). get_or s.entities u no_entity) q ∙ at) i)))
+      (λ (ne : (e ≡ k) → ⊥). let before : e < k = omega (arith, less, ne) in let r = h.all e before n i in (r.0, noted.keeps n (record { entity = e; position = r.0 }) r.1))
       (cases_eq e k);
   only = λ n o l. ⊎_elim
       (λ (b : IsListed old n o). let r = h.only n o b in let less : o.entity < k = r.0 in (omega (arith, less), r.1))
-      (λ (q : (o.entity ≡ k) × OwnsAt d n o.position). let is : o.entity ≡ k = q.0 in (omega (arith, is), subst (λ (u : Entity). OwnsAt u n o.position) (sym (ap (λ (u : ℕ). get_or s.entities u no_entity) is ∙ at)) q.1))
+      (λ (q : IsOwnerIn d k n o). let is : o.entity ≡ k = q.0 in (omega (arith, is), subst (λ (u : Entity). OwnsAt u n o.position) (sym (ap (λ (u : ℕ). get_or s.entities u no_entity) is ∙ at)) q.1))
       (noted.only n o l);
 }
 
 abbrev pub no_owner : Owner
-no_owner = record { entity = 0; position = 0 }
+no_owner = record { entity = 0; position = None }
 
 -- what stands at a place of a list of a name
 pub owned_at : (s : Schema) (os : Owners) (size : ℕ) (n : List ℕ) (list : List Owner) (k : ℕ) (d : Owner) → AreOwners s size os → ((o : Owner) → IsIn list o → IsListed os n o) → k < length list

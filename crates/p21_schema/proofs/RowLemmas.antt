@@ -148,7 +148,7 @@ module _ {X Y : Type 0} (f : X → Y) (same : X → X → Bool) (other : Y → Y
 
 -- ---- own attributes
 
-with_new_append : (o : Option (List ℕ)) (n : List ℕ) (xs ys : List (List ℕ)) → with_new o n (xs ++ ys) ≡ with_new o n xs ++ ys
+pub with_new_append : (o : Option (List ℕ)) (n : List ℕ) (xs ys : List (List ℕ)) → with_new o n (xs ++ ys) ≡ with_new o n xs ++ ys
 with_new_append None n xs ys = refl
 with_new_append (Some e) n xs ys = refl
 

@@ -34,6 +34,10 @@ pub record IsOwnAt (s : Schema) (e : ℕ) (n : List ℕ) (i : ℕ) : Type 0 wher
   pub is : get_or (attributes_of s.entities) i no_attribute ≡ record { entity = (get_or s.entities e no_entity).name; name = n }
   pub newly : IsIn (new_explicit (get_or s.entities e no_entity).attributes) n
 
+-- among an entity and its ancestors one at most newly declares this name
+abbrev pub HasOneOrigin : Schema → List ℕ → List ℕ → Type 0
+HasOneOrigin s of n = (a b : List ℕ) → IsOrigin s of n a → IsOrigin s of n b → a ≡ b
+
 -- the attribute at a place is one of this name that an entity or an ancestor of it newly declares
 pub record IsOriginAt (s : Schema) (of n : List ℕ) (i : ℕ) : Type 0 where
   pub below : i < length (attributes_of s.entities)

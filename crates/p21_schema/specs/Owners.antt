@@ -1,7 +1,7 @@
--- Lists of owners by names, in which all stand that newly declare an explicit attribute of a name, each with the attribute's position.
-use Rattle.std.specs.Prelude.{◌≡◌, ◌<◌, ◌⊎◌, ℕ, List, [], length, get_or}
+-- Lists of owners by names, in which all stand that newly declare an attribute of a name, each with the position of an explicit one.
+use Rattle.std.specs.Prelude.{◌≡◌, ◌<◌, ◌⊎◌, ℕ, List, [], length, get_or, Option, Some, None}
 use Rattle.p21_express.specs.Schema.{Schema, Entity}
-use Rattle.p21_express.specs.WellFormed.{IsIn, AreDistinct, new_explicit}
+use Rattle.p21_express.specs.WellFormed.{IsIn, AreDistinct, new_explicit, new_derived, new_names}
 use Rattle.p21_schema.specs.declared.owners.Owner.{Owner}
 use Rattle.p21_schema.specs.declared.owners.Owners.{Owners}
 use Rattle.p21_schema.specs.Graph.{rows_of}
@@ -14,13 +14,22 @@ pub record IsListed (os : Owners) (n : List ℕ) (o : Owner) : Type 0 where
   pub named : get_or os.names place [] ≡ n
   pub listed : IsIn (get_or (rows_of os.lists) place []) o
 
--- among the explicit attributes that an entity newly declares the one at this position has the name
-abbrev pub OwnsAt : Entity → List ℕ → ℕ → Type 0
-OwnsAt e n position = (position < length (new_explicit e.attributes)) × (get_or (new_explicit e.attributes) position [] ≡ n)
+-- among the explicit attributes that an entity newly declares the one at this position has the name; or, without a position, the entity newly declares the name in DERIVE
+abbrev pub OwnsAt : Entity → List ℕ → Option ℕ → Type 0
+OwnsAt e n (Some position) = (position < length (new_explicit e.attributes)) × (get_or (new_explicit e.attributes) position [] ≡ n)
+OwnsAt e n None = IsIn (new_derived e.derived) n
 
--- among the explicit attributes that the owner's entity newly declares in a schema the one at the owner's position has the name
+-- the owner's entity newly declares the name in a schema, at the owner's position
 abbrev pub IsOwned : Schema → List ℕ → Owner → Type 0
 IsOwned s n o = OwnsAt (get_or s.entities o.entity no_entity) n o.position
+
+-- the owner is the entity at this place, which newly declares the name at the owner's position
+abbrev pub IsOwnerIn : Entity → ℕ → List ℕ → Owner → Type 0
+IsOwnerIn d e n o = (o.entity ≡ e) × OwnsAt d n o.position
+
+-- the entity at a place stands, with some position, in the list of each of these names
+abbrev pub AreListed : Owners → ℕ → List (List ℕ) → Type 0
+AreListed os e ns = (n : List ℕ) → IsIn ns n → (position : Option ℕ) × IsListed os n (record { entity = e; position = position })
 
 -- each name has one list
 pub record AreInLists (os : Owners) : Type 0 where
@@ -33,8 +42,8 @@ pub record IsNoted (old new : Owners) (Further : List ℕ → Owner → Type 0) 
   pub keeps : (n : List ℕ) (o : Owner) → IsListed old n o → IsListed new n o
   pub only : (n : List ℕ) (o : Owner) → IsListed new n o → IsListed old n o ⊎ Further n o
 
--- each name has one list; each of the first so many entities stands, with some position, in the list of each name of which it newly declares an explicit attribute; and whatever stands in a list is one of these entities, with a position at which it newly declares one of that name
+-- each name has one list; each of the first so many entities stands, with some position, in the list of each name that it newly declares; and whatever stands in a list is one of these entities, with a position at which it newly declares that name
 pub record AreOwners (s : Schema) (size : ℕ) (os : Owners) : Type 0 where
   pub lists : AreInLists os
-  pub all : (e : ℕ) (n : List ℕ) → e < size → IsIn (new_explicit (get_or s.entities e no_entity).attributes) n → (position : ℕ) × IsListed os n (record { entity = e; position = position })
+  pub all : (e : ℕ) → e < size → AreListed os e (new_names (get_or s.entities e no_entity))
   pub only : (n : List ℕ) (o : Owner) → IsListed os n o → (o.entity < size) × IsOwned s n o

@@ -2,21 +2,23 @@
 
 ghost use Rattle.std.specs.Prelude.{◌≡◌, ◌<◌, ◌↔◌, ◌++◌, ◌∷◌, ℕ, List, [], length, get_or, set, IfOk, OnOk, IsTrue, MatchOption, None};
 ghost use Rattle.p21_express.specs.Plain.{plain_attribute, plain_derived};
-ghost use Rattle.p21_schema.specs.DeclarationTable.{known_schema, IsNotOwn, IsOwnAt, IsOriginAt, IsDeclared, IsDeclarationTable, IsFitting};
+ghost use Rattle.p21_schema.specs.DeclarationTable.{known_schema, IsNotOwn, IsOwnAt, HasOneOrigin, IsOriginAt, IsDeclared, IsDeclarationTable, IsFitting};
 ghost use Rattle.p21_express.specs.WellFormed.{IsIn, IsEntity, IsOrigin, Origin, new_explicit};
 ghost use Rattle.p21_schema.specs.Ancestry.{entity_id, IsA};
 ghost use Rattle.p21_schema.specs.Declaration.{Written, written_explicit, written_derived, explicit_in, derived_in, written};
 ghost use Rattle.p21_schema.specs.Graph.{rows_of};
-ghost use Rattle.p21_schema.specs.Place.{no_entity};
+ghost use Rattle.p21_schema.specs.Place.{no_entity, entity_name};
 ghost use Rattle.p21_schema.specs.Row.{attributes_of};
 
+use crate::graph::Graph;
 use crate::ids::EntityId;
 use crate::names::Names;
-use crate::owners::{Owners, owner_at};
+use crate::owners::{Owner, Owners};
 use crate::reach::Reach;
 use crate::resolved::{ResolvedExpr, resolve};
 use crate::rows::Own;
 use crate::rules::Rules;
+use crate::search::Search;
 use p21_express::{AttrDecl, Declarations, DeriveDecl};
 use std::alloc::{AllocError, Global};
 
@@ -48,6 +50,8 @@ pub(crate) struct Known<'a> {
     pub(crate) rules: Rules,
     pub(crate) entities: &'a Names,
     pub(crate) types: &'a Names,
+    /// For each entity the places of its supertypes.
+    pub(crate) supertypes: &'a Graph,
     pub(crate) descents: &'a Reach,
     pub(crate) own: &'a [Own],
     pub(crate) owners: &'a Owners,
@@ -74,63 +78,104 @@ fn is_over(known: &Known, entity: usize, other: usize) -> bool
     known.descents.has(other, entity)
 }
 
-/// The attribute of this name that an entity or an ancestor of it newly declares as an explicit one.
-fn attribute_above(known: &Known, entity: usize, name: &[u8]) -> Option<usize>
+/// One of these owners that is an entity or an ancestor of it.
+fn owner_above(
+    known: &Known,
+    search: &mut Search,
+    owners: &[Owner],
+    entity: usize,
+) -> Result<Option<Owner>, AllocError>
     requires known { IsFitting known.now }
+    requires owners { (o : _) → IsIn owners.now o → o.entity < length (known_schema known.now).entities }
     requires entity { entity < length (known_schema known.now).entities }
-    ensures { MatchOption result ((d : ℕ) → d < length (known_schema known.now).entities → IsA (known_schema known.now) (entity_id entity) (entity_id d) → IsNotOwn (known_schema known.now) d name.now) (λ i. (d : ℕ) × ((d < length (known_schema known.now).entities) × (IsA (known_schema known.now) (entity_id entity) (entity_id d) × IsOwnAt (known_schema known.now) d name.now i))) }
+    ensures { IfOk result (λ found. MatchOption found ((o : _) → IsIn owners.now o → ¬ (IsA (known_schema known.now) (entity_id entity) (entity_id o.entity))) (λ o. IsIn owners.now o × IsA (known_schema known.now) (entity_id entity) (entity_id o.entity))) }
 {
-    let owners = known.owners.of(name);
-    // Mostly it is the entity's own, and then none has to be asked whether it is above.
-    if let Some(owner) = owner_at(owners, entity) {
-        return Some(own_attribute(known, owner.entity, owner.position));
+    if let Some(nearest) = search.nearest(known.supertypes, owners, entity)? {
+        if is_over(known, entity, nearest.entity) {
+            return Ok(Some(nearest));
+        }
     }
     for owner in owners {
         if is_over(known, entity, owner.entity) {
-            return Some(own_attribute(known, owner.entity, owner.position));
+            return Ok(Some(*owner));
         }
     }
-    None
+    Ok(None)
+}
+
+/// The attribute of this name that an entity or an ancestor of it newly declares as an explicit one, where no two of them newly declare
+/// the name.
+fn attribute_above(
+    known: &Known,
+    search: &mut Search,
+    entity: usize,
+    name: &[u8],
+) -> Result<Option<usize>, AllocError>
+    requires known { IsFitting known.now }
+    requires entity { entity < length (known_schema known.now).entities }
+    requires one { HasOneOrigin (known_schema known.now) (entity_name (known_schema known.now) (entity_id entity)) name.now }
+    ensures { IfOk result (λ found. MatchOption found ((d : ℕ) → d < length (known_schema known.now).entities → IsA (known_schema known.now) (entity_id entity) (entity_id d) → IsNotOwn (known_schema known.now) d name.now) (λ i. (d : ℕ) × ((d < length (known_schema known.now).entities) × (IsA (known_schema known.now) (entity_id entity) (entity_id d) × IsOwnAt (known_schema known.now) d name.now i)))) }
+{
+    let owners = known.owners.of(name);
+    let Some(owner) = owner_above(known, search, owners, entity)? else {
+        return Ok(None);
+    };
+    let Some(position) = owner.position else {
+        return Ok(None);
+    };
+    Ok(Some(own_attribute(known, owner.entity, position)))
 }
 
 /// The attribute that SELF\of.name declares again.
-fn again(known: &Known, of: &[u8], name: &[u8]) -> Option<usize>
+fn again(
+    known: &Known,
+    search: &mut Search,
+    of: &[u8],
+    name: &[u8],
+) -> Result<Option<usize>, AllocError>
     requires known { IsFitting known.now }
     requires of { IsEntity (known_schema known.now) of.now }
-    ensures { MatchOption result ((o : Origin) → IsIn (attributes_of (known_schema known.now).entities) o → o.name ≡ name.now → ¬ (IsOrigin (known_schema known.now) of.now name.now o.entity)) (λ i. IsOriginAt (known_schema known.now) of.now name.now i) }
+    requires one { HasOneOrigin (known_schema known.now) of.now name.now }
+    ensures { IfOk result (λ found. MatchOption found ((o : Origin) → IsIn (attributes_of (known_schema known.now).entities) o → o.name ≡ name.now → ¬ (IsOrigin (known_schema known.now) of.now name.now o.entity)) (λ i. IsOriginAt (known_schema known.now) of.now name.now i)) }
 {
-    attribute_above(known, known.entities.known(of), name)
+    attribute_above(known, search, known.entities.known(of), name)
 }
 
 /// The attribute that an explicit declaration declares. Where it newly declares one, that is the entity's own at this position.
 fn explicit_attribute(
     known: &Known,
+    search: &mut Search,
     entity: usize,
     attribute: &AttrDecl,
     position: usize,
-) -> Option<usize>
+) -> Result<Option<usize>, AllocError>
     requires known { IsFitting known.now }
     requires entity { entity < length (known_schema known.now).entities }
     requires attribute { IsIn (get_or (known_schema known.now).entities entity no_entity).attributes (plain_attribute attribute.now) }
     requires position { (plain_attribute attribute.now).of ≡ None → (position < length (new_explicit (get_or (known_schema known.now).entities entity no_entity).attributes)) × (get_or (new_explicit (get_or (known_schema known.now).entities entity no_entity).attributes) position [] ≡ (plain_attribute attribute.now).name) }
-    ensures { IsDeclared (known_schema known.now) (written_explicit (get_or (known_schema known.now).entities entity no_entity).name (plain_attribute attribute.now)) result }
+    ensures { IfOk result (λ place. IsDeclared (known_schema known.now) (written_explicit (get_or (known_schema known.now).entities entity no_entity).name (plain_attribute attribute.now)) place) }
 {
     match &attribute.of {
-        None => Some(own_attribute(known, entity, position)),
-        Some(of) => again(known, of, &attribute.name),
+        None => Ok(Some(own_attribute(known, entity, position))),
+        Some(of) => again(known, search, of, &attribute.name),
     }
 }
 
 /// The explicit attribute that a declaration in DERIVE declares again.
-fn derived_attribute(known: &Known, entity: usize, derived: &DeriveDecl) -> Option<usize>
+fn derived_attribute(
+    known: &Known,
+    search: &mut Search,
+    entity: usize,
+    derived: &DeriveDecl,
+) -> Result<Option<usize>, AllocError>
     requires known { IsFitting known.now }
     requires entity { entity < length (known_schema known.now).entities }
     requires derived { IsIn (get_or (known_schema known.now).entities entity no_entity).derived (plain_derived derived.now) }
-    ensures { IsDeclared (known_schema known.now) (written_derived (get_or (known_schema known.now).entities entity no_entity).name (plain_derived derived.now)) result }
+    ensures { IfOk result (λ place. IsDeclared (known_schema known.now) (written_derived (get_or (known_schema known.now).entities entity no_entity).name (plain_derived derived.now)) place) }
 {
     match &derived.of {
-        None => None,
-        Some(of) => again(known, of, &derived.name),
+        None => Ok(None),
+        Some(of) => again(known, search, of, &derived.name),
     }
 }
 
@@ -151,6 +196,7 @@ fn add(
 fn add_explicit(
     alloc: Global,
     known: &Known,
+    search: &mut Search,
     entity: usize,
     lists: &mut Vec<Vec<Declaration>>,
 ) -> Result<(), AllocError>
@@ -162,7 +208,8 @@ fn add_explicit(
 {
     let mut position = 0;
     for attribute in &known.declarations.entities[entity].attributes {
-        if let Some(place) = explicit_attribute(known, entity, attribute, position) {
+        let place = explicit_attribute(known, search, entity, attribute, position)?;
+        if let Some(place) = place {
             let texpr = resolve(alloc, known.entities, known.types, &attribute.texpr)?;
             let optional = attribute.optional;
             let form = Form::Explicit { optional, texpr };
@@ -179,6 +226,7 @@ fn add_explicit(
 /// The declarations of an entity in DERIVE behind the others.
 fn add_derived(
     known: &Known,
+    search: &mut Search,
     entity: usize,
     lists: &mut Vec<Vec<Declaration>>,
 ) -> Result<(), AllocError>
@@ -189,7 +237,7 @@ fn add_derived(
     ensures count { OnOk result (length (rows_of lists.new) ≡ length (rows_of lists.old)) }
 {
     for derived in &known.declarations.entities[entity].derived {
-        if let Some(place) = derived_attribute(known, entity, derived) {
+        if let Some(place) = derived_attribute(known, search, entity, derived)? {
             let form = Form::Derived;
             let entity = EntityId { index: entity };
             add(lists, place, Declaration { entity, form })?;
@@ -210,9 +258,10 @@ pub(crate) fn all_declarations(
     ensures { IfOk result (λ table. IsDeclarationTable (known_schema known.now) (written (known_schema known.now).entities) (rows_of table)) }
 {
     let mut lists = lists;
+    let mut search = Search::new(alloc, known.declarations.entities.len())?;
     for entity in 0..known.declarations.entities.len() {
-        add_explicit(alloc, known, entity, &mut lists)?;
-        add_derived(known, entity, &mut lists)?;
+        add_explicit(alloc, known, &mut search, entity, &mut lists)?;
+        add_derived(known, &mut search, entity, &mut lists)?;
     }
     Ok(lists)
 }

@@ -15,6 +15,7 @@ mod resolved;
 mod rows;
 mod rules;
 mod schema;
+mod search;
 mod selects;
 mod spans;
 mod steps;

@@ -1,25 +1,26 @@
-//! Which entities newly declare an explicit attribute of a name, and where it stands among their own.
+//! Which entities newly declare an attribute of a name, and where the explicit ones stand among their own.
 
 ghost use Rattle.std.specs.Prelude.{◌≡◌, ◌<◌, ◌++◌, ◌∷◌, ℕ, List, [], length, get_or, map, set, IfOk, IfSome, OnOk};
 ghost use Rattle.p21_express.specs.Plain.{plain_entity};
 ghost use Rattle.p21_express.specs.Schema.{Schema};
-ghost use Rattle.p21_express.specs.WellFormed.{IsIn, new_explicit};
+ghost use Rattle.p21_express.specs.WellFormed.{IsIn, new_explicit, new_derived, new_names};
 ghost use Rattle.p21_schema.specs.Graph.{rows_of};
-ghost use Rattle.p21_schema.specs.Owners.{IsListed, OwnsAt, AreInLists, IsNoted, AreOwners};
+ghost use Rattle.p21_schema.specs.Owners.{IsListed, AreListed, IsOwnerIn, AreInLists, IsNoted, AreOwners};
 
 use crate::names::Names;
 use p21_express::EntityDecl;
 use p21_hash::HashKey;
 use std::alloc::{AllocError, Global};
 
-/// An entity that newly declares an explicit attribute, and the attribute's position among those that it newly declares.
+/// An entity that newly declares an attribute.
 #[derive(Clone, Copy, Debug)]
 pub(crate) struct Owner {
     pub(crate) entity: usize,
-    pub(crate) position: usize,
+    /// The position among the explicit attributes that the entity newly declares, or `None` where it declares this one in DERIVE.
+    pub(crate) position: Option<usize>,
 }
 
-/// For each name the owners of the explicit attributes of it, in the order of the entities.
+/// For each name the owners of the attributes of it, in the order of the entities.
 #[derive(Drop)]
 pub(crate) struct Owners {
     names: Names,
@@ -60,7 +61,49 @@ fn note(alloc: Global, owners: &mut Owners, name: &[u8], owner: Owner) -> Result
     }
 }
 
-/// An entity goes into the lists of all names that it newly declares, with the position of each.
+/// An entity goes into the lists of the names of all explicit attributes that it newly declares, with the position of each.
+fn note_explicit(
+    alloc: Global,
+    owners: &mut Owners,
+    decl: &EntityDecl,
+    entity: usize,
+) -> Result<(), AllocError>
+    requires { AreInLists owners.old }
+    ensures noted { OnOk result (IsNoted owners.old owners.new (IsOwnerIn (plain_entity decl.now) entity)) }
+    ensures listed { OnOk result (AreListed owners.new entity (new_explicit (plain_entity decl.now).attributes)) }
+{
+    let mut explicit = 0;
+    for attribute in &decl.attributes {
+        if attribute.of.is_none() {
+            let position = Some(explicit);
+            note(alloc, owners, &attribute.name, Owner { entity, position })?;
+            explicit += 1;
+        }
+    }
+    Ok(())
+}
+
+/// An entity goes into the lists of the names of all attributes that it newly declares in DERIVE.
+fn note_derived(
+    alloc: Global,
+    owners: &mut Owners,
+    decl: &EntityDecl,
+    entity: usize,
+) -> Result<(), AllocError>
+    requires { AreInLists owners.old }
+    ensures noted { OnOk result (IsNoted owners.old owners.new (IsOwnerIn (plain_entity decl.now) entity)) }
+    ensures listed { OnOk result (AreListed owners.new entity (new_derived (plain_entity decl.now).derived)) }
+{
+    let position = None;
+    for derived in &decl.derived {
+        if derived.of.is_none() {
+            note(alloc, owners, &derived.name, Owner { entity, position })?;
+        }
+    }
+    Ok(())
+}
+
+/// An entity goes into the lists of the names of all attributes that it newly declares.
 fn note_entity(
     alloc: Global,
     owners: &mut Owners,
@@ -68,16 +111,11 @@ fn note_entity(
     entity: usize,
 ) -> Result<(), AllocError>
     requires { AreInLists owners.old }
-    ensures noted { OnOk result (IsNoted owners.old owners.new (λ n. λ o. (o.entity ≡ entity) × OwnsAt (plain_entity decl.now) n o.position)) }
-    ensures listed { OnOk result ((n : List ℕ) → IsIn (new_explicit (plain_entity decl.now).attributes) n → (position : ℕ) × IsListed owners.new n (record { entity = entity; position = position })) }
+    ensures noted { OnOk result (IsNoted owners.old owners.new (IsOwnerIn (plain_entity decl.now) entity)) }
+    ensures listed { OnOk result (AreListed owners.new entity (new_names (plain_entity decl.now))) }
 {
-    let mut position = 0;
-    for attribute in &decl.attributes {
-        if attribute.of.is_none() {
-            note(alloc, owners, &attribute.name, Owner { entity, position })?;
-            position += 1;
-        }
-    }
+    note_explicit(alloc, owners, decl, entity)?;
+    note_derived(alloc, owners, decl, entity)?;
     Ok(())
 }
 
@@ -110,7 +148,7 @@ impl Owners {
         Ok(owners)
     }
 
-    /// The owners of the explicit attributes of a name.
+    /// The owners of the attributes of a name.
     pub(crate) fn of(&self, name: &[u8]) -> &[Owner]
         requires { AreInLists self.now }
         ensures all { (o : _) → IsListed self.now name.now o → IsIn result.now o }

@@ -140,6 +140,7 @@ impl Schema {
             rules,
             entities: &entity_names,
             types: &type_names,
+            supertypes: &graph,
             descents: &descents,
             own: &own,
             owners: &owners,

@@ -1,9 +1,9 @@
-use Rattle.std.proofs.Common.{◌≡◌, ◌<◌, ◌≤◌, ◌+◌, ◌++◌, ◌∷◌, [], ℕ, List, length, get_or, take, map, set, refl, arith, sym, ap, subst, ◌∙◌}
+use Rattle.std.proofs.Common.{◌≡◌, ◌<◌, ◌≤◌, ◌+◌, ◌++◌, ◌∷◌, [], ℕ, List, Option, length, get_or, take, map, set, refl, arith, sym, ap, subst, ◌∙◌}
 use Rattle.std.proofs.lemmas.List.{length-map, length-set, length-append, take_all}
 use Rattle.std.specs.Prelude.{Vec}
 use Rattle.p21_express.specs.Schema.{Entity, Attribute}
 use Rattle.p21_express.specs.Plain.{plain_entity, plain_attribute}
-use Rattle.p21_schema.specs.DeclarationTable.{known_schema, IsDeclarationTable}
+use Rattle.p21_schema.specs.DeclarationTable.{known_schema, IsDeclared, IsDeclarationTable}
 use Rattle.p21_express.specs.WellFormed.{IsIn, new_explicit}
 use Rattle.p21_schema.specs.declared.declarations.Form.TheVariants as form
 use Rattle.p21_schema.specs.Declaration.{Written, written_explicit}
@@ -61,16 +61,16 @@ loop-attribute-preserved c =
     let less'' : k < length all = subst (λ (u : Entity). k < length u.attributes) (sym entity) (rw (length-map xs plain_attribute) less') in
     let at : get_or all k (plain_attribute x) ≡ plain_attribute x = ap (λ (u : Entity). get_or u.attributes k (plain_attribute x)) entity ∙ item_at plain_attribute xs k x (plain_attribute x) less' is in
     let old = rows_of c.loop-attribute.lists in
-    let new = rows_of c.match-explicit_attribute.lists in
+    let new = rows_of c.match-place.lists in
     let inv = c.loop-attribute.invariant in
     let lists : (length new ≡ length (rows_of c.args.lists.now)) × ((ws : List Written) → IsDeclarationTable s ws (rows_of c.args.lists.now) → IsDeclarationTable s (ws ++ map f (take (k + 1) all)) new) =
-    elim c.match-explicit_attribute.branch [
+    elim c.match-place.branch [
       | in-Some+in_ok-texpr+in_ok-add w ↦
           let is_new : new ≡ set old w.in-Some.place (get_or old w.in-Some.place [] ++ record { entity = record { index = e }; form = form.Explicit x.optional w.in_ok-texpr.texpr } ∷ []) = ap (λ (u : _). rows_of u) w.lists-is ∙ w.in_ok-add.ensures in
-          (ap length is_new ∙ length-set old w.in-Some.place _ ∙ inv.count, λ ws h. step_more s formed f all k (plain_attribute x) ws old new less'' at w.in-Some.place (record { entity = record { index = e }; form = form.Explicit x.optional w.in_ok-texpr.texpr }) w.in-Some.ensures (record { known = c.requires.entity; entity = refl; form = (refl, (rw (← c.requires.known.entities, ← c.requires.known.types) w.in_ok-texpr.ensures, texpr_known s formed.unknown e c.requires.entity (plain_attribute x) (subst (λ (u : Entity). IsIn u.attributes (plain_attribute x)) (sym entity) (item_in plain_attribute xs k x less' is)))) }) is_new (inv.table ws h))
+          (ap length is_new ∙ length-set old w.in-Some.place _ ∙ inv.count, λ ws h. step_more s formed f all k (plain_attribute x) ws old new less'' at w.in-Some.place (record { entity = record { index = e }; form = form.Explicit x.optional w.in_ok-texpr.texpr }) (subst (λ (u : Option ℕ). IsDeclared s (f (plain_attribute x)) u) w.in-Some.is c.in_ok-place.ensures) (record { known = c.requires.entity; entity = refl; form = (refl, (rw (← c.requires.known.entities, ← c.requires.known.types) w.in_ok-texpr.ensures, texpr_known s formed.unknown e c.requires.entity (plain_attribute x) (subst (λ (u : Entity). IsIn u.attributes (plain_attribute x)) (sym entity) (item_in plain_attribute xs k x less' is)))) }) is_new (inv.table ws h))
       | in_default w ↦
           let is_old : new ≡ old = ap (λ (u : _). rows_of u) w.lists-is in
-          (ap length is_old ∙ inv.count, λ ws h. step_same s formed f all k (plain_attribute x) ws old new less'' at w.in_default.ensures is_old (inv.table ws h))
+          (ap length is_old ∙ inv.count, λ ws h. step_same s formed f all k (plain_attribute x) ws old new less'' at (subst (λ (u : Option ℕ). IsDeclared s (f (plain_attribute x)) u) w.in_default.is c.in_ok-place.ensures) is_old (inv.table ws h))
     ] in
     let place : (c.if-is_none.position ≡ length (new_explicit (take (k + 1) all))) × (c.if-is_none.position ≤ k + 1) =
     elim c.if-is_none.branch [

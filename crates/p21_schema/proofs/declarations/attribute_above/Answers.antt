@@ -1,44 +1,25 @@
-use Rattle.std.proofs.Common.{◌≡◌, ℕ, List, get_or, length, take, refl, sym, subst, ⊎_elim}
-use Rattle.std.proofs.lemmas.Bool.{false≢true}
-use Rattle.std.proofs.lemmas.List.{take_all}
-use Rattle.p21_express.specs.WellFormed.{IsIn}
+use Rattle.std.proofs.Common.{ℕ, Option, get_or, subst}
+use Rattle.p21_express.specs.WellFormed.{new_explicit, new_derived}
 use Rattle.p21_schema.specs.declared.owners.Owner.{Owner}
-use Rattle.p21_schema.specs.Ancestry.{entity_id, IsA}
-use Rattle.p21_schema.specs.DeclarationTable.{known_schema, IsOwnAt}
-use Rattle.p21_schema.proofs.Members.{front_more}
-use Rattle.p21_schema.proofs.OwnerLemmas.{no_owner, owned_at}
+use Rattle.p21_schema.specs.DeclarationTable.{known_schema}
+use Rattle.p21_schema.specs.Owners.{OwnsAt}
+use Rattle.p21_schema.specs.Place.{no_entity}
+use Rattle.p21_schema.proofs.Members.{in_left}
+use Rattle.p21_schema.proofs.DeclarationLemmas.{none_beside}
 use Rattle.p21_schema.proofs.declarations.attribute_above.Goals as goal
 
-pub is_over-requires-clause-other : goal.is_over-requires-clause-other
-is_over-requires-clause-other c = let s = known_schema c.args.known.now in (owned_at s c.args.known.now.owners.now (length s.entities) c.args.name.now c.of-owners.result.now c.loop-owner.owner-index no_owner c.requires.known.owners c.of-owners.ensures.only c.loop-owner-test.true).0
+pub returns-in_default : goal.returns-in_default
+returns-in_default c = λ d less above own.
+    let entity = get_or (known_schema c.args.known.now).entities d no_entity in
+    let listed = c.requires.known.owners.all d less c.args.name.now (in_left (new_explicit entity.attributes) (new_derived entity.derived) c.args.name.now own) in
+    let this : Owner = record { entity = d; position = listed.0 } in
+    (rw c.in_default.is at c.in_ok-owner.ensures) this (c.of-owners.ensures.all this listed.1) above
 
-pub own_attribute-requires-then-is_over-clause-entity : goal.own_attribute-requires-then-is_over-clause-entity
-own_attribute-requires-then-is_over-clause-entity c = let s = known_schema c.args.known.now in (owned_at s c.args.known.now.owners.now (length s.entities) c.args.name.now c.of-owners.result.now c.loop-owner.owner-index no_owner c.requires.known.owners c.of-owners.ensures.only c.loop-owner-test.true).0
-
-pub own_attribute-requires-then-is_over-clause-position : goal.own_attribute-requires-then-is_over-clause-position
-own_attribute-requires-then-is_over-clause-position c = let s = known_schema c.args.known.now in (owned_at s c.args.known.now.owners.now (length s.entities) c.args.name.now c.of-owners.result.now c.loop-owner.owner-index no_owner c.requires.known.owners c.of-owners.ensures.only c.loop-owner-test.true).1.0
-
-pub returns-then-is_over : goal.returns-then-is_over
-returns-then-is_over c =
+pub returns-in_default-position : goal.returns-in_default-position
+returns-in_default-position c =
     let s = known_schema c.args.known.now in
-    let d = (get_or c.of-owners.result.now c.loop-owner.owner-index no_owner).entity in
-    let h = owned_at s c.args.known.now.owners.now (length s.entities) c.args.name.now c.of-owners.result.now c.loop-owner.owner-index no_owner c.requires.known.owners c.of-owners.ensures.only c.loop-owner-test.true in
-    (d, (h.0, (c.if-is_over.ensures.0 refl, subst (λ (n : List ℕ). IsOwnAt s d n c.own_attribute-then-is_over.result) h.1.1 c.own_attribute-then-is_over.ensures)))
-
-pub loop-owner-preserved : goal.loop-owner-preserved
-loop-owner-preserved c = λ o i.
-    let s = known_schema c.args.known.now in
-    let owners = c.of-owners.result.now in
-    let k = c.loop-owner.owner-index in
-    ⊎_elim
-    (λ (f : IsIn (take k owners) o). c.loop-owner.invariant o f)
-    (λ (q : get_or owners k no_owner ≡ o). λ above. false≢true (c.if-is_over.ensures.1 (subst (λ (u : Owner). IsA s (entity_id c.args.entity) (entity_id u.entity)) (sym q) above)))
-    (front_more owners k no_owner o c.loop-owner-test.true i)
-
-pub returns : goal.returns
-returns c = λ d less above own.
-    let owners = c.of-owners.result.now in
-    let h = c.requires.known.owners.all d c.args.name.now less own in
-    let this : Owner = record { entity = d; position = h.0 } in
-    let there : IsIn owners this = c.of-owners.ensures.all this h.1 in
-    c.loop-owner.invariant this (rw (take_all c.loop-owner.owner-index owners c.loop-owner-test.false) there) above
+    let owner = c.in-Some.owner in
+    let found = rw c.in-Some.is at c.in_ok-owner.ensures in
+    let owned = c.requires.known.owners.only c.args.name.now owner (c.of-owners.ensures.only owner found.0) in
+    none_beside s c.requires.known.well_formed c.args.entity owner.entity c.args.name.now c.requires.one owned.0 found.1
+    (subst (λ (u : Option ℕ). OwnsAt (get_or s.entities owner.entity no_entity) c.args.name.now u) c.in_default-position.is owned.1)
