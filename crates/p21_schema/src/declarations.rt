@@ -13,7 +13,7 @@ ghost use Rattle.p21_schema.specs.Row.{attributes_of};
 use crate::graph::Graph;
 use crate::ids::EntityId;
 use crate::names::Names;
-use crate::owners::{Owner, Owners};
+use crate::owners::{Owner, Owners, owner_at};
 use crate::reach::Reach;
 use crate::resolved::{ResolvedExpr, resolve};
 use crate::rows::Own;
@@ -78,7 +78,7 @@ fn is_over(known: &Known, entity: usize, other: usize) -> bool
     known.descents.has(other, entity)
 }
 
-/// One of these owners that is an entity or an ancestor of it.
+/// One of these owners that is an entity or an ancestor of it. Owners and ancestors are gone through in turn, to the first that is both.
 fn owner_above(
     known: &Known,
     search: &mut Search,
@@ -90,12 +90,16 @@ fn owner_above(
     requires entity { entity < length (known_schema known.now).entities }
     ensures { IfOk result (λ found. MatchOption found ((o : _) → IsIn owners.now o → ¬ (IsA (known_schema known.now) (entity_id entity) (entity_id o.entity))) (λ o. IsIn owners.now o × IsA (known_schema known.now) (entity_id entity) (entity_id o.entity))) }
 {
-    if let Some(nearest) = search.nearest(known.supertypes, owners, entity)? {
-        if is_over(known, entity, nearest.entity) {
-            return Ok(Some(nearest));
-        }
+    if let Some(own) = owner_at(owners, entity) {
+        return Ok(Some(own));
     }
+    search.begin(entity)?;
     for owner in owners {
+        if let Some(nearest) = search.step(known.supertypes, owners)? {
+            if is_over(known, entity, nearest.entity) {
+                return Ok(Some(nearest));
+            }
+        }
         if is_over(known, entity, owner.entity) {
             return Ok(Some(*owner));
         }

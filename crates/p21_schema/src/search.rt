@@ -1,4 +1,4 @@
-//! A search for one of some entities among an entity and its ancestors, breadth first.
+//! A search for one of some entities among the ancestors of an entity, breadth first.
 
 ghost use Rattle.std.specs.Prelude.{IfOk, IfSome};
 ghost use Rattle.p21_express.specs.WellFormed.{IsIn};
@@ -10,8 +10,12 @@ use std::alloc::{AllocError, Global};
 /// What searches through ancestors use, one after the other.
 #[derive(Drop)]
 pub(crate) struct Search {
-    /// What the search goes through: the entity at which it begins, then the supertypes of each that it meets.
-    queue: Vec<usize>,
+    /// The entity at which the search began, and those that it met.
+    met: Vec<usize>,
+    /// Of these the one whose supertypes it meets now.
+    place: usize,
+    /// How many of its supertypes the search has met.
+    link: usize,
     /// For each entity the number of the last search that met it.
     last: Vec<usize>,
     /// The number of the search: the first has 1.
@@ -22,22 +26,42 @@ impl Search {
     /// Searches among so many entities.
     pub(crate) fn new(alloc: Global, entities: usize) -> Result<Search, AllocError> {
         Ok(Search {
-            queue: Vec::new(alloc),
+            met: Vec::new(alloc),
+            place: 0,
+            link: 0,
             last: zeros(alloc, entities)?,
             number: 0,
         })
     }
 
     /// The next search begins, at an entity.
-    fn begin(&mut self, entity: usize) -> Result<(), AllocError> {
+    pub(crate) fn begin(&mut self, entity: usize) -> Result<(), AllocError> {
         self.number = self.number.wrapping_add(1);
-        self.queue.clear();
-        self.queue.push(entity)?;
+        self.place = 0;
+        self.link = 0;
+        self.met.clear();
+        self.met.push(entity)?;
         Ok(())
     }
 
-    /// The search meets an entity; whether it did not before.
-    fn meet(&mut self, entity: usize) -> bool {
+    /// The next supertype. There is none where those of one entity end, and those of the next come then.
+    fn next(&mut self, supertypes: &Graph) -> Option<usize> {
+        let entity = self.met.get(self.place)?;
+        match supertypes.get(*entity)?.get(self.link) {
+            Some(supertype) => {
+                self.link += 1;
+                Some(*supertype)
+            }
+            None => {
+                self.place += 1;
+                self.link = 0;
+                None
+            }
+        }
+    }
+
+    /// Whether the search meets an entity for the first time.
+    fn is_new(&mut self, entity: usize) -> bool {
         let Some(last) = self.last.get_mut(entity) else {
             return false;
         };
@@ -46,43 +70,22 @@ impl Search {
         is_new
     }
 
-    /// The search is to go through these too, as long as that is no more than so many.
-    fn go_on(&mut self, supertypes: &[usize], most: usize) -> Result<(), AllocError> {
-        for supertype in supertypes {
-            if self.queue.len() >= most {
-                return Ok(());
-            }
-            self.queue.push(*supertype)?;
-        }
-        Ok(())
-    }
-
-    /// An owner whose entity this is or an ancestor of it. No more places are gone through than there are owners: whoever then goes
-    /// through these has taken twice their number of steps at most. So `None` says nothing, and no contract says that the owner is
-    /// above: whoever has to know asks.
-    pub(crate) fn nearest(
+    /// One step of the search: the owner that it meets, if it meets one. Neither does `None` say anything, nor does a contract say that
+    /// what is met is above: whoever has to know asks.
+    pub(crate) fn step(
         &mut self,
         supertypes: &Graph,
         owners: &[Owner],
-        entity: usize,
     ) -> Result<Option<Owner>, AllocError>
         ensures { IfOk result (λ found. IfSome found (λ owner. IsIn owners.now owner)) }
     {
-        self.begin(entity)?;
-        for place in 0..owners.len() {
-            let Some(entity) = self.queue.get(place) else {
-                return Ok(None);
-            };
-            let entity = *entity;
-            if self.meet(entity) {
-                if let Some(owner) = owner_at(owners, entity) {
-                    return Ok(Some(owner));
-                }
-                if let Some(above) = supertypes.get(entity) {
-                    self.go_on(above, owners.len())?;
-                }
-            }
+        let Some(supertype) = self.next(supertypes) else {
+            return Ok(None);
+        };
+        if !self.is_new(supertype) {
+            return Ok(None);
         }
-        Ok(None)
+        self.met.push(supertype)?;
+        Ok(owner_at(owners, supertype))
     }
 }
