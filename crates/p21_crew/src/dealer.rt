@@ -46,8 +46,14 @@ impl<P: Copy, O: Drop, W: Work<P, Out = O>, C: Cuts<Piece = P>, A: Gathers<O>> D
     ghost use Rattle.p21_crew.specs.Underway.{Goes, HasRoom, IsWhole};
 
     /// Deals all pieces and gathers what is returned for them; the answer is where the tail begins. It rests where nothing can be dealt
-    /// and no result is there. An error is want of memory, here or of a worker.
-    pub(crate) fn run<R: Wait>(&mut self, rt: &R, rest: &mut Rest) -> Result<u64, AllocError>
+    /// and no result is there. It deals to so many lanes at first, and to all before it would sleep: so there are no more workers at work
+    /// than processors, and yet no piece waits for another lane's. An error is want of memory, here or of a worker.
+    pub(crate) fn run<R: Wait>(
+        &mut self,
+        rt: &R,
+        rest: &mut Rest,
+        at_first: u32,
+    ) -> Result<u64, AllocError>
         ensures goes { OnOk result (Goes C.cuts A.holds self.old self.new) }
         ensures whole { IfOk result (λ tail. IsWhole self.new tail) }
     {
@@ -57,7 +63,8 @@ impl<P: Copy, O: Drop, W: Work<P, Out = O>, C: Cuts<Piece = P>, A: Gathers<O>> D
             if let Some(tail) = self.whole() {
                 return Ok(tail);
             }
-            let dealt = self.deal(rt)?;
+            let lanes = if rest.is_long() { u32::MAX } else { at_first };
+            let dealt = self.deal(rt, lanes)?;
             rest.rest_unless(rt, gathered || dealt);
         }
         unreachable!()
@@ -125,11 +132,11 @@ impl<P: Copy, O: Drop, W: Work<P, Out = O>, C: Cuts<Piece = P>, A: Gathers<O>> D
         }
     }
 
-    /// Deals the batch to a lane that has little to read, where one has room for it. The answer is whether one has.
-    fn deal<R: Wait>(&mut self, rt: &R) -> Result<bool, AllocError>
+    /// Deals the batch to one of so many lanes that has little to read, where one has room for it. The answer is whether one has.
+    fn deal<R: Wait>(&mut self, rt: &R, lanes: u32) -> Result<bool, AllocError>
         ensures { OnOk result (Goes C.cuts A.holds self.old self.new) }
     {
-        let Some(lane) = self.free_lane() else {
+        let Some(lane) = self.free_lane(lanes) else {
             return Ok(false);
         };
         let next = Vec::with_capacity(self.alloc, self.together)?;
@@ -141,13 +148,13 @@ impl<P: Copy, O: Drop, W: Work<P, Out = O>, C: Cuts<Piece = P>, A: Gathers<O>> D
         Ok(true)
     }
 
-    /// The first lane that has less than two lists to read, and room for the batch: so no more workers are kept awake than there
-    /// is work for.
-    fn free_lane(&mut self) -> Option<u32>
+    /// The first of so many lanes that has less than two lists to read, and room for the batch: so no more workers are kept awake than
+    /// there is work for.
+    fn free_lane(&mut self, lanes: u32) -> Option<u32>
         ensures goes { Goes C.cuts A.holds self.old self.new }
         ensures lane { IfSome result (HasRoom self.new) }
     {
-        for lane in 0..self.desk.lanes().get() {
+        for lane in 0..self.desk.lanes().get().min(lanes) {
             if self.has_little(lane) && self.has_room(lane) {
                 return Some(lane);
             }

@@ -40,6 +40,11 @@ impl Rest {
         })
     }
 
+    /// Whether it has looked so often in vain that it sleeps where nothing is done this time either.
+    pub(crate) fn is_long(&self) -> bool {
+        self.looks >= LOOKS
+    }
+
     /// Rests where nothing was done: the longer so, the longer.
     pub(crate) fn rest_unless<R: Wait>(&mut self, rt: &R, busy: bool) {
         if busy {

@@ -125,7 +125,7 @@ fn run_in<
         tail: None,
         gatherer,
     };
-    let dealt = dealer.run(rt, &mut rest);
+    let dealt = dealer.run(rt, &mut rest, lanes_at_first(rt));
     let Dealer {
         flights,
         desk,
@@ -146,6 +146,15 @@ fn run_in<
         tail,
         gatherer,
     })
+}
+
+/// How many lanes are dealt to at first: as many as there are processors but the dealer's own, and two at least, since these do not take
+/// the whole of its time.
+fn lanes_at_first<R: Threads>(rt: &R) -> u32 {
+    match thread::available_parallelism(rt) {
+        Ok(processors) => (processors.get().min(64) as u32).saturating_sub(1).max(2),
+        Err(_) => u32::MAX,
+    }
 }
 
 /// How many pieces are dealt at once, and how many results are sent together.
