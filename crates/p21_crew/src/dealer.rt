@@ -46,8 +46,8 @@ impl<P: Copy, O: Drop, W: Work<P, Out = O>, C: Cuts<Piece = P>, A: Gathers<O>> D
     ghost use Rattle.p21_crew.specs.Underway.{Goes, HasRoom, IsWhole};
 
     /// Deals all pieces and gathers what is returned for them; the answer is where the tail begins. It rests where nothing can be dealt
-    /// and no result is there. It deals to so many lanes at first, and to all before it would sleep: so there are no more workers at work
-    /// than processors, and yet no piece waits for another lane's. An error is want of memory, here or of a worker.
+    /// and no result is there. It deals to so many lanes at first, and to any before it would sleep: so a worker seldom takes the dealer's
+    /// processor, and a gate at which pieces of several lanes must meet opens. An error is want of memory, here or of a worker.
     pub(crate) fn run<R: Wait>(
         &mut self,
         rt: &R,

@@ -16,7 +16,7 @@ use Rattle.p21_schema.specs.Declaration.{derived, explicit, Declaration, Written
 use Rattle.p21_schema.specs.DeclarationTable.{AreAmong, IsDeclarationTable, IsNotOwn, IsOwnAt, HasOneOrigin, IsOriginAt, IsDeclared}
 use Rattle.p21_schema.proofs.Members.{at_place, in_either, in_left, in_right, from_map, holds_of, same_place, distinct_apart}
 use Rattle.p21_schema.proofs.AncestryLemmas.{distinct_entities, supertypes_known, name_at, name_count}
-use Rattle.p21_schema.proofs.RowLemmas.{own_at, own_below, attributes_distinct}
+use Rattle.p21_schema.proofs.RowLemmas.{own_at, own_below, attributes_distinct, later_new}
 
 -- ---- what is newly declared
 
@@ -24,11 +24,7 @@ use Rattle.p21_schema.proofs.RowLemmas.{own_at, own_below, attributes_distinct}
 in_new : (xs : List Attribute) (a : Attribute) → IsIn xs a → a.of ≡ None → IsIn (new_explicit xs) a.name
 in_new [] a i e = absurd i
 in_new (x ∷ xs) a (inl h) e = subst (λ (o : Option (List ℕ)). IsIn (with_new o x.name (new_explicit xs)) a.name) (sym (ap (λ (b : Attribute). b.of) h ∙ e)) (inl (ap (λ (b : Attribute). b.name) h))
-in_new (x ∷ xs) a (inr h) e = later x.of x.name (new_explicit xs) (in_new xs a h e)
-  where
-    later : (o : Option (List ℕ)) (n : List ℕ) (ns : List (List ℕ)) → IsIn ns a.name → IsIn (with_new o n ns) a.name
-    later None n ns i = inr i
-    later (Some p) n ns i = i
+in_new (x ∷ xs) a (inr h) e = later_new x.of x.name a.name (new_explicit xs) (in_new xs a h e)
 
 -- an attribute of some entities is newly declared by one of them
 from_attributes : (es : List Entity) (o : Origin) → IsIn (attributes_of es) o → (d : ℕ) × ((d < length es) × ((o.entity ≡ (get_or es d no_entity).name) × IsIn (new_explicit (get_or es d no_entity).attributes) o.name))

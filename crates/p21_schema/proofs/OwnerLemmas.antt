@@ -15,7 +15,7 @@ use Rattle.p21_schema.specs.Owners.{IsListed, AreListed, IsOwned, IsOwnerIn, Own
 use Rattle.p21_schema.specs.Place.{no_entity}
 use Rattle.p21_schema.proofs.Members.{in_left, in_right, in_either, same_place}
 use Rattle.p21_schema.proofs.Members as members
-use Rattle.p21_schema.proofs.RowLemmas.{with_new_append}
+use Rattle.p21_schema.proofs.RowLemmas.{later_new, with_new_append}
 
 pub is_one : {X : Type 0} (y x : X) → IsIn (y ∷ []) x → x ≡ y
 is_one y x h = ⊎_elim (λ (e : y ≡ x). sym e) (λ (n : ⊥). absurd n) h
@@ -132,11 +132,7 @@ module _ (old new : Owners) (owner : Owner) (n : List ℕ) (h : AreInLists old) 
 pub in_derived : (xs : List Derived) (a : Derived) → IsIn xs a → a.of ≡ None → IsIn (new_derived xs) a.name
 in_derived [] a i e = absurd i
 in_derived (x ∷ xs) a (inl h) e = subst (λ (o : Option (List ℕ)). IsIn (with_new o x.name (new_derived xs)) a.name) (sym (ap (λ (b : Derived). b.of) h ∙ e)) (inl (ap (λ (b : Derived). b.name) h))
-in_derived (x ∷ xs) a (inr h) e = later x.of x.name (new_derived xs) (in_derived xs a h e)
-  where
-    later : (o : Option (List ℕ)) (n : List ℕ) (ns : List (List ℕ)) → IsIn ns a.name → IsIn (with_new o n ns) a.name
-    later None n ns i = inr i
-    later (Some p) n ns i = i
+in_derived (x ∷ xs) a (inr h) e = later_new x.of x.name a.name (new_derived xs) (in_derived xs a h e)
 
 derived_append : (xs ys : List Derived) → new_derived (xs ++ ys) ≡ new_derived xs ++ new_derived ys
 derived_append [] ys = refl

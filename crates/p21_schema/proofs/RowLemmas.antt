@@ -152,6 +152,11 @@ pub with_new_append : (o : Option (List ℕ)) (n : List ℕ) (xs ys : List (List
 with_new_append None n xs ys = refl
 with_new_append (Some e) n xs ys = refl
 
+-- a further name, where it is new, hides none of the others
+pub later_new : (o : Option (List ℕ)) (n m : List ℕ) (ns : List (List ℕ)) → IsIn ns m → IsIn (with_new o n ns) m
+later_new None n m ns i = inr i
+later_new (Some p) n m ns i = i
+
 pub new_append : (xs ys : List Attribute) → new_explicit (xs ++ ys) ≡ new_explicit xs ++ new_explicit ys
 new_append [] ys = refl
 new_append (a ∷ others) ys = ap (λ (u : List (List ℕ)). with_new a.of a.name u) (new_append others ys) ∙ with_new_append a.of a.name (new_explicit others) (new_explicit ys)
