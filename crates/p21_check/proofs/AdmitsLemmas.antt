@@ -4,7 +4,6 @@ use Rattle.std.specs.Prelude.{IsTrue}
 use Rattle.std.proofs.lemmas.Bool.{false≢true}
 use Rattle.p21_express.specs.Schema.{Schema, Entity}
 use Rattle.p21_express.specs.WellFormed.{IsIn, IsEntity, IsSelect, IsAncestor, IsWellFormed, Leads, IsSupertype}
-use Rattle.p21_express.specs.WellFormed as way
 use Rattle.p21_tree.specs.Sentence.{Instance}
 use Rattle.p21_schema.specs.declared.ids.EntityId.{EntityId}
 use Rattle.p21_schema.specs.Place.{entity_name, IsEntityOf, type_name}
@@ -93,8 +92,8 @@ simple_admits s well i (asked.Select t) own k c ks known named n a = (there, bac
   ]
 
 above_is : (s : Schema) (a b : List ℕ) → IsAncestor s a b → IsEntity s a
-above_is s a b (way.one h) = subst (IsEntity s) h.name_is (in_map (λ (e : Entity). e.name) s.entities h.entity h.declared)
-above_is s a b (way.more h r) = subst (IsEntity s) h.name_is (in_map (λ (e : Entity). e.name) s.entities h.entity h.declared)
+above_is s a b (Leads.one h) = subst (IsEntity s) h.name_is (in_map (λ (e : Entity). e.name) s.entities h.entity h.declared)
+above_is s a b (Leads.more h r) = subst (IsEntity s) h.name_is (in_map (λ (e : Entity). e.name) s.entities h.entity h.declared)
 
 unknown_in : (s : Schema) (i : Instance) (k n : List ℕ) → keywords i ≡ k ∷ [] → ¬ (IsEntity s k) → ¬ (IsInSet s i n)
 unknown_in s i k n ks none set = elim (simple_in s i k n ks set) [

@@ -2,7 +2,6 @@
 use Rattle.std.proofs.Common.{◌≡◌, ◌⊎◌, ◌↔◌, ⊎_elim, inl, inr, ℕ, List, sym, subst}
 use Rattle.p21_express.specs.Schema.{Schema}
 use Rattle.p21_express.specs.WellFormed.{IsIn, IsAncestor, IsWellFormed, Leads, Origin}
-use Rattle.p21_express.specs.WellFormed as way
 use Rattle.p21_tree.specs.Tree.{Tree}
 use Rattle.p21_tree.specs.Tree as tree
 use Rattle.p21_schema.specs.declared.bindings.Binding.{Binding}
@@ -24,8 +23,8 @@ use Rattle.p21_check.proofs.Tests.{both}
 
 -- one way behind another
 lead_on : {X : Type 0} {Step : X → X → Type 0} {a b c : X} → Leads Step a b → Leads Step b c → Leads Step a c
-lead_on (way.one h) k = way.more h k
-lead_on (way.more h j) k = way.more h (lead_on j k)
+lead_on (Leads.one h) k = Leads.more h k
+lead_on (Leads.more h j) k = Leads.more h (lead_on j k)
 
 module _ (s : Schema) (well : IsWellFormed s) (e : EntityId) (ds : List Declaration) where
   not_again : (d other : Declaration) → (other ≡ d) ⊎ IsAncestor s d.entity other.entity → ¬ (IsAncestor s other.entity d.entity)

@@ -1,24 +1,17 @@
 -- Attributes that are declared again.
 use Rattle.std.proofs.Common.{◌≡◌, ℕ, ◌+◌, ◌<◌, List, [], ◌∷◌, ◌++◌, length, get_or, map, take, drop, Bool, true, false, Option, Some, None, slice_get, refl, sym, ap, ◌∙◌, subst, append_assoc}
 use Rattle.std.specs.Bool.{MatchBool}
-use Rattle.std.specs.Prelude.{Vec}
-use Rattle.std.specs.declared.alloc.Global.{Global}
 use Rattle.std.proofs.lemmas.Grind.{take_at_read}
 use Rattle.std.proofs.lemmas.List.{map-append, take-append-drop}
-use Rattle.std.proofs.lemmas.Option.{slice_get_within, slice_get-get_or}
+use Rattle.std.proofs.lemmas.Option.{slice_get-get_or}
 use Rattle.p21_express.specs.declared.declarations.AttrDecl.{AttrDecl}
 use Rattle.p21_express.specs.declared.declarations.DeriveDecl.{DeriveDecl}
 use Rattle.std.specs.Option.{option_to_list}
-use Rattle.p21_express.specs.declared.checks.redeclared.Again.{Again as FoundAgain}
-use Rattle.p21_express.specs.Again.{IsNewAt, IsDerivedAt, plain_again}
-use Rattle.p21_express.specs.Graph.{lists}
-use Rattle.p21_express.specs.Index.{IsEntityAt}
+use Rattle.p21_express.specs.Again.{IsDerivedAt}
 use Rattle.p21_express.specs.Plain.{plain_attribute, plain_derived}
-use Rattle.p21_express.specs.Positions.{ArePositions, AreSupertypes}
 use Rattle.p21_express.specs.Schema.{Schema, Entity, Attribute, Derived}
-use Rattle.p21_express.specs.WellFormed.{IsIn, new_derived, new_names, with_again, again_explicit, again_derived, Redeclaration}
-use Rattle.p21_express.proofs.GraphLemmas.{in_front, in_back, lists_length}
-use Rattle.p21_express.proofs.PositionLemmas.{zip_length}
+use Rattle.p21_express.specs.WellFormed.{IsIn, new_derived, new_explicit, with_new, with_again, again_explicit, again_derived, Redeclaration}
+use Rattle.p21_express.proofs.GraphLemmas.{in_front, in_back}
 
 -- ---- what is told of each of a list, one after the other
 
@@ -57,12 +50,36 @@ again_derived_of xs = again_derived (map plain_derived xs)
 pub again_derived_of_joins : (xs ys : List DeriveDecl) → again_derived_of (xs ++ ys) ≡ again_derived_of xs ++ again_derived_of ys
 again_derived_of_joins xs ys = ap again_derived (map-append plain_derived xs ys) ∙ again_derived_joins (map plain_derived xs) (map plain_derived ys)
 
+with_new_front : (o : Option (List ℕ)) (n : List ℕ) (ns : List (List ℕ)) → with_new o n ns ≡ with_new o n [] ++ ns
+with_new_front None n ns = refl
+with_new_front (Some e) n ns = refl
+
+new_explicit_joins : (xs ys : List Attribute) → new_explicit (xs ++ ys) ≡ new_explicit xs ++ new_explicit ys
+new_explicit_joins [] ys = refl
+new_explicit_joins (x ∷ xs) ys = with_new_front x.of x.name (new_explicit (xs ++ ys)) ∙ ap (λ (zs : List (List ℕ)). with_new x.of x.name [] ++ zs) (new_explicit_joins xs ys) ∙ sym (append_assoc (with_new x.of x.name []) (new_explicit xs) (new_explicit ys)) ∙ ap (λ (zs : List (List ℕ)). zs ++ new_explicit ys) (sym (with_new_front x.of x.name (new_explicit xs)))
+
+new_derived_joins : (xs ys : List Derived) → new_derived (xs ++ ys) ≡ new_derived xs ++ new_derived ys
+new_derived_joins [] ys = refl
+new_derived_joins (x ∷ xs) ys = with_new_front x.of x.name (new_derived (xs ++ ys)) ∙ ap (λ (zs : List (List ℕ)). with_new x.of x.name [] ++ zs) (new_derived_joins xs ys) ∙ sym (append_assoc (with_new x.of x.name []) (new_derived xs) (new_derived ys)) ∙ ap (λ (zs : List (List ℕ)). zs ++ new_derived ys) (sym (with_new_front x.of x.name (new_derived xs)))
+
+abbrev pub new_explicit_of : List AttrDecl → List (List ℕ)
+new_explicit_of xs = new_explicit (map plain_attribute xs)
+
+pub new_explicit_of_joins : (xs ys : List AttrDecl) → new_explicit_of (xs ++ ys) ≡ new_explicit_of xs ++ new_explicit_of ys
+new_explicit_of_joins xs ys = ap new_explicit (map-append plain_attribute xs ys) ∙ new_explicit_joins (map plain_attribute xs) (map plain_attribute ys)
+
+abbrev pub new_derived_of : List DeriveDecl → List (List ℕ)
+new_derived_of xs = new_derived (map plain_derived xs)
+
+pub new_derived_of_joins : (xs ys : List DeriveDecl) → new_derived_of (xs ++ ys) ≡ new_derived_of xs ++ new_derived_of ys
+new_derived_of_joins xs ys = ap new_derived (map-append plain_derived xs ys) ∙ new_derived_joins (map plain_derived xs) (map plain_derived ys)
+
 pub any_default : {X : Type 0} (xs : List X) (i : ℕ) (d e : X) → i < length xs → get_or xs i d ≡ get_or xs i e
 any_default xs i d e lt = let a : slice_get xs i ≡ Some (get_or xs i d) = slice_get-get_or xs i d lt in let b : slice_get xs i ≡ Some (get_or xs i e) = slice_get-get_or xs i e lt in let c : Some (get_or xs i d) ≡ Some (get_or xs i e) = sym a ∙ b in cc
 
-pub again_step : {X : Type 0} (F : List X → List Redeclaration) (joins : (xs ys : List X) → F (xs ++ ys) ≡ F xs ++ F ys) (xs : List X) (i : ℕ) (x : X) (front : List Redeclaration) (all : List FoundAgain) (o : Option FoundAgain) → i < length xs → x ≡ get_or xs i x → map plain_again (option_to_list o) ≡ F (x ∷ []) → map plain_again all ≡ front ++ F (take i xs) → map plain_again (all ++ option_to_list o) ≡ front ++ F (take (i + 1) xs)
-again_step F joins xs i x front all o lt is this before =
-    map-append plain_again all (option_to_list o) ∙ ap (λ (zs : List Redeclaration). zs ++ map plain_again (option_to_list o)) before ∙ ap (λ (zs : List Redeclaration). (front ++ F (take i xs)) ++ zs) this ∙ append_assoc front (F (take i xs)) (F (x ∷ [])) ∙ ap (λ (zs : List Redeclaration). front ++ zs) (sym (one_step F joins xs i x lt is))
+pub told_step : {X Y Z : Type 0} (plain : Y → Z) (F : List X → List Z) (joins : (xs ys : List X) → F (xs ++ ys) ≡ F xs ++ F ys) (xs : List X) (i : ℕ) (x : X) (front : List Z) (all : List Y) (o : Option Y) → i < length xs → x ≡ get_or xs i x → map plain (option_to_list o) ≡ F (x ∷ []) → map plain all ≡ front ++ F (take i xs) → map plain (all ++ option_to_list o) ≡ front ++ F (take (i + 1) xs)
+told_step {X} {Y} {Z} plain F joins xs i x front all o lt is this before =
+    map-append plain all (option_to_list o) ∙ ap (λ (zs : List Z). zs ++ map plain (option_to_list o)) before ∙ ap (λ (zs : List Z). (front ++ F (take i xs)) ++ zs) this ∙ append_assoc front (F (take i xs)) (F (x ∷ [])) ∙ ap (λ (zs : List Z). front ++ zs) (sym (one_step F joins xs i x lt is))
 
 -- ---- tests
 
@@ -73,11 +90,5 @@ test_same false P Q to from h = λ q. h (from q)
 pub same_entity : (s : Schema) (i : ℕ) (e f : Entity) → slice_get s.entities i ≡ Some e → slice_get s.entities i ≡ Some f → e ≡ f
 same_entity s i e f h k = let a : Some e ≡ Some f = sym h ∙ k in cc
 
-pub new_at : (s : Schema) (n : List ℕ) (i : ℕ) (e : Entity) (b : Bool) → slice_get s.entities i ≡ Some e → MatchBool b (IsIn (new_names e) n) (¬ (IsIn (new_names e) n)) → MatchBool b (IsNewAt s n i) (¬ (IsNewAt s n i))
-new_at s n i e b there h = test_same b (IsIn (new_names e) n) (IsNewAt s n i) (λ k. record { entity = e; there = there; newly = k }) (λ k. subst (λ (x : Entity). IsIn (new_names x) n) (same_entity s i k.entity e k.there there) k.newly) h
-
 pub derived_at : (s : Schema) (n : List ℕ) (i : ℕ) (e : Entity) (b : Bool) → slice_get s.entities i ≡ Some e → MatchBool b (IsIn (new_derived e.derived) n) (¬ (IsIn (new_derived e.derived) n)) → MatchBool b (IsDerivedAt s n i) (¬ (IsDerivedAt s n i))
 derived_at s n i e b there h = test_same b (IsIn (new_derived e.derived) n) (IsDerivedAt s n i) (λ k. record { entity = e; there = there; newly = k }) (λ k. subst (λ (x : Entity). IsIn (new_derived x.derived) n) (same_entity s i k.entity e k.there there) k.newly) h
-
-pub vertex_within : (s : Schema) (graph : List (Vec ℕ Global)) (i : ℕ) (e : Entity) → AreSupertypes s (lists graph) → slice_get s.entities i ≡ Some e → i < length graph
-vertex_within s graph i e zips there = subst (λ (k : ℕ). i < k) (zip_length (λ e edges. ArePositions (IsEntityAt s) e.supertypes edges) s.entities (lists graph) zips ∙ lists_length graph) (slice_get_within s.entities i e there)

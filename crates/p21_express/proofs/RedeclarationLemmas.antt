@@ -13,7 +13,7 @@ use Rattle.p21_express.specs.declared.misfit.Misfit.{Misfit}
 use Rattle.p21_express.specs.declared.misfit.Unfit.{Unfit}
 use Rattle.p21_express.specs.declared.misfit.Unfit.TheVariants as unfit
 use Rattle.p21_express.specs.Misfit.{OnUnfit, Only}
-use Rattle.p21_express.specs.Again.{Origins, IsAgainAt, plain_again}
+use Rattle.p21_express.specs.Again.{Origins, IsAgainAt, origin_in, plain_again}
 use Rattle.p21_express.specs.Schema.{Schema, Entity}
 use Rattle.p21_express.specs.WellFormed.{IsIn, AreDistinct, Redeclaration, Origin, DeclaresAgain, DeclareAgain, IsRedeclaring, redeclarations}
 use Rattle.p21_express.proofs.AgainLemmas.{one_step, found_in}
@@ -90,12 +90,8 @@ module _ (s : Schema) (e : Entity) where
       let all : DeclareAgain s e.name (pre ++ r ∷ post) h.origins = subst (λ (xs : List Redeclaration). DeclareAgain s e.name xs h.origins) is h.declare in
       twice s e.name pre r post os h.origins d before again i all h.distinct
 
-pub origins_step : (s : Schema) (e : List ℕ) (xs : List FoundAgain) (i : ℕ) (x : FoundAgain) (os : List Origin) (o : Origin) (d : List ℕ) → i < length xs → x ≡ get_or xs i x → Origins s e (map plain_again (take i xs)) os → o.entity ≡ d → o.name ≡ x.name.now → DeclaresAgain s e (plain_again x) d → ¬ (IsIn os o) → Origins s e (map plain_again (take (i + 1) xs)) (os ++ o ∷ [])
-origins_step s e xs i x os o d lt is before entity name again new =
-    let same : o ≡ record { entity = d; name = x.name.now } = λ i. record { entity = entity i; name = name i } in
-    let fresh : ¬ (IsIn os (record { entity = d; name = x.name.now })) = subst (λ (z : Origin). ¬ (IsIn os z)) same new in
-    let pushed : Origins s e (map plain_again (take i xs) ++ plain_again x ∷ []) (os ++ o ∷ []) = subst (λ (z : Origin). Origins s e (map plain_again (take i xs) ++ plain_again x ∷ []) (os ++ z ∷ [])) (sym same) (origins_push s e (map plain_again (take i xs)) os (plain_again x) d before again fresh) in
-    rw (one_step (map plain_again) (map-append plain_again) xs i x lt is) pushed
+pub origins_step : (s : Schema) (e : List ℕ) (xs : List FoundAgain) (i : ℕ) (x : FoundAgain) (os : List Origin) (d : List ℕ) → i < length xs → x ≡ get_or xs i x → Origins s e (map plain_again (take i xs)) os → DeclaresAgain s e (plain_again x) d → ¬ (IsIn os (origin_in d x.name.now)) → Origins s e (map plain_again (take (i + 1) xs)) (os ++ origin_in d x.name.now ∷ [])
+origins_step s e xs i x os d lt is before again fresh = rw (one_step (map plain_again) (map-append plain_again) xs i x lt is) (origins_push s e (map plain_again (take i xs)) os (plain_again x) d before again fresh)
 
 pub origins_start : (s : Schema) (e : List ℕ) → Origins s e [] []
 origins_start s e = record { declare = DeclareAgain.none; distinct = tt }

@@ -1,15 +1,15 @@
 -- What a search in depth over a graph keeps.
-use Rattle.std.proofs.Common.{◌≡◌, ℕ, zero, suc, ◌+◌, ◌<◌, ◌≤◌, ◌⊎◌, inl, inr, ⊎_elim, Bool, true, false, List, [], ◌∷◌, ◌++◌, reverse, length, get_or, set, take, Option, Some, None, slice_get, MatchOption, refl, sym, ap, ◌∙◌, arith, get_or-set_other, get_or-set_same, length-set}
+use Rattle.std.proofs.Common.{◌≡◌, ℕ, zero, suc, ◌+◌, ◌<◌, ◌≤◌, inl, inr, ⊎_elim, Bool, true, false, List, [], ◌∷◌, ◌++◌, reverse, length, get_or, set, take, Option, Some, None, slice_get, MatchOption, refl, sym, ap, ◌∙◌, arith, get_or-set_other, get_or-set_same, length-set}
 use Rattle.std.proofs.Math.ListN.{get_or-eq_default}
-use Rattle.std.proofs.lemmas.Bool.{cases_eq, cases_lt, cases_Bool}
-use Rattle.std.proofs.lemmas.List.{reverse-append, append-nil}
+use Rattle.std.proofs.lemmas.Bool.{cases_eq, cases_lt}
+use Rattle.std.proofs.lemmas.List.{reverse-append}
 use Rattle.std.proofs.lemmas.Option.{slice_get_within, get_or_from_slice_get, slice_get-get_or}
 use Rattle.std.specs.Bool.{MatchBool}
 use Rattle.p21_express.specs.declared.checks.graph.Mark.{Mark}
 use Rattle.p21_express.specs.declared.checks.graph.Mark.TheVariants as mark
 use Rattle.p21_express.specs.WellFormed.{IsIn, Leads, HasNoCycle}
 use Rattle.p21_express.specs.Graph.{neighbors, HasEdge}
-use Rattle.p21_express.specs.Search.{State, meet, finish, step_by, step, mark_of, IsWay, IsWholeWay, AreBehind, vertices_of, IsSearch, Reaches, IsSearchFrom, IsAtRest, IsAtEnd, IsBlank, IsWhole, IsCleared, new_left, steps_left}
+use Rattle.p21_express.specs.Search.{State, meet, finish, step_by, step, mark_of, IsWay, IsWholeWay, AreBehind, vertices_of, IsSearch, Reaches, IsSearchFrom, IsAtRest, IsAtEnd, IsBlank, IsWhole, new_left, steps_left}
 use Rattle.p21_express.proofs.GraphLemmas.{one_more, none_more, get_in, leads_on}
 
 -- ---- marks
@@ -339,49 +339,9 @@ is_acyclic g s h e = λ v l. no_cycle_in g s.finished v (h.search.behind e) (h.f
 pub has_cycle : (g : List (List ℕ)) (s : State) → IsWhole g s → s.is_cyclic ≡ true → ¬ (HasNoCycle (HasEdge g))
 has_cycle g s h e = λ acyclic. let found = h.search.cyclic e in acyclic found.0 found.1
 
--- what a search from one vertex found, where there are no cycles
-pub found_all : (g : List (List ℕ)) (v : ℕ) (old s : State) → HasNoCycle (HasEdge g) → v < length g → IsAtEnd g v old s → (w : ℕ) → Reaches g v w → IsIn s.finished w
-found_all g v old s acyclic lt h w reach =
-    let own : IsIn s.finished v = is_finished g s v (rests g v old s h) (h.search.marked lt) in
-    let went : (s.is_cyclic ≡ true) ⊎ (s.is_cyclic ≡ false) = cases_Bool s.is_cyclic in
-    ⊎_elim (λ (t : s.is_cyclic ≡ true). let found = h.search.search.cyclic t in absurd (acyclic found.0 found.1))
-    (λ (f : s.is_cyclic ≡ false). ⊎_elim (λ (e : v ≡ w). rw e at own) (λ (l : Leads (HasEdge g) v w). closed_on g s.finished (h.search.search.behind f) l own) reach)
-    went
-
-pub found_only : (g : List (List ℕ)) (v : ℕ) (old s : State) → IsBlank g old → IsAtEnd g v old s → (w : ℕ) → IsIn s.finished w → Reaches g v w
-found_only g v old s blank h w i =
-    let e : s.finished ≡ h.search.newly = h.search.finished_is ∙ ap (λ (xs : List ℕ). h.search.newly ++ xs) blank.finished ∙ append-nil h.search.newly in
-    h.search.reached w (rw e at i)
-
 decided_by : (g : List (List ℕ)) (s : State) (b : Bool) → IsWhole g s → s.is_cyclic ≡ b → MatchBool b (¬ (HasNoCycle (HasEdge g))) (HasNoCycle (HasEdge g))
 decided_by g s true h e = has_cycle g s h e
 decided_by g s false h e = is_acyclic g s h e
 
 pub decided : (g : List (List ℕ)) (s : State) → IsWhole g s → MatchBool s.is_cyclic (¬ (HasNoCycle (HasEdge g))) (HasNoCycle (HasEdge g))
 decided g s h = decided_by g s s.is_cyclic h refl
-
--- ---- a search that is as new
-
-pub cleared_more : (old ms : List Mark) (vs : List ℕ) (i v : ℕ) → i < length vs → IsCleared old ms (take i vs) v → IsCleared old (set ms (get_or vs i 0) mark.New) (take (i + 1) vs) v
-cleared_more old ms vs i v lt h =
-    ⊎_elim
-    (λ (e : v ≡ get_or vs i 0). inl (rw e (⊎_elim (λ (l : get_or vs i 0 < length ms). at_set ms (get_or vs i 0) mark.New l) (λ (l : length ms ≤ get_or vs i 0). let n : length (set ms (get_or vs i 0) mark.New) ≤ get_or vs i 0 = rw (length-set ms (get_or vs i 0) mark.New) l in is_new (set ms (get_or vs i 0) mark.New) (get_or vs i 0) n) (cases_lt (get_or vs i 0) (length ms)))))
-    (λ (ne : v ≡ get_or vs i 0 → ⊥). ⊎_elim
-    (λ (e : get_or ms v mark.New ≡ mark.New). inl (at_other ms (get_or vs i 0) v mark.New ne ∙ e))
-    (λ (p : (get_or ms v mark.New ≡ get_or old v mark.New) × ¬ (IsIn (take i vs) v)). inr (at_other ms (get_or vs i 0) v mark.New ne ∙ p.0, λ (k : IsIn (take (i + 1) vs) v). ⊎_elim (λ (j : IsIn (take i vs) v). p.1 j) (λ (e : v ≡ get_or vs i 0). ne e) (one_more vs i (get_or vs i 0) v (slice_get-get_or vs i 0 lt) k)))
-    h)
-    (cases_eq v (get_or vs i 0))
-
-still_new : (g : List (List ℕ)) (s : State) (v : ℕ) (m : Mark) → IsAtRest g s → mark_of s v ≡ m → (IsIn s.finished v → ⊥) → m ≡ mark.New
-still_new g s v mark.New h e n = refl
-still_new g s v mark.OnWay h e n = let i : IsIn (vertices_of s.way) v = h.search.on_way v e in absurd (rw h.ended at i)
-still_new g s v mark.Finished h e n = absurd (n (h.search.finished v e))
-
-pub as_new : (g : List (List ℕ)) (v : ℕ) (old s : State) (ms : List Mark) (found : List ℕ) → HasNoCycle (HasEdge g) → IsAtEnd g v old s → ((w : ℕ) → IsIn s.finished w → IsIn found w) → length ms ≡ length s.marks → ((w : ℕ) → IsCleared s.marks ms found w) → IsBlank g (state ms s.way [] s.is_cyclic)
-as_new g v old s ms found acyclic h all_found same cleared = record {
-  all = same ∙ h.search.search.all;
-  marks = λ w. ⊎_elim (λ (e : get_or ms w mark.New ≡ mark.New). e) (λ (p : (get_or ms w mark.New ≡ get_or s.marks w mark.New) × ¬ (IsIn found w)). p.0 ∙ still_new g s w (mark_of s w) (rests g v old s h) refl (λ i. p.1 (all_found w i))) (cleared w);
-  way = h.ended;
-  finished = refl;
-  acyclic = ⊎_elim (λ (t : s.is_cyclic ≡ true). let found = h.search.search.cyclic t in absurd (acyclic found.0 found.1)) (λ (f : s.is_cyclic ≡ false). f) (cases_Bool s.is_cyclic);
-}

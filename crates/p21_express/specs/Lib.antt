@@ -16,9 +16,9 @@ pub mod SchemaFault
 pub mod Misfit
 pub mod Graph
 pub mod Search
-pub mod Links
 pub mod Checks
 pub mod Index
 pub mod Positions
 pub mod Again
 pub mod Owners
+pub mod Known

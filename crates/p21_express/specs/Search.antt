@@ -114,10 +114,6 @@ pub record IsBlank (g : List (List ℕ)) (s : State) : Type 0 where
   pub finished : s.finished ≡ []
   pub acyclic : s.is_cyclic ≡ false
 
--- v is as new, or is none of these vertices and as it was
-abbrev pub IsCleared : List Mark → List Mark → List ℕ → ℕ → Type 0
-IsCleared old ms vs v = (get_or ms v mark.New ≡ mark.New) ⊎ ((get_or ms v mark.New ≡ get_or old v mark.New) × ¬ (IsIn vs v))
-
 -- a search that finished all vertices
 pub record IsWhole (g : List (List ℕ)) (s : State) : Type 0 where
   pub search : IsSearch g s

@@ -1,26 +1,9 @@
 -- Declarations that fit together.
+pub use Rattle.p21_graph.specs.Members.{IsIn, AreDistinct}
+pub use Rattle.p21_graph.specs.Graph.{Leads, HasNoCycle}
 use Rattle.std.specs.Prelude.{◌≡◌, ℕ, Bool, true, false, List, [], ◌∷◌, ◌++◌, ◌⊎◌, map, Option, Some, None, IfSome}
 use Rattle.std.specs.List.{AllByRecursion}
 use Rattle.p21_express.specs.Schema.{Schema, Entity, Attribute, Derived, Defined, Underlying, Expr, items, select, plain, integer, number, boolean, logical, real, text, binary, aggregate, named}
-
--- the list holds it
-abbrev pub IsIn : {X : Type 0} → List X → X → Type 0
-IsIn [] x = ⊥
-IsIn (y ∷ ys) x = (y ≡ x) ⊎ IsIn ys x
-
--- each differs from all behind it
-abbrev pub AreDistinct : {X : Type 0} → List X → Type 0
-AreDistinct [] = Unit {0}
-AreDistinct (x ∷ xs) = ¬ (IsIn xs x) × AreDistinct xs
-
--- one step or more lead from one to another
-pub data Leads {X : Type 0} (Step : X → X → Type 0) : X → X → Type 0 where
-  one : {a b : X} → Step a b → Leads Step a b
-  more : {a b c : X} → Step a b → Leads Step b c → Leads Step a c
-
--- no way leads from one back to itself
-abbrev pub HasNoCycle : {X : Type 0} → (X → X → Type 0) → Type 0
-HasNoCycle {X} Step = (x : X) → ¬ (Leads Step x x)
 
 -- ---- names
 

@@ -7,8 +7,8 @@ ghost use Rattle.p21_express.specs.WellFormed.{IsWellFormed};
 
 mod cycles;
 mod graph;
-mod links;
 mod names;
+mod owners;
 mod redeclared;
 mod repeated;
 mod unknown;

@@ -1,21 +1,21 @@
 -- What SELECTs reach an entity or an ancestor of it.
 use Rattle.std.proofs.Common.{◌≡◌, ℕ, ◌<◌, ◌↔◌, List, [], length, get_or, refl, sym, ap, subst, ◌∙◌, inl, inr, ⊎_elim}
 use Rattle.p21_express.specs.Schema.{Schema}
-use Rattle.p21_express.specs.WellFormed.{IsEntity, IsWellFormed, IsAncestor, HasNoUnknown, one, more}
-use Rattle.p21_schema.specs.declared.reach.Reach.{Reach}
+use Rattle.p21_express.specs.WellFormed.{IsEntity, IsWellFormed, IsAncestor, HasNoUnknown}
+use Rattle.p21_graph.specs.declared.reach.Reach.{Reach}
+use Rattle.p21_graph.specs.Graph.{one, more, rows_of, Reaches}
+use Rattle.p21_graph.specs.Ranges.{Covers}
+use Rattle.p21_graph.specs.MemberLaws.{place_of}
+use Rattle.p21_graph.specs.RangeLaws.{↔_through}
 use Rattle.p21_schema.specs.declared.resolved.Resolved.{Resolved}
 use Rattle.p21_schema.specs.declared.selects.Item.TheVariants as item_kind
 use Rattle.p21_schema.specs.declared.selects.SelectRows.{SelectRows}
 use Rattle.p21_schema.specs.Ancestry.{entity_id, IsDescentTable, IsA}
-use Rattle.p21_schema.specs.Graph.{rows_of, Reaches}
-use Rattle.p21_schema.specs.Ranges.{Covers}
 use Rattle.p21_schema.specs.Select.{SelectReaches, ReachesA, itself, above}
 use Rattle.p21_schema.specs.SelectItems.{IsItemGraph}
 use Rattle.p21_schema.specs.SelectTable.{AreSelectRows, IsAdmitTable, entity_named, type_named}
 use Rattle.p21_schema.specs.Under.{AreResolved}
-use Rattle.p21_schema.proofs.Members.{place_of}
 use Rattle.p21_schema.proofs.AncestryLemmas.{all_names, name_count, name_at, supertypes_known}
-use Rattle.p21_schema.proofs.RangeLemmas.{↔_through}
 use Rattle.p21_schema.proofs.SelectLemmas.{reaches_names, names_reach, stands_entity, entity_at_place}
 use Rattle.p21_schema.proofs.UnderLemmas.{type_names}
 
@@ -58,6 +58,7 @@ module _ (s : Schema) (formed : IsWellFormed s) (unders : List Resolved) (r : Ar
   admit_table table h = record {
     count = h.rows.count ∙ g.count ∙ r.count;
     places = ap length h.places ∙ t.reaches.places ∙ t.count;
+    ordered = h.rows.ordered;
     covers = λ e i le li.
         let row = h.rows.rows i (subst (λ u. i < u) (sym (g.count ∙ r.count)) li) (get_or reach.places.items e 0) in
         let at : get_or reach.places.items e 0 ≡ get_or table.places.items e 0 = ap (λ (u : List ℕ). get_or u e 0) (sym h.places) in

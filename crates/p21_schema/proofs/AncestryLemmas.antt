@@ -5,17 +5,15 @@ use Rattle.std.proofs.lemmas.Bool.{cases_eq, cases_lt}
 use Rattle.std.proofs.lemmas.List.{map_push, take_more, get_or_append_left, get_or_push, length_push, get_or-take, length-take-le, length-map, get_or-map, get_or_past}
 use Rattle.std.specs.List.{AllByRecursion}
 use Rattle.p21_express.specs.Schema.{Schema, Entity, Defined}
-use Rattle.p21_express.specs.WellFormed.{IsIn, AreDistinct, Leads, one, more, HasNoCycle, IsSupertype, IsAncestor, IsEntity, HasNoRepeated, HasNoUnknown}
+use Rattle.p21_express.specs.WellFormed.{IsIn, AreDistinct, Leads, HasNoCycle, IsSupertype, IsAncestor, IsEntity, HasNoRepeated, HasNoUnknown}
+use Rattle.p21_graph.specs.Graph.{one, more, HasEdge, AreEdgesBelow, Reaches, here, through, rows_of, plain_graph}
+use Rattle.p21_graph.specs.Reach.{IsTurned, IsReach, IsWithin, itself, through as inside}
+use Rattle.p21_graph.specs.declared.reach.Reach.{Reach}
+use Rattle.p21_graph.specs.GraphLaws.{rows_push, row_is, row_count, leads_behind}
+use Rattle.p21_graph.specs.MemberLaws.{place_of, at_place, in_either, in_map, from_map, same_place, holds_of, distinct_left}
 use Rattle.p21_schema.specs.Place.{no_entity, entity_name, IsEntityOf}
-use Rattle.p21_schema.specs.Graph.{HasEdge, AreEdgesBelow, Reaches, here, through}
-use Rattle.p21_schema.specs.Reach.{IsTurned, IsReach, IsWithin, itself, through as inside}
-use Rattle.p21_schema.specs.declared.reach.Reach.{Reach}
 use Rattle.p21_schema.specs.Ancestry.{entity_id, AreNamed, AreSupertypesNamed, NameEntities, IsSupertypeTable, IsDescentTable, IsA}
-use Rattle.p21_schema.specs.Graph.{rows_of, plain_graph}
 use Rattle.p21_schema.specs.declared.ids.EntityId.{EntityId}
-use Rattle.p21_schema.proofs.GraphLemmas.{rows_push, row_is, row_count}
-use Rattle.p21_schema.proofs.WithinLemmas.{leads_behind}
-use Rattle.p21_schema.proofs.Members.{place_of, at_place, in_either, in_map, from_map, same_place, holds_of, distinct_left}
 
 pub named_push : (names ns : List (List ℕ)) (places : List ℕ) (i : ℕ) (n : List ℕ) → AreNamed names places ns → i < length names → get_or names i [] ≡ n → AreNamed names (places ++ i ∷ []) (ns ++ n ∷ [])
 named_push names ns places i n h less at = record {

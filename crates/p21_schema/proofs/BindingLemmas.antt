@@ -4,26 +4,26 @@ use Rattle.std.specs.List.{AllZip}
 use Rattle.std.proofs.lemmas.Bool.{false≢true}
 use Rattle.p21_express.specs.Schema.{Schema}
 use Rattle.p21_express.specs.WellFormed.{IsIn, IsAncestor, IsWellFormed}
+use Rattle.p21_graph.specs.declared.reach.Reach.{Reach}
+use Rattle.p21_graph.specs.Graph.{rows_of}
+use Rattle.p21_graph.specs.Ranges.{Covers}
+use Rattle.p21_graph.specs.MemberLaws.{place_of, at_place}
+use Rattle.p21_graph.specs.RangeLaws.{↔_through}
 use Rattle.p21_schema.specs.declared.bindings.Binding.{Binding}
 use Rattle.p21_schema.specs.declared.bindings.Binding.TheVariants as binding
 use Rattle.p21_schema.specs.declared.declarations.Declaration.{Declaration as Coded}
 use Rattle.p21_schema.specs.declared.declarations.Form.{Form as CodedForm}
 use Rattle.p21_schema.specs.declared.declarations.Form.TheVariants as coded
 use Rattle.p21_schema.specs.declared.ids.EntityId.{EntityId}
-use Rattle.p21_schema.specs.declared.reach.Reach.{Reach}
 use Rattle.p21_schema.specs.declared.steps.Step.{Step}
 use Rattle.p21_schema.specs.Ancestry.{entity_id, IsDescentTable, IsA}
 use Rattle.p21_schema.specs.Binding.{IsAt, IsBinding}
 use Rattle.p21_schema.specs.Declaration.{Declaration, Written, Form, derived, explicit, written, AreDeclarations, AreResolvedIn, IsResolvedDeclaration, IsResolvedForm, Chosen, none, kept, dropped}
 use Rattle.p21_schema.specs.DeclarationTable.{IsDeclarationTable}
-use Rattle.p21_schema.specs.Graph.{rows_of}
 use Rattle.p21_schema.specs.Place.{entity_name, IsEntityOf}
-use Rattle.p21_schema.specs.Ranges.{Covers}
 use Rattle.p21_schema.specs.Row.{attributes_of, no_attribute}
 use Rattle.p21_schema.specs.Spans.{no_declaration, explicit_form, row_at, AreWithin, IsAbove, AreMet, IsBindingTable, IsBindingBy}
 use Rattle.p21_schema.proofs.AncestryLemmas.{same_entity, distinct_entities}
-use Rattle.p21_schema.proofs.Members.{place_of, at_place}
-use Rattle.p21_schema.proofs.RangeLemmas.{↔_through}
 
 -- two lists that are related place by place
 zip_length : {X Y : Type 0} (R : X → Y → Type 0) (xs : List X) (ys : List Y) → AllZip R xs ys → length xs ≡ length ys

@@ -5,16 +5,17 @@ use Rattle.std.proofs.lemmas.Bool.{cases_eq, cases_lt}
 use Rattle.std.proofs.lemmas.List.{length-map, get_or-map, length-set, get_or-set_same, get_or-set_other, take_more, append-nil, map-append, get_or-replicate, length-replicate, get_or_past}
 use Rattle.std.proofs.lemmas.Slice.Zip.{all_zipped_more}
 use Rattle.p21_express.specs.Schema.{Schema, Entity, Attribute, Derived}
-use Rattle.p21_express.specs.WellFormed.{IsIn, AreDistinct, IsEntity, IsKnown, one, more, Origin, IsOrigin, IsNewIn, IsAncestor, DeclaresAgain, DeclareAgain, IsRedeclaring, IsWellFormed, Redeclaration, redeclarations, again_explicit, again_derived, with_again, new_explicit, new_derived, new_names, with_new, HasNoUnknown}
+use Rattle.p21_express.specs.WellFormed.{IsIn, AreDistinct, IsEntity, IsKnown, Origin, IsOrigin, IsNewIn, IsAncestor, DeclaresAgain, DeclareAgain, IsRedeclaring, IsWellFormed, Redeclaration, redeclarations, again_explicit, again_derived, with_again, new_explicit, new_derived, new_names, with_new, HasNoUnknown}
+use Rattle.p21_graph.specs.Graph.{one, more}
+use Rattle.p21_graph.specs.MemberLaws.{at_place, in_either, in_left, in_right, from_map, holds_of, same_place, distinct_apart}
 use Rattle.p21_schema.specs.declared.declarations.Declaration.{Declaration as Coded}
 use Rattle.p21_schema.specs.declared.rows.Own.{Own}
 use Rattle.p21_schema.specs.Place.{no_entity, entity_name}
 use Rattle.p21_schema.specs.Ancestry.{entity_id, IsA}
 use Rattle.p21_schema.specs.Row.{own_attributes, attributes_of, no_attribute}
 use Rattle.p21_schema.specs.RowTable.{IsOwnTable, no_own}
-use Rattle.p21_schema.specs.Declaration.{derived, explicit, Declaration, Written, written_explicit, written_derived, explicit_in, derived_in, written, is_explicit, Declares, newly, again, Chosen, none, kept, dropped, declaration, AreDeclarations, IsResolvedDeclaration, AreResolvedIn}
+use Rattle.p21_schema.specs.Declaration.{Declaration, Written, written_explicit, explicit_in, derived_in, written, is_explicit, Declares, newly, again, Chosen, none, kept, dropped, declaration, AreDeclarations, IsResolvedDeclaration, AreResolvedIn}
 use Rattle.p21_schema.specs.DeclarationTable.{AreAmong, IsDeclarationTable, IsNotOwn, IsOwnAt, HasOneOrigin, IsOriginAt, IsDeclared}
-use Rattle.p21_schema.proofs.Members.{at_place, in_either, in_left, in_right, from_map, holds_of, same_place, distinct_apart}
 use Rattle.p21_schema.proofs.AncestryLemmas.{distinct_entities, supertypes_known, name_at, name_count}
 use Rattle.p21_schema.proofs.RowLemmas.{own_at, own_below, attributes_distinct, later_new}
 
@@ -160,14 +161,6 @@ module _ (s : Schema) (formed : IsWellFormed s) where
       let o = get_or (attributes_of s.entities) i no_attribute in
       let same : d ≡ o.entity = sym (one_is.only o.entity h.origin) in
       (h.below, again of self (sym h.name) (subst (λ (u : List ℕ). DeclaresAgain s w.entity (record { of = of; name = w.name; explicit = is_explicit w.form }) u) same one_is))
-
-  -- an attribute of DERIVE without SELF declares lone explicit attribute
-  pub not_declared : (e : List ℕ) (a : Derived) → a.of ≡ None → IsDeclared s (written_derived e a) None
-  not_declared e a lone = λ o i. by o
-    where
-      by : (o : Origin) → ¬ (Declares s o (written_derived e a))
-      by o (newly b x f form en n) = absurd (let bad : derived ≡ explicit b x = form in cc)
-      by o (again of f n r) = absurd (let bad : None ≡ Some of = sym lone ∙ f in cc)
 
   -- it declares one attribute at most
   one_declared : {o p : Origin} {w : Written} → Declares s o w → Declares s p w → o ≡ p

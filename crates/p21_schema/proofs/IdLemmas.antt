@@ -3,12 +3,12 @@ use Rattle.std.proofs.Common.{◌≡◌, ℕ, ◌<◌, List, [], length, sym, �
 use Rattle.std.proofs.lemmas.List.{length-map, get_or-map}
 use Rattle.p21_express.specs.Schema.{Schema, Defined}
 use Rattle.p21_express.specs.WellFormed.{IsWellFormed}
+use Rattle.p21_graph.specs.MemberLaws.{same_place}
 use Rattle.p21_schema.specs.declared.ids.EntityId.{EntityId}
 use Rattle.p21_schema.specs.declared.ids.AttrId.{AttrId}
 use Rattle.p21_schema.specs.declared.ids.TypeId.{TypeId}
 use Rattle.p21_schema.specs.Place.{no_type, entity_name, IsEntityOf, type_name, IsTypeOf}
 use Rattle.p21_schema.specs.Row.{attributes_of, no_attribute, attribute_at, IsAttributeOf}
-use Rattle.p21_schema.proofs.Members.{same_place}
 use Rattle.p21_schema.proofs.AncestryLemmas.{same_entity, distinct_entities}
 use Rattle.p21_schema.proofs.RowLemmas.{attributes_distinct}
 use Rattle.p21_schema.proofs.UnderLemmas.{distinct_types, type_names}

@@ -11,13 +11,12 @@ use Rattle.std.proofs.lemmas.List.{get_or_append_left, get_or_push, length_push,
 use Rattle.std.proofs.lemmas.List.Sorted.{searchable_from_sorted, IsPermutation-sym}
 use Rattle.p21_express.specs.Schema.{Schema, Defined, Underlying, plain, named}
 use Rattle.p21_express.specs.WellFormed.{IsIn, IsWellFormed}
+use Rattle.p21_graph.specs.MemberLaws.{place_of, at_place, in_map, from_map, front_more, same_place, in_permuted}
 use Rattle.p21_schema.specs.declared.ids.TypeId.{TypeId}
 use Rattle.p21_schema.specs.Place.{no_type, type_name, IsTypeOf}
 use Rattle.p21_schema.specs.Under.{StandsUnder, itself, followed, IsEnd, AreEnds}
 use Rattle.p21_schema.specs.Items.{IsItemOf, HasItem}
 use Rattle.p21_schema.specs.ItemTable.{AreInOrder, IsNamesRow, AreNamesRows}
-use Rattle.p21_schema.proofs.Members.{place_of, at_place, in_map, from_map, front_more, same_place}
-use Rattle.p21_schema.proofs.RangeLemmas.{in_permuted}
 use Rattle.p21_schema.proofs.UnderLemmas.{distinct_types, type_names}
 
 abbrev Name : Type 0

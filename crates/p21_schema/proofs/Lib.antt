@@ -1,8 +1,5 @@
-pub mod Members
 pub mod NameLemmas
 pub mod RuleLemmas
-pub mod GraphLemmas
-pub mod ReachLemmas
 pub mod AncestryLemmas
 pub mod RowLemmas
 pub mod UnderLemmas
@@ -13,9 +10,6 @@ pub mod DeclarationLemmas
 pub mod SelectLemmas
 pub mod Examples
 pub mod AdmitLemmas
-pub mod WalkLemmas
-pub mod RangeLemmas
-pub mod WithinLemmas
 pub mod SharedLemmas
 pub mod StepLemmas
 pub mod SpanLemmas

@@ -7,7 +7,7 @@ use Rattle.std.proofs.lemmas.List.{map_push, get_or-map, take_more, length-map}
 use Rattle.std.proofs.lemmas.List.Quantifiers.{position-Some}
 use Rattle.std.specs.List.{list_any, position}
 use Rattle.p21_express.specs.WellFormed.{IsIn, AreDistinct}
-use Rattle.p21_schema.proofs.Members.{not_before, at_place}
+use Rattle.p21_graph.specs.MemberLaws.{not_before, at_place}
 
 -- the test by which a name is looked up
 abbrev pub is_name : {A : Type 0} → List ℕ → Vec ℕ A → Bool

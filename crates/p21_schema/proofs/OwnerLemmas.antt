@@ -1,20 +1,24 @@
 -- Which entities newly declare an explicit attribute of a name, by lists.
-use Rattle.std.proofs.Common.{◌≡◌, ℕ, ◌+◌, ◌<◌, List, [], ◌∷◌, ◌++◌, ◌⊎◌, length, get_or, set, take, Option, Some, None, refl, sym, ap, ◌∙◌, subst, inl, inr, ⊎_elim, arith}
+use Rattle.std.proofs.Common.{◌≡◌, ℕ, zero, suc, ◌+◌, ◌<◌, List, [], ◌∷◌, ◌++◌, ◌⊎◌, length, get_or, set, take, Option, Some, None, refl, sym, ap, ◌∙◌, subst, inl, inr, ⊎_elim, arith}
 use Rattle.std.proofs.lemmas.Bool.{cases_eq}
 use Rattle.std.proofs.lemmas.List.{length-set, length_push, get_or-set_same, get_or-set_other, get_or_append_left, get_or_push, take_more, append-nil}
+use Rattle.std.proofs.lemmas.Option.{slice_get_read}
+use Rattle.std.specs.Prelude.{slice_get}
 use Rattle.std.specs.List.{HoldsAt}
 use Rattle.std.specs.Ordering.{nat_cmp}
 use Rattle.std.specs.declared.cmp.Ordering.TheVariants.{Equal}
 use Rattle.std.specs.FinMap.{nat_cmp-IsAntisymmetric}
 use Rattle.p21_express.specs.Schema.{Schema, Entity, Derived}
 use Rattle.p21_express.specs.WellFormed.{IsIn, AreDistinct, with_new, new_derived, new_names}
+use Rattle.p21_graph.specs.declared.reach.Reach.{Reach}
+use Rattle.p21_graph.specs.declared.sources.Sources.{Sources}
+use Rattle.p21_graph.specs.Graph.{rows_of}
+use Rattle.p21_graph.specs.MemberLaws.{at_place as member_at, in_left, in_right, in_either, same_place}
+use Rattle.p21_graph.specs.Sources.{AreSources}
 use Rattle.p21_schema.specs.declared.owners.Owner.{Owner}
 use Rattle.p21_schema.specs.declared.owners.Owners.{Owners}
-use Rattle.p21_schema.specs.Graph.{rows_of}
-use Rattle.p21_schema.specs.Owners.{IsListed, AreListed, IsOwned, IsOwnerIn, OwnsAt, AreInLists, IsNoted, AreOwners}
+use Rattle.p21_schema.specs.Owners.{IsListed, AreListed, IsOwnerIn, OwnsAt, AreInLists, IsNoted, AreOwners, AreOwnersBelow, AreAllSources}
 use Rattle.p21_schema.specs.Place.{no_entity}
-use Rattle.p21_schema.proofs.Members.{in_left, in_right, in_either, same_place}
-use Rattle.p21_schema.proofs.Members as members
 use Rattle.p21_schema.proofs.RowLemmas.{later_new, with_new_append}
 
 pub is_one : {X : Type 0} (y x : X) → IsIn (y ∷ []) x → x ≡ y
@@ -188,11 +192,6 @@ owners_more s k old new d at h noted this = record {
 abbrev pub no_owner : Owner
 no_owner = record { entity = 0; position = None }
 
--- what stands at a place of a list of a name
-pub owned_at : (s : Schema) (os : Owners) (size : ℕ) (n : List ℕ) (list : List Owner) (k : ℕ) (d : Owner) → AreOwners s size os → ((o : Owner) → IsIn list o → IsListed os n o) → k < length list
-    → ((get_or list k d).entity < size) × IsOwned s n (get_or list k d)
-owned_at s os size n list k d h only less = h.only n (get_or list k d) (only (get_or list k d) (members.at_place list k d less))
-
 -- what a search by the entity finds
 pub owner_found : (os : List Owner) (e i : ℕ) → HoldsAt (λ o. nat_cmp o.entity e ≡ Equal) os i → (d : Owner) → (get_or os i d).entity ≡ e
 owner_found os e i h d = nat_cmp-IsAntisymmetric (get_or os i d).entity e (h d)
@@ -203,4 +202,42 @@ listed_at os n o place h less named l = subst (λ (u : ℕ). IsIn (get_or (rows_
 
 -- a name with a list is there
 pub listed_in : (os : Owners) (n : List ℕ) (o : Owner) → IsListed os n o → IsIn os.names n
-listed_in os n o l = subst (λ (u : List ℕ). IsIn os.names u) l.named (members.at_place os.names l.place [] l.below)
+listed_in os n o l = subst (λ (u : List ℕ). IsIn os.names u) l.named (member_at os.names l.place [] l.below)
+
+-- ---- vertices that are asked
+
+some_same : {X : Type 0} (x y : X) → Some x ≡ Some y → x ≡ y
+some_same x y e = cc
+
+pushed_at : {X : Type 0} (xs : List X) (x : X) (i : ℕ) (y : X) → slice_get (xs ++ x ∷ []) i ≡ Some y → (slice_get xs i ≡ Some y) ⊎ (x ≡ y)
+pushed_at [] x zero y e = inr (some_same x y e)
+pushed_at [] x (suc i) y e = absurd cc
+pushed_at (z ∷ zs) x zero y e = inl e
+pushed_at (z ∷ zs) x (suc i) y e = pushed_at zs x i y e
+
+set_at : {X : Type 0} (xs : List X) (k : ℕ) (x : X) (i : ℕ) (y : X) → slice_get (set xs k x) i ≡ Some y → (slice_get xs i ≡ Some y) ⊎ (x ≡ y)
+set_at [] k x i y e = inl e
+set_at (z ∷ zs) zero x zero y e = inr (some_same x y e)
+set_at (z ∷ zs) zero x (suc i) y e = inl e
+set_at (z ∷ zs) (suc k) x zero y e = inl e
+set_at (z ∷ zs) (suc k) x (suc i) y e = set_at zs k x i y e
+
+pub sources_push : (graph : List (List ℕ)) (reach : Reach) (all : List Sources) (more : Sources) → AreAllSources graph reach all → AreSources graph reach more → AreAllSources graph reach (all ++ more ∷ [])
+sources_push graph reach all more before this i f e = ⊎_elim (λ (o : slice_get all i ≡ Some f). before i f o) (λ (n : more ≡ f). subst (λ (u : Sources). AreSources graph reach u) n this) (pushed_at all more i f e)
+
+pub sources_set : (graph : List (List ℕ)) (reach : Reach) (all : List Sources) (k : ℕ) (later : Sources) → AreAllSources graph reach all → AreSources graph reach later → AreAllSources graph reach (set all k later)
+sources_set graph reach all k later before this i f e = ⊎_elim (λ (o : slice_get all i ≡ Some f). before i f o) (λ (n : later ≡ f). subst (λ (u : Sources). AreSources graph reach u) n this) (set_at all k later i f e)
+
+pub sources_at : (graph : List (List ℕ)) (reach : Reach) (all : List Sources) (k : ℕ) (f : Sources) → AreAllSources graph reach all → k < length all → f ≡ get_or all k f → AreSources graph reach f
+sources_at graph reach all k f h less is = h k f (slice_get_read all (length all) k f refl less is)
+
+-- all owners of the schema's names are entities
+pub owners_below : (s : Schema) (os : Owners) → AreOwners s (length s.entities) os → (place : ℕ) → AreOwnersBelow (get_or (rows_of os.lists) place []) (length s.entities)
+owners_below s os h place o i =
+    let less : place < length os.names = subst (λ (u : ℕ). place < u) h.lists.count (row_there (rows_of os.lists) place o i) in
+    (h.only (get_or os.names place []) o (record { place = place; below = less; named = refl; listed = i })).0
+  where
+    row_there : (rows : List (List Owner)) (k : ℕ) (o : Owner) → IsIn (get_or rows k []) o → k < length rows
+    row_there [] k o i = absurd i
+    row_there (r ∷ rows) zero o i = omega arith
+    row_there (r ∷ rows) (suc k) o i = let less : k < length rows = row_there rows k o i in omega (arith, less)

@@ -10,7 +10,8 @@ use Rattle.std.proofs.Math.Seq.{get_or-append_seam}
 use Rattle.std.proofs.lemmas.Option.{get_or_from_slice_get}
 use Rattle.p21_express.specs.Schema.{Schema, Entity, Attribute}
 use Rattle.p21_express.specs.WellFormed.{IsIn, AreDistinct, Origin, IsWellFormed, IsSupertype, IsAncestor, new_explicit, new_derived, new_names, with_new}
-use Rattle.p21_express.specs.WellFormed as way
+use Rattle.p21_graph.specs.Graph as way
+use Rattle.p21_graph.specs.MemberLaws.{in_either, from_map, distinct_left, same_place, place_of, at_place, holds_of, in_map, in_front, distinct_apart}
 use Rattle.p21_schema.specs.declared.ids.AttrId.{AttrId}
 use Rattle.p21_schema.specs.declared.ids.EntityId.{EntityId}
 use Rattle.p21_schema.specs.Place.{no_entity, entity_at, entity_name, IsEntityOf}
@@ -22,7 +23,6 @@ use Rattle.std.proofs.lemmas.List.Folds.{list_any-append}
 use Rattle.p21_schema.specs.RowTable.{same_id, AreIndicesOf, kept, all_kept, ids_from, joined, first_of, IsOwn, IsOwnTable, IsRowAt, no_own}
 use Rattle.p21_schema.specs.declared.rows.Own.{Own}
 use Rattle.p21_schema.proofs.AncestryLemmas.{all_names, name_at}
-use Rattle.p21_schema.proofs.Members.{in_either, from_map, distinct_left, same_place, place_of, at_place, holds_of, in_map, in_front, distinct_apart}
 
 -- ---- what is kept
 
@@ -43,13 +43,6 @@ ids_push i (suc n) =
     let ih = ids_push (suc i) n in
     let e : suc i + n ≡ i + suc n = omega arith in
     λ j. record { index = i } ∷ (ih ∙ ap (λ (u : ℕ). ids_from (suc i) n ++ record { index = u } ∷ []) e) j
-
-pub own_more : (r now new : List AttrId) (from i : ℕ) → from ≤ i → now ≡ all_kept r (ids_from from (i - from)) → new ≡ kept now (record { index = i }) → new ≡ all_kept r (ids_from from (i + 1 - from))
-own_more r now new from i le h e =
-    let a : from + (i - from) ≡ i = omega arith in
-    let b : i + 1 - from ≡ suc (i - from) = omega arith in
-    let c : ids_from from (i + 1 - from) ≡ ids_from from (i - from) ++ record { index = i } ∷ [] = ap (λ (u : ℕ). ids_from from u) b ∙ ids_push from (i - from) ∙ ap (λ (u : ℕ). ids_from from (i - from) ++ record { index = u } ∷ []) a in
-    e ∙ ap (λ (u : List AttrId). kept u (record { index = i })) h ∙ sym (all_kept_append r (ids_from from (i - from)) (record { index = i } ∷ [])) ∙ ap (λ (u : List AttrId). all_kept r u) (sym c)
 
 pub own_behind : (r now new : List AttrId) (from i : ℕ) → from ≤ i → now ≡ r ++ ids_from from (i - from) → new ≡ now ++ record { index = i } ∷ [] → new ≡ r ++ ids_from from (i + 1 - from)
 own_behind r now new from i le h e =
@@ -193,13 +186,6 @@ new_place xs i d less e =
     let whole : new_explicit xs ≡ front ++ n ∷ rest = ap new_explicit (sym (take-append-drop (i + 1) xs)) ∙ new_append (take (i + 1) xs) (drop (i + 1) xs) ∙ ap (λ (u : List (List ℕ)). u ++ rest) (new_more xs i d less e) ∙ append_assoc front (n ∷ []) rest in
     let long : length (new_explicit xs) ≡ length front + length (n ∷ rest) = ap length whole ∙ length-append front (n ∷ rest) in
     (omega (arith, long), ap (λ (u : List (List ℕ)). get_or u (length front) []) whole ∙ get_or-append_seam front n rest [])
-
-pub new_count : (xs : List Attribute) (i : ℕ) (d : Attribute) → i < length xs → length (new_explicit (take i xs)) ≤ i → length (new_explicit (take (i + 1) xs)) ≤ i + 1
-new_count xs i d less h = by (get_or xs i d).of refl
-  where
-    by : (o : Option (List ℕ)) → (get_or xs i d).of ≡ o → length (new_explicit (take (i + 1) xs)) ≤ i + 1
-    by None e = let long : length (new_explicit (take (i + 1) xs)) ≡ length (new_explicit (take i xs)) + 1 = ap length (new_more xs i d less e) ∙ length-append (new_explicit (take i xs)) ((get_or xs i d).name ∷ []) in omega (arith, long)
-    by (Some o) e = let same : length (new_explicit (take (i + 1) xs)) ≡ length (new_explicit (take i xs)) = ap length (new_same xs i d o less e) in omega (arith, same)
 
 -- the attributes of the entities up to one more
 attributes_append : (xs ys : List Entity) → attributes_of (xs ++ ys) ≡ attributes_of xs ++ attributes_of ys
@@ -582,9 +568,6 @@ module _ (s : Schema) (distinct : AreDistinct (map (λ (e : Entity). e.name) s.e
 module _ (s : Schema) (table : List Own) (e : EntityId) (own : Own) (t : IsOwnTable s table) (l : IsEntityOf s e) (is : get_or table e.index no_own ≡ own) where
   own_of : IsOwn s e.index own
   own_of = subst (λ (u : Own). IsOwn s e.index u) is (t.rows e.index l)
-
-  pub own_length : own.to - own.from ≡ length (own_attributes (entity_at s e))
-  own_length = let h = own_of in omega (arith, h.count)
 
   pub own_known : (i k : ℕ) → k < length (own_attributes (entity_at s e)) → i ≡ own.from + k → IsAttributeOf s (record { index = i })
   own_known i k less at = subst (λ u. u < length (attributes_of s.entities)) (ap (λ (u : ℕ). u + k) (sym own_of.from) ∙ sym at) (own_below s.entities e.index k l less)

@@ -2,8 +2,8 @@
 use Rattle.std.proofs.Common.{ℕ, Bool, List, [], ◌∷◌, inl, inr, ⊎_elim}
 use Rattle.std.specs.List.{AllByRecursion}
 use Rattle.p21_express.specs.Schema.{Schema, Entity, Defined, Expr, Underlying, items, select, plain, integer, number, boolean, logical, real, text, binary, aggregate, named}
-use Rattle.p21_express.specs.WellFormed.{IsSelect, IsSupertype, IsAncestor, IsOther, IsInnerSelect, Leads, HasNoCycle, IsNewIn, IsNewInDerive, IsOrigin, DeclaresAgain, DeclareAgain, IsRedeclaring, Redeclaration, Origin, IsKnownUnder, IsAllowedAlone, IsKnown, IsWellFormed}
-use Rattle.p21_express.specs.WellFormed as fit
+use Rattle.p21_express.specs.WellFormed.{IsSelect, IsSupertype, IsOther, IsInnerSelect, Leads, HasNoCycle, IsNewIn, IsNewInDerive, IsOrigin, DeclaresAgain, DeclareAgain, IsRedeclaring, Redeclaration, Origin, IsKnownUnder, IsAllowedAlone, IsWellFormed}
+use Rattle.p21_graph.specs.Graph as way
 use Rattle.p21_schema.specs.declared.rules.Rules.{Rules}
 use Rattle.p21_schema.specs.declared.rows.Own.{Own}
 use Rattle.p21_schema.specs.RowTable.{IsOwnTable}
@@ -31,8 +31,8 @@ module _ (n : List ℕ) (es : List Entity) (ts : List Defined) where
     derived_too h = record { entity = h.entity; declared = h.declared; name_is = h.name_is; newly = h.newly }
 
   leads_too : {X : Type 0} {P Q : X → X → Type 0} {x y : X} → ((a b : X) → P a b → Q a b) → Leads P x y → Leads Q x y
-  leads_too f (fit.one {a = a} {b = b} h) = fit.one (f a b h)
-  leads_too f (fit.more {a = a} {b = b} h others) = fit.more (f a b h) (leads_too f others)
+  leads_too f (way.one {a = a} {b = b} h) = way.one (f a b h)
+  leads_too f (way.more {a = a} {b = b} h others) = way.more (f a b h) (leads_too f others)
 
   no_cycle_too : {X : Type 0} {P Q : X → X → Type 0} → ((a b : X) → Q a b → P a b) → HasNoCycle P → HasNoCycle Q
   no_cycle_too f none x h = none x (leads_too f h)

@@ -4,7 +4,13 @@ use Rattle.std.specs.Prelude.{slice_get}
 use Rattle.std.proofs.lemmas.Bool.{cases_eq, cases_lt}
 use Rattle.std.proofs.lemmas.List.{length-map, get_or-map, get_or_past, get_or_append_left, get_or_push}
 use Rattle.p21_express.specs.Schema.{Schema, Defined, Underlying, items, select, plain}
-use Rattle.p21_express.specs.WellFormed.{IsIn, IsEntity, IsType, IsSelect, IsSelectType, IsInnerSelect, IsWellFormed, Leads, one, more, HasNoCycle}
+use Rattle.p21_express.specs.WellFormed.{IsIn, IsEntity, IsType, IsSelect, IsSelectType, IsInnerSelect, IsWellFormed, Leads, HasNoCycle}
+use Rattle.p21_graph.specs.Graph.{one, more, rows_of, HasEdge, AreEdgesBelow, Reaches, here, through as onward, IsMarked}
+use Rattle.p21_graph.specs.Ranges.{Covers}
+use Rattle.p21_graph.specs.Reach.{IsEachAlone}
+use Rattle.p21_graph.specs.declared.ranges.Range.{Range}
+use Rattle.p21_graph.specs.declared.reach.Reach.{Reach}
+use Rattle.p21_graph.specs.MemberLaws.{place_of as place_in, at_place, in_left, in_right, in_either, in_map, from_map, same_place, distinct_apart, front_more, front_in, last_in}
 use Rattle.p21_schema.specs.declared.resolved.Target.{Target}
 use Rattle.p21_schema.specs.declared.resolved.Target.TheVariants as target
 use Rattle.p21_schema.specs.declared.resolved.Resolved.{Resolved}
@@ -12,19 +18,12 @@ use Rattle.p21_schema.specs.declared.resolved.Resolved.TheVariants as resolved
 use Rattle.p21_schema.specs.declared.selects.Item.{Item}
 use Rattle.p21_schema.specs.declared.selects.Item.TheVariants as item_kind
 use Rattle.p21_schema.specs.Place.{no_type}
-use Rattle.p21_schema.specs.Graph.{rows_of, HasEdge, AreEdgesBelow, Reaches, here, through as onward, IsMarked}
-use Rattle.p21_schema.specs.Ranges.{Covers}
-use Rattle.p21_schema.specs.Reach.{IsEachAlone}
-use Rattle.p21_schema.specs.declared.ranges.Range.{Range}
-use Rattle.p21_schema.specs.declared.reach.Reach.{Reach}
 use Rattle.p21_schema.specs.declared.selects.SelectRows.{SelectRows}
 use Rattle.p21_schema.specs.Resolved.{target_name}
 use Rattle.p21_schema.specs.Under.{IsResolved, AreResolved}
 use Rattle.p21_schema.specs.Select.{IsItem, SelectReaches, item, through, ReachesType}
 use Rattle.p21_schema.specs.SelectItems.{IsItemAt, kind_under, kind_of, place_of, targets_of, IsItemRow, IsItemGraph}
 use Rattle.p21_schema.specs.SelectTable.{entity_named, type_named, AreSelectRows, IsSelectTable, AreEntityMarks}
-use Rattle.p21_schema.proofs.Members.{at_place, in_map, from_map, same_place, distinct_apart, front_more, front_in, last_in}
-use Rattle.p21_schema.proofs.Members as members
 use Rattle.p21_schema.proofs.AncestryLemmas.{all_names, name_count, name_at, same_entity, distinct_entities}
 use Rattle.p21_schema.proofs.UnderLemmas.{type_names, distinct_types}
 
@@ -41,18 +40,15 @@ got (y ∷ ys) (suc k) x h = let r = got ys k x h in (let less : k < length ys =
 
 -- ---- rows of items
 
-pub no_items : (unders : List Resolved) (wanted : Item) → IsItemRow unders wanted [] []
-no_items unders wanted k = (λ i. absurd i, λ i. absurd i.item)
-
 pub item_more : (unders : List Resolved) (wanted : Item) (ts : List Target) (row : List ℕ) (i : ℕ) (d : Target) → i < length ts → kind_of unders (get_or ts i d) ≡ wanted → IsItemRow unders wanted (take i ts) row → IsItemRow unders wanted (take (i + 1) ts) (row ++ place_of (get_or ts i d) ∷ [])
 item_more unders wanted ts row i d less kind h k = (
   λ j. ⊎_elim
       (λ (l : IsIn row k). let r = (h k).0 l in record { target = r.target; item = front_in ts i d r.target less r.item; kind = r.kind; place = r.place })
       (λ (r : IsIn (place_of (get_or ts i d) ∷ []) k). ⊎_elim (λ (e : place_of (get_or ts i d) ≡ k). record { target = get_or ts i d; item = last_in ts i d less; kind = kind; place = e }) (λ (n : ⊥). absurd n) r)
-      (members.in_either row (place_of (get_or ts i d) ∷ []) k j),
+      (in_either row (place_of (get_or ts i d) ∷ []) k j),
   λ r. ⊎_elim
-      (λ (l : IsIn (take i ts) r.target). members.in_left row (place_of (get_or ts i d) ∷ []) k ((h k).1 (record { target = r.target; item = l; kind = r.kind; place = r.place })))
-      (λ (e : get_or ts i d ≡ r.target). members.in_right row (place_of (get_or ts i d) ∷ []) k (inl (ap place_of e ∙ r.place)))
+      (λ (l : IsIn (take i ts) r.target). in_left row (place_of (get_or ts i d) ∷ []) k ((h k).1 (record { target = r.target; item = l; kind = r.kind; place = r.place })))
+      (λ (e : get_or ts i d ≡ r.target). in_right row (place_of (get_or ts i d) ∷ []) k (inl (ap place_of e ∙ r.place)))
       (front_more ts i d r.target less r.item),
 )
 
@@ -103,14 +99,14 @@ module _ (s : Schema) (formed : IsWellFormed s) (unders : List Resolved) (r : Ar
   -- the type of a name
   same_type : (t : Defined) (i : ℕ) → IsIn s.types t → i < length s.types → t.name ≡ type_named s i → get_or s.types i no_type ≡ t
   same_type t i there less e =
-      let p = members.place_of s.types t there in
+      let p = place_in s.types t there in
       let same : p.0 ≡ i = same_type_at p.0 i p.1.0 less (ap (λ (u : Defined). u.name) (p.1.1 no_type) ∙ e) in
       subst (λ (u : ℕ). get_or s.types u no_type ≡ t) same (p.1.1 no_type)
 
   type_place : (n : List ℕ) → IsType s n → (i : ℕ) × ((i < length s.types) × (type_named s i ≡ n))
   type_place n h =
       let f = from_map (λ (t : Defined). t.name) s.types n h in
-      let p = members.place_of s.types f.0 f.1.0 in
+      let p = place_in s.types f.0 f.1.0 in
       (p.0, (p.1.0, ap (λ (t : Defined). t.name) (p.1.1 no_type) ∙ f.1.1))
 
   -- no name is an entity's and a type's
@@ -340,6 +336,7 @@ module _ (s : Schema) (formed : IsWellFormed s) (unders : List Resolved) (r : Ar
       select_table reach table alone t = record {
         count = t.rows.count ∙ g.count ∙ r.count;
         places = ap length t.places ∙ alone.places;
+        ordered = t.rows.ordered;
         within = λ i p less c. let h = (t.rows.rows i (subst (λ u. i < u) (sym (g.count ∙ r.count)) less) p).0 c in (h.0, reaches_names h.1.0);
         covers = λ i k li lk.
             let row = t.rows.rows i (subst (λ u. i < u) (sym (g.count ∙ r.count)) li) (get_or table.places.items k 0) in
@@ -363,7 +360,7 @@ entity_marks s table marks t count h = record {
       let row = h i (subst (λ u. i < u) (sym t.count) less) in (
         λ m. let c = row.0 m in let k = t.within i c.0 less c.1 in (entity_named s k.0, k.1.1),
         λ e.
-            let p = members.place_of (all_names s) e.0 e.1.0 in
+            let p = place_in (all_names s) e.0 e.1.0 in
             let lk : p.0 < length s.entities = subst (λ u. p.0 < u) (name_count s) p.1.0 in
             let is : entity_named s p.0 ≡ e.0 = sym (name_at s p.0) ∙ p.1.1 [] in
             row.1 (get_or table.places.items p.0 0, (t.covers i p.0 less lk).1 (subst (λ (u : List ℕ). IsEntity s u) (sym is) e.1.0, subst (λ (u : List ℕ). SelectReaches s (type_named s i) u) (sym is) e.1.1)),

@@ -1,6 +1,8 @@
 -- Rows that begin as others.
-use Rattle.std.proofs.Common.{◌≡◌, ℕ, zero, suc, ◌+◌, ◌-◌, ◌<◌, ◌≤◌, List, [], ◌∷◌, ◌++◌, Some, length, get_or, take, refl, sym, ap, ◌∙◌, subst, inl, ⊎_elim, arith, append_assoc}
+use Rattle.std.proofs.Common.{◌≡◌, ℕ, zero, suc, ◌+◌, ◌<◌, ◌≤◌, List, [], ◌∷◌, ◌++◌, Some, length, get_or, take, refl, sym, ap, ◌∙◌, subst, inl, ⊎_elim, arith, append_assoc}
 use Rattle.std.specs.Prelude.{slice_get}
+use Rattle.p21_graph.specs.Reach.{ArePlaces}
+use Rattle.p21_graph.specs.MemberLaws.{place_of}
 use Rattle.p21_schema.specs.declared.ids.AttrId.{AttrId}
 use Rattle.p21_schema.specs.declared.rows.Row.{Row}
 use Rattle.std.proofs.lemmas.Bool.{cases_eq}
@@ -10,54 +12,9 @@ use Rattle.p21_express.specs.WellFormed.{IsIn, IsWellFormed}
 use Rattle.p21_schema.specs.declared.rows.Own.{Own}
 use Rattle.p21_schema.specs.Ancestry.{AreNamed}
 use Rattle.p21_schema.specs.Place.{no_entity}
-use Rattle.p21_schema.specs.Reach.{ArePlaces}
-use Rattle.p21_schema.proofs.Members.{place_of}
 use Rattle.p21_schema.proofs.AncestryLemmas.{all_names, distinct_entities}
 use Rattle.p21_schema.proofs.RowLemmas.{row_below, row_at, several_is, attributes_distinct}
-use Rattle.p21_schema.specs.RowTable.{ids_from, row_in, IsOwn, IsRowAt, IsNextRow, below, several, Begins, IsSharedRow, AreSharedRows, IsSamePosition}
-
-at_front : {X : Type 0} (xs ys : List X) (k : ℕ) → k < length xs → slice_get (xs ++ ys) k ≡ slice_get xs k
-at_front [] ys k l = absurd (omega arith)
-at_front (x ∷ xs) ys zero l = refl
-at_front (x ∷ xs) ys (suc k) l = at_front xs ys k (omega arith)
-
-at_taken : {X : Type 0} (n : ℕ) (xs ys : List X) (k : ℕ) → k < n → n ≤ length xs → slice_get (take n xs ++ ys) k ≡ slice_get xs k
-at_taken zero xs ys k l m = absurd (omega arith)
-at_taken (suc n) [] ys k l m = absurd (omega arith)
-at_taken (suc n) (x ∷ xs) ys zero l m = refl
-at_taken (suc n) (x ∷ xs) ys (suc k) l m = at_taken n xs ys k (omega arith) (omega arith)
-
-at_rest : {X : Type 0} (n : ℕ) (xs ys : List X) (k : ℕ) → n ≤ k → n ≤ length xs → slice_get (take n xs ++ ys) k ≡ slice_get ys (k - n)
-at_rest zero xs ys k l m = ap (λ u. slice_get ys u) (let e : k ≡ k - 0 = omega arith in e)
-at_rest (suc n) [] ys k l m = absurd (omega arith)
-at_rest (suc n) (x ∷ xs) ys zero l m = absurd (omega arith)
-at_rest (suc n) (x ∷ xs) ys (suc k) l m = at_rest n xs ys k (omega arith) (omega arith) ∙ ap (λ u. slice_get ys u) (let e : k - n ≡ suc k - suc n = omega arith in e)
-
-rest_length : {X : Type 0} (n : ℕ) (xs ys : List X) → n ≤ length xs → length (take n xs ++ ys) ≡ n + length ys
-rest_length zero xs ys m = let e : length ys ≡ 0 + length ys = omega arith in e
-rest_length (suc n) [] ys m = absurd (omega arith)
-rest_length (suc n) (x ∷ xs) ys m = let h = rest_length n xs ys (omega arith) in omega (arith, h)
-
-got : {X : Type 0} (xs : List X) (k : ℕ) (x : X) → k < length xs → x ≡ get_or xs k x → slice_get xs k ≡ Some x
-got [] k x l e = absurd (omega arith)
-got (y ∷ ys) zero x l e = ap Some (sym e)
-got (y ∷ ys) (suc k) x l e = got ys k x (omega arith) e
-
-module _ (all : List (List AttrId)) (place : ℕ) (row : Row) (h : IsSharedRow all place row) (position : ℕ) where
-  pub same_above : position < row.shared → IsSamePosition all place row.above position
-  same_above l inside = (let s = h.shared in omega (arith, s), subst (λ u. slice_get u position ≡ slice_get (get_or all row.above []) position) (sym h.whole) (at_taken row.shared (get_or all row.above []) row.rest.items position l h.shared))
-
-  pub same_far : position < length (get_or all row.far []) → IsSamePosition all place row.far position
-  same_far l inside = (l, ap (λ u. slice_get u position) h.begins.1 ∙ at_front (get_or all row.far []) h.begins.0 position l)
-
-  pub in_rest : row.shared ≤ position → position < length (get_or all place []) → position - row.shared < length row.rest.items
-  in_rest l inside =
-      let long : length (get_or all place []) ≡ row.shared + length row.rest.items = ap length h.whole ∙ rest_length row.shared (get_or all row.above []) row.rest.items h.shared in
-      omega (arith, long)
-
-  pub found_in_rest : (a : AttrId) → row.shared ≤ position → position < length (get_or all place []) → a ≡ get_or row.rest.items (position - row.shared) a → slice_get (get_or all place []) position ≡ Some a
-  found_in_rest a l inside e =
-      ap (λ u. slice_get u position) h.whole ∙ at_rest row.shared (get_or all row.above []) row.rest.items position l h.shared ∙ got row.rest.items (position - row.shared) a (in_rest l inside) e
+use Rattle.p21_schema.specs.RowTable.{ids_from, row_in, IsOwn, IsRowAt, IsNextRow, below, several, Begins, IsSharedRow, AreSharedRows}
 
 pub take_got : {X : Type 0} (xs : List X) (k : ℕ) (a : X) → slice_get xs k ≡ Some a → take (k + 1) xs ≡ take k xs ++ a ∷ []
 take_got [] k a e = absurd cc

@@ -5,16 +5,16 @@ use Rattle.std.proofs.lemmas.Bool.{false≢true, cases_eq, le-leb, lt-ltb, leb-t
 use Rattle.std.proofs.lemmas.List.Sorted.{IsPermutation-sym}
 use Rattle.std.proofs.lemmas.List.{get_or_append_left, get_or_push}
 use Rattle.p21_express.specs.WellFormed.{IsIn}
+use Rattle.p21_graph.specs.declared.ranges.Range.{Range}
+use Rattle.p21_graph.specs.declared.reach.Reach.{Reach}
+use Rattle.p21_graph.specs.Ranges.{Covers, IsInRange}
+use Rattle.p21_graph.specs.MemberLaws.{in_either, in_left, in_right, in_permuted}
+use Rattle.p21_graph.specs.RangeLaws.{covers_one}
 use Rattle.p21_schema.specs.declared.declarations.Declaration.{Declaration as Coded}
-use Rattle.p21_schema.specs.declared.ranges.Range.{Range}
-use Rattle.p21_schema.specs.declared.reach.Reach.{Reach}
 use Rattle.p21_schema.specs.declared.spans.Span.{Span}
 use Rattle.p21_schema.specs.declared.steps.Step.{Step}
-use Rattle.p21_schema.specs.Ranges.{Covers, IsInRange}
 use Rattle.p21_schema.specs.Spans.{no_declaration, explicit_form, row_at, place_at, IsRangeOf, IsInSpan, IsSpanOf, AreSpans, no_span, IsBefore, AreInOrder, IsMetAt, AreMet}
-use Rattle.p21_schema.specs.Steps.{holds, first_at, AreForward, step_at, AreRising}
-use Rattle.p21_schema.proofs.Members.{in_either, in_left, in_right}
-use Rattle.p21_schema.proofs.RangeLemmas.{covers_one, in_permuted}
+use Rattle.p21_schema.specs.Steps.{holds, first_at, step_at, AreRising}
 
 -- a list of one
 single : {X : Type 0} (xs : List X) (x : X) → length xs ≡ 1 → x ≡ get_or xs 0 x → xs ≡ x ∷ []
@@ -27,9 +27,6 @@ pub one_range : (xs row : List Range) (r : Range) → xs ≡ row → length row 
 one_range xs row r is n e k = subst (λ (u : List Range). Covers u k ↔ IsInRange r k) (sym (is ∙ single row r n e)) (covers_one r k)
 
 -- ---- the spans of more and more declarations
-
-pub no_spans : (reach : Reach) (ds : List Coded) → AreSpans reach ds 0 []
-no_spans reach ds = record { each = λ s i. absurd i; all = λ i l. absurd (omega arith) }
 
 spans_more : (reach : Reach) (ds : List Coded) (n : ℕ) (ss new : List Span) (s : Span) → AreSpans reach ds n ss → new ≡ ss ++ s ∷ [] → s.position ≡ n → IsSpanOf reach (get_or ds n no_declaration) s → AreSpans reach ds (n + 1) new
 spans_more reach ds n ss new s h pushed at is = subst (λ (u : List Span). AreSpans reach ds (n + 1) u) (sym pushed) record {
@@ -155,9 +152,6 @@ module _ (reach : Reach) (ds : List Coded) (ss : List Span) (h : AreSpans reach 
 
   pub met_at : AreInOrder ss → IsMetAt reach ds p (first_at ss p)
   met_at o = by_spans (first_at ss p) (met_by ss p o)
-
-pub forward : (reach : Reach) (ds : List Coded) (n : ℕ) (ss : List Span) → AreSpans reach ds n ss → AreForward ss
-forward reach ds n ss h = λ s i. let o : s.from < s.to = (h.each s i).1.order in omega arith
 
 pub are_met : (reach : Reach) (ds : List Coded) (ss now : List Span) (steps : List Step) → AreSpans reach ds (length ds) ss → AreInOrder ss → now ≡ ss → AreRising 0 steps → ((p : ℕ) → step_at steps p ≡ first_at now p) → AreMet reach ds steps
 are_met reach ds ss now steps h o is rising first = record {

@@ -1,13 +1,13 @@
 -- Which span holds a place first, step by step.
-use Rattle.std.proofs.Common.{◌≡◌, ℕ, zero, suc, ◌+◌, ◌<◌, ◌≤◌, Bool, true, false, ◌==◌, cond, leb, List, [], ◌∷◌, ◌++◌, Option, Some, None, length, get_or, take, drop, refl, sym, ap, ◌∙◌, subst, ⊎_elim, arith, append_assoc}
+use Rattle.std.proofs.Common.{◌≡◌, ℕ, zero, suc, ◌+◌, ◌<◌, ◌≤◌, Bool, true, false, ◌==◌, cond, leb, List, [], ◌∷◌, ◌++◌, Option, Some, length, get_or, take, drop, refl, sym, ap, ◌∙◌, subst, ⊎_elim, arith, append_assoc}
 use Rattle.std.specs.Option.{option_or}
 use Rattle.std.proofs.lemmas.Bool.{false≢true, cases_lt, cond-true, cond-false, le-leb, lt-leb}
-use Rattle.std.proofs.lemmas.List.{drop_more, append-nil, take-append-drop}
+use Rattle.std.proofs.lemmas.List.{drop_more, take-append-drop}
 use Rattle.p21_express.specs.WellFormed.{IsIn}
+use Rattle.p21_graph.specs.MemberLaws.{in_front, in_right}
 use Rattle.p21_schema.specs.declared.spans.Span.{Span}
 use Rattle.p21_schema.specs.declared.steps.Step.{Step}
 use Rattle.p21_schema.specs.Steps.{holds, first_at, AreForward, no_step, step_from, step_at, AreRising, IsMerging}
-use Rattle.p21_schema.proofs.Members.{in_front, in_right}
 
 -- the first of two lists, one behind the other
 pub first_append : (xs ys : List Span) (p : ℕ) → first_at (xs ++ ys) p ≡ option_or (first_at xs p) (first_at ys p)
@@ -42,9 +42,6 @@ last_step before n (s ∷ ss) (suc k) p h l at next =
     let less : k < length ss = omega arith in
     let below : s.from ≤ (get_or ss k no_step).from = rising_at s.from ss k h.1 less in
     cond-true (leb s.from p) (step_from s.first ss p) before (le-leb s.from p (omega arith)) ∙ last_step s.first s.from ss k p h.1 less at (λ m. next (omega arith))
-
-pub no_last_step : (ss : List Step) (p : ℕ) → (0 < length ss → p < (get_or ss 0 no_step).from) → step_at ss p ≡ None
-no_last_step ss p h = before_first None ss p h
 
 -- the steps from a place on, where none of them begins before this one
 pub rising_behind : (n m : ℕ) (ss : List Step) (j : ℕ) → AreRising n (drop j ss) → (j < length ss → m ≤ (get_or ss j no_step).from) → AreRising m (drop j ss)
@@ -108,12 +105,6 @@ module _ (one other all new : List Step) (x : Step) (before behind first : Optio
     second = h.second.1;
     goes_on = λ rest rr q. subst Says (sym (shape (option_or before x.first) e rest)) (h.goes_on (record { from = x.from; first = option_or before x.first } ∷ rest) (h.second.0, rr) (or_right x before behind ones others rest r q));
   }
-
-pub merge_begins : (one other : List Step) → AreRising 0 one → AreRising 0 other → IsMerging one other [] None None one other
-merge_begins one other a b = record { from = 0; first = a; second = b; goes_on = λ rest r e. (r, e) }
-
-pub merge_ends : (one other all : List Step) (before behind : Option ℕ) → IsMerging one other all before behind [] [] → AreRising 0 all × ((p : ℕ) → step_at all p ≡ option_or (step_at one p) (step_at other p))
-merge_ends one other all before behind h = let k = h.goes_on [] tt (λ p. refl) in rw (← (append-nil all)) k
 
 -- ---- several spans
 

@@ -4,13 +4,13 @@ use Rattle.std.specs.Prelude.{slice_get}
 use Rattle.std.proofs.lemmas.Bool.{cases_eq, cases_lt}
 use Rattle.std.proofs.lemmas.List.{get_or_append_left, get_or_push, length_push, get_or-take, length-take-le, length-map, get_or-map, get_or_past, get_or-set_same, get_or-set_other}
 use Rattle.p21_express.specs.Schema.{Schema, Entity, Defined, Underlying, items, select, plain, named}
-use Rattle.p21_express.specs.WellFormed.{IsIn, AreDistinct, Leads, one, more, HasNoCycle, IsOther, IsEntity, IsType, HasNoRepeated, HasNoUnknown, IsKnownUnder}
+use Rattle.p21_express.specs.WellFormed.{IsIn, AreDistinct, Leads, HasNoCycle, IsOther, IsEntity, IsType, HasNoRepeated, HasNoUnknown, IsKnownUnder}
+use Rattle.p21_graph.specs.Graph.{one, more, HasEdge, AreEdgesBelow}
+use Rattle.p21_graph.specs.MemberLaws.{at_place, distinct_right, holds_of, front_more, from_map}
 use Rattle.p21_schema.specs.declared.resolved.Resolved.{Resolved}
 use Rattle.p21_schema.specs.declared.ids.TypeId.{TypeId}
 use Rattle.p21_schema.specs.Place.{no_type, type_name, IsTypeOf}
-use Rattle.p21_schema.specs.Graph.{HasEdge, AreEdgesBelow}
 use Rattle.p21_schema.specs.Under.{StandsUnder, itself, followed, IsResolved, IsOtherRow, AreOthers, IsEnd, AreEnds, AreKnown, AreResolved, IsResolvedIn}
-use Rattle.p21_schema.proofs.Members.{at_place, distinct_right, holds_of, front_more, from_map}
 
 pub others_push : (types graph : List (List ℕ)) (all : List Defined) (row : List ℕ) (k : ℕ) → k < length all → AreOthers types graph (take k all) → IsOtherRow types row (get_or all k no_type).under → AreOthers types (graph ++ row ∷ []) (take (k + 1) all)
 others_push types graph all row k less h this = record {

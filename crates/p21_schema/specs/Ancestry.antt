@@ -2,9 +2,9 @@
 use Rattle.std.specs.Prelude.{◌≡◌, ◌<◌, ◌↔◌, ◌⊎◌, ℕ, List, [], map, length, get_or}
 use Rattle.p21_express.specs.Schema.{Schema, Entity}
 use Rattle.p21_express.specs.WellFormed.{IsIn, IsAncestor}
+use Rattle.p21_graph.specs.declared.reach.Reach.{Reach}
+use Rattle.p21_graph.specs.Reach.{IsReach, IsWithin}
 use Rattle.p21_schema.specs.declared.ids.EntityId.{EntityId}
-use Rattle.p21_schema.specs.declared.reach.Reach.{Reach}
-use Rattle.p21_schema.specs.Reach.{IsReach, IsWithin}
 use Rattle.p21_schema.specs.Place.{no_entity, entity_name, IsEntityOf}
 
 abbrev pub entity_id : ℕ → EntityId

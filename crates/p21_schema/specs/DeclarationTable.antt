@@ -3,11 +3,12 @@ use Rattle.std.specs.Prelude.{◌≡◌, ◌<◌, ℕ, List, [], map, length, ge
 use Rattle.p21_express.specs.Plain.{plain_schema}
 use Rattle.p21_express.specs.Schema.{Schema}
 use Rattle.p21_express.specs.WellFormed.{IsIn, IsWellFormed, IsOrigin, Origin, new_explicit}
+use Rattle.p21_graph.specs.declared.sources.Sources.{Sources}
 use Rattle.p21_schema.specs.declared.declarations.Declaration.{Declaration as Coded}
 use Rattle.p21_schema.specs.declared.declarations.Known.{Known}
 use Rattle.p21_schema.specs.Ancestry.{IsDescentTable}
 use Rattle.p21_schema.specs.Declaration.{Declaration, Written, Declares, Chosen, declaration, AreResolvedIn}
-use Rattle.p21_schema.specs.Owners.{AreOwners}
+use Rattle.p21_schema.specs.Owners.{AreOwners, AreAllSources}
 use Rattle.p21_schema.specs.Place.{no_entity}
 use Rattle.p21_schema.specs.Row.{attributes_of, no_attribute}
 use Rattle.p21_schema.specs.RowTable.{IsOwnTable}
@@ -60,3 +61,7 @@ pub record IsFitting (k : Known) : Type 0 where
   pub descents : IsDescentTable (known_schema k) k.descents.now
   pub own : IsOwnTable (known_schema k) k.own.now
   pub owners : AreOwners (known_schema k) (length (known_schema k).entities) k.owners.now
+
+-- of some of its entities it is asked which one alone is above another
+abbrev pub AreEntitySources : Known → List Sources → Type 0
+AreEntitySources k all = (g : List (List ℕ)) → length g ≡ length (known_schema k).entities → AreAllSources g k.descents.now all

@@ -1,9 +1,6 @@
 pub mod Code
 pub mod Rules
 pub mod Place
-pub mod Graph
-pub mod Ranges
-pub mod Reach
 pub mod Ancestry
 pub mod Tables
 pub mod Row

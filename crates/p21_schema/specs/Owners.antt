@@ -1,10 +1,13 @@
 -- Lists of owners by names, in which all stand that newly declare an attribute of a name, each with the position of an explicit one.
-use Rattle.std.specs.Prelude.{◌≡◌, ◌<◌, ◌⊎◌, ℕ, List, [], length, get_or, Option, Some, None}
+use Rattle.std.specs.Prelude.{◌≡◌, ◌<◌, ◌⊎◌, ℕ, List, [], length, get_or, slice_get, Option, Some, None}
 use Rattle.p21_express.specs.Schema.{Schema, Entity}
 use Rattle.p21_express.specs.WellFormed.{IsIn, AreDistinct, new_explicit, new_derived, new_names}
+use Rattle.p21_graph.specs.declared.reach.Reach.{Reach}
+use Rattle.p21_graph.specs.declared.sources.Sources.{Sources}
+use Rattle.p21_graph.specs.Graph.{rows_of}
+use Rattle.p21_graph.specs.Sources.{AreSources}
 use Rattle.p21_schema.specs.declared.owners.Owner.{Owner}
 use Rattle.p21_schema.specs.declared.owners.Owners.{Owners}
-use Rattle.p21_schema.specs.Graph.{rows_of}
 use Rattle.p21_schema.specs.Place.{no_entity}
 
 -- the owner stands in the list of the name
@@ -47,3 +50,11 @@ pub record AreOwners (s : Schema) (size : ℕ) (os : Owners) : Type 0 where
   pub lists : AreInLists os
   pub all : (e : ℕ) → e < size → AreListed os e (new_names (get_or s.entities e no_entity))
   pub only : (n : List ℕ) (o : Owner) → IsListed os n o → (o.entity < size) × IsOwned s n o
+
+-- each owner's entity is below the count
+abbrev pub AreOwnersBelow : List Owner → ℕ → Type 0
+AreOwnersBelow os count = (o : Owner) → IsIn os o → o.entity < count
+
+-- each of some vertices of a graph, of which it is asked which one alone reaches another
+abbrev pub AreAllSources : List (List ℕ) → Reach → List Sources → Type 0
+AreAllSources graph reach all = (i : ℕ) (sources : Sources) → slice_get all i ≡ Some sources → AreSources graph reach sources

@@ -1,6 +1,5 @@
 -- The items of SELECTs by their places.
-use Rattle.std.specs.Prelude.{◌≡◌, ◌<◌, ◌↔◌, ℕ, List, [], length, get_or, Option, Some, None}
-use Rattle.std.specs.Prelude.{slice_get}
+use Rattle.std.specs.Prelude.{◌≡◌, ◌<◌, ◌↔◌, ℕ, List, [], length, get_or, Option, Some, None, slice_get}
 use Rattle.p21_express.specs.WellFormed.{IsIn}
 use Rattle.p21_schema.specs.declared.resolved.Target.{Target}
 use Rattle.p21_schema.specs.declared.resolved.Target.TheVariants as target

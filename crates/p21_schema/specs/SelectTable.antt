@@ -2,12 +2,12 @@
 use Rattle.std.specs.Prelude.{◌≡◌, ◌<◌, ◌↔◌, ℕ, Bool, List, [], length, get_or}
 use Rattle.p21_express.specs.Schema.{Schema}
 use Rattle.p21_express.specs.WellFormed.{IsEntity, IsSelect}
-use Rattle.p21_schema.specs.declared.reach.Reach.{Reach}
+use Rattle.p21_graph.specs.declared.reach.Reach.{Reach}
+use Rattle.p21_graph.specs.Graph.{rows_of, IsMarked}
+use Rattle.p21_graph.specs.Ranges.{Covers, AreRowsInOrder}
+use Rattle.p21_graph.specs.Reach.{IsReachTable}
 use Rattle.p21_schema.specs.declared.selects.SelectRows.{SelectRows}
 use Rattle.p21_schema.specs.declared.selects.Selects.{Selects}
-use Rattle.p21_schema.specs.Graph.{rows_of, IsMarked}
-use Rattle.p21_schema.specs.Ranges.{Covers}
-use Rattle.p21_schema.specs.Reach.{IsReachTable}
 use Rattle.p21_schema.specs.Place.{no_entity, no_type}
 use Rattle.p21_schema.specs.Select.{SelectReaches, ReachesEntity, ReachesA}
 
@@ -29,6 +29,7 @@ pub record IsSelectTable (s : Schema) (Wanted : List ℕ → Type 0) (size : ℕ
   pub places : length table.places.items ≡ size
   pub covers : (i k : ℕ) → i < length s.types → k < size → Covers (get_or (rows_of table.rows) i []) (get_or table.places.items k 0) ↔ (Wanted (named k) × SelectReaches s (type_named s i) (named k))
   pub within : (i p : ℕ) → i < length s.types → Covers (get_or (rows_of table.rows) i []) p → (k : ℕ) × ((k < size) × (Wanted (named k) × SelectReaches s (type_named s i) (named k)))
+  pub ordered : AreRowsInOrder (rows_of table.rows)
 
 -- a mark for each type that reaches an entity
 pub record AreEntityMarks (s : Schema) (marks : List Bool) : Type 0 where
@@ -40,6 +41,7 @@ pub record IsAdmitTable (s : Schema) (table : SelectRows) : Type 0 where
   pub count : length (rows_of table.rows) ≡ length s.types
   pub places : length table.places.items ≡ length s.entities
   pub covers : (e i : ℕ) → e < length s.entities → i < length s.types → Covers (get_or (rows_of table.rows) i []) (get_or table.places.items e 0) ↔ ReachesA s (type_named s i) (entity_named s e)
+  pub ordered : AreRowsInOrder (rows_of table.rows)
 
 pub record AreSelectTables (s : Schema) (tables : Selects) : Type 0 where
   pub entities : IsSelectTable s (IsEntity s) (length s.entities) (entity_named s) tables.entities

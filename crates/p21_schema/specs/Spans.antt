@@ -1,16 +1,16 @@
 -- The places at which the declarations of an attribute stand, as spans.
 use Rattle.std.specs.Prelude.{◌≡◌, ◌<◌, ◌≤◌, ◌+◌, ◌↔◌, ◌⊎◌, ℕ, Bool, true, false, List, [], ◌∷◌, Option, Some, None, IfSome, length, get_or, Vec}
 use Rattle.p21_express.specs.WellFormed.{IsIn}
-use Rattle.p21_schema.specs.Graph.{rows_of}
-use Rattle.p21_schema.specs.Ranges.{Covers, IsInRange}
+use Rattle.p21_graph.specs.Graph.{rows_of}
+use Rattle.p21_graph.specs.Ranges.{Covers, IsInRange}
+use Rattle.p21_graph.specs.declared.ranges.Range.{Range}
+use Rattle.p21_graph.specs.declared.reach.Reach.{Reach}
 use Rattle.p21_schema.specs.Steps.{step_at, AreRising}
 use Rattle.p21_schema.specs.declared.bindings.Binding.{Binding}
 use Rattle.p21_schema.specs.declared.bindings.Binding.TheVariants as binding
 use Rattle.p21_schema.specs.declared.declarations.Declaration.{Declaration as Coded}
 use Rattle.p21_schema.specs.declared.declarations.Form.{Form as CodedForm}
 use Rattle.p21_schema.specs.declared.declarations.Form.TheVariants as coded
-use Rattle.p21_schema.specs.declared.ranges.Range.{Range}
-use Rattle.p21_schema.specs.declared.reach.Reach.{Reach}
 use Rattle.p21_schema.specs.declared.spans.Span.{Span}
 use Rattle.p21_schema.specs.declared.steps.Step.{Step}
 

@@ -3,8 +3,8 @@ use Rattle.std.specs.Prelude.{◌≡◌, map}
 use Rattle.p21_express.specs.Plain.{plain_schema}
 use Rattle.p21_express.specs.Schema.{Schema}
 use Rattle.p21_express.specs.WellFormed.{IsWellFormed}
+use Rattle.p21_graph.specs.Graph.{rows_of}
 use Rattle.p21_schema.specs.declared.schema.Schema.TheInside.{Inside}
-use Rattle.p21_schema.specs.Graph.{rows_of}
 use Rattle.p21_schema.specs.Rules.{with_rules}
 use Rattle.p21_schema.specs.RowTable.{IsOwnTable, IsRowTable}
 use Rattle.p21_schema.specs.Under.{AreEnds, AreResolved}

@@ -4,14 +4,13 @@ ghost use Rattle.std.specs.Prelude.{◌≡◌, ◌<◌, ℕ, List, [], length, g
 ghost use Rattle.p21_express.specs.Schema.{Schema, Entity};
 ghost use Rattle.p21_express.specs.Plain.{plain_entity};
 ghost use Rattle.p21_express.specs.WellFormed.{IsIn, IsWellFormed, HasNoCycle};
-ghost use Rattle.p21_schema.specs.Graph.{rows_of, plain_graph, HasEdge, AreEdgesBelow};
+ghost use Rattle.p21_graph.specs.Graph.{rows_of, plain_graph, HasEdge, AreEdgesBelow};
 ghost use Rattle.p21_schema.specs.Ancestry.{AreNamed, AreSupertypesNamed, IsDescentTable, entity_id};
 
-use crate::graph::{Graph, order_beginning, order_from_above};
 use crate::ids::EntityId;
 use crate::names::Names;
-use crate::reach::{Reach, turned};
 use p21_express::EntityDecl;
+use p21_graph::{Graph, Reach, order_beginning, order_from_above, turned};
 use std::alloc::{AllocError, Global};
 
 /// The places of an entity's supertypes.

@@ -1,14 +1,14 @@
 //! Which declaration of an attribute binds an instance of one entity.
 
 ghost use Rattle.std.specs.Prelude.{◌<◌, ℕ, [], length, get_or, IfOk, IfSome};
-ghost use Rattle.p21_schema.specs.Graph.{rows_of};
+ghost use Rattle.p21_graph.specs.Graph.{rows_of};
+ghost use Rattle.p21_graph.specs.declared.reach.Reach.{Reach as Reached};
 ghost use Rattle.p21_schema.specs.Spans.{AreWithin, AreMet, IsBindingTable, IsBindingBy};
-ghost use Rattle.p21_schema.specs.declared.reach.Reach.{Reach as Reached};
 
 use crate::declarations::{Declaration, Form};
-use crate::reach::Reach;
 use crate::spans::ordered_spans;
 use crate::steps::{Step, first_there, steps};
+use p21_graph::Reach;
 use std::alloc::{AllocError, Global};
 
 /// What binds an attribute in an instance of one entity, which is of that entity and of its ancestors.

@@ -1,25 +1,23 @@
 //! The declarations of each attribute.
 
-ghost use Rattle.std.specs.Prelude.{◌≡◌, ◌<◌, ◌↔◌, ◌++◌, ◌∷◌, ℕ, List, [], length, get_or, set, IfOk, OnOk, IsTrue, MatchOption, None};
+ghost use Rattle.std.specs.Prelude.{◌≡◌, ◌<◌, ◌↔◌, ◌++◌, ◌∷◌, ℕ, List, [], length, get_or, set, IfOk, IfSome, OnOk, IsTrue, MatchOption, None};
 ghost use Rattle.p21_express.specs.Plain.{plain_attribute, plain_derived};
-ghost use Rattle.p21_schema.specs.DeclarationTable.{known_schema, IsNotOwn, IsOwnAt, HasOneOrigin, IsOriginAt, IsDeclared, IsDeclarationTable, IsFitting};
+ghost use Rattle.p21_schema.specs.DeclarationTable.{known_schema, IsNotOwn, IsOwnAt, HasOneOrigin, IsOriginAt, IsDeclared, IsDeclarationTable, IsFitting, AreEntitySources};
 ghost use Rattle.p21_express.specs.WellFormed.{IsIn, IsEntity, IsOrigin, Origin, new_explicit};
+ghost use Rattle.p21_graph.specs.Graph.{rows_of};
 ghost use Rattle.p21_schema.specs.Ancestry.{entity_id, IsA};
 ghost use Rattle.p21_schema.specs.Declaration.{Written, written_explicit, written_derived, explicit_in, derived_in, written};
-ghost use Rattle.p21_schema.specs.Graph.{rows_of};
 ghost use Rattle.p21_schema.specs.Place.{no_entity, entity_name};
 ghost use Rattle.p21_schema.specs.Row.{attributes_of};
 
-use crate::graph::Graph;
 use crate::ids::EntityId;
 use crate::names::Names;
 use crate::owners::{Owner, Owners, owner_at};
-use crate::reach::Reach;
 use crate::resolved::{ResolvedExpr, resolve};
 use crate::rows::Own;
 use crate::rules::Rules;
-use crate::search::Search;
 use p21_express::{AttrDecl, Declarations, DeriveDecl};
+use p21_graph::{Reach, Sources};
 use std::alloc::{AllocError, Global};
 
 /// What a declaration makes of an attribute.
@@ -50,8 +48,6 @@ pub(crate) struct Known<'a> {
     pub(crate) rules: Rules,
     pub(crate) entities: &'a Names,
     pub(crate) types: &'a Names,
-    /// For each entity the places of its supertypes.
-    pub(crate) supertypes: &'a Graph,
     pub(crate) descents: &'a Reach,
     pub(crate) own: &'a [Own],
     pub(crate) owners: &'a Owners,
@@ -78,50 +74,97 @@ fn is_over(known: &Known, entity: usize, other: usize) -> bool
     known.descents.has(other, entity)
 }
 
-/// One of these owners that is an entity or an ancestor of it. Owners and ancestors are gone through in turn, to the first that is both.
-fn owner_above(
+/// The owner of a name that alone of several is above an entity, if one is. Neither does `None` say anything, nor does a contract say that
+/// what is found is above: whoever has to know asks.
+fn only_above(
+    alloc: Global,
     known: &Known,
-    search: &mut Search,
+    asked: &mut Vec<Sources>,
     owners: &[Owner],
+    name: &[u8],
+    entity: usize,
+) -> Result<Option<Owner>, AllocError>
+    requires known { IsFitting known.now }
+    requires entity { entity < length (known_schema known.now).entities }
+    requires asked { AreEntitySources known.now asked.old.items }
+    ensures asked { OnOk result (AreEntitySources known.now asked.new.items) }
+    ensures among { IfOk result (λ found. IfSome found (λ owner. IsIn owners.now owner)) }
+{
+    if owners.len() < 2 {
+        return Ok(None);
+    }
+    let Some(place) = known.owners.place(name) else {
+        return Ok(None);
+    };
+    if place >= asked.len() {
+        return Ok(None);
+    }
+    let Some(above) = asked[place].sole(alloc, known.descents, entity)? else {
+        return Ok(None);
+    };
+    Ok(owner_at(owners, above))
+}
+
+/// The first of these owners that is an entity or an ancestor of it.
+fn first_above(known: &Known, owners: &[Owner], entity: usize) -> Option<Owner>
+    requires known { IsFitting known.now }
+    requires owners { (o : _) → IsIn owners.now o → o.entity < length (known_schema known.now).entities }
+    requires entity { entity < length (known_schema known.now).entities }
+    ensures { MatchOption result ((o : _) → IsIn owners.now o → ¬ (IsA (known_schema known.now) (entity_id entity) (entity_id o.entity))) (λ o. IsIn owners.now o × IsA (known_schema known.now) (entity_id entity) (entity_id o.entity)) }
+{
+    for owner in owners {
+        if is_over(known, entity, owner.entity) {
+            return Some(*owner);
+        }
+    }
+    None
+}
+
+/// One of these owners, which are those of a name, that is an entity or an ancestor of it.
+fn owner_above(
+    alloc: Global,
+    known: &Known,
+    asked: &mut Vec<Sources>,
+    owners: &[Owner],
+    name: &[u8],
     entity: usize,
 ) -> Result<Option<Owner>, AllocError>
     requires known { IsFitting known.now }
     requires owners { (o : _) → IsIn owners.now o → o.entity < length (known_schema known.now).entities }
     requires entity { entity < length (known_schema known.now).entities }
-    ensures { IfOk result (λ found. MatchOption found ((o : _) → IsIn owners.now o → ¬ (IsA (known_schema known.now) (entity_id entity) (entity_id o.entity))) (λ o. IsIn owners.now o × IsA (known_schema known.now) (entity_id entity) (entity_id o.entity))) }
+    requires asked { AreEntitySources known.now asked.old.items }
+    ensures asked { OnOk result (AreEntitySources known.now asked.new.items) }
+    ensures above { IfOk result (λ found. MatchOption found ((o : _) → IsIn owners.now o → ¬ (IsA (known_schema known.now) (entity_id entity) (entity_id o.entity))) (λ o. IsIn owners.now o × IsA (known_schema known.now) (entity_id entity) (entity_id o.entity))) }
 {
     if let Some(own) = owner_at(owners, entity) {
         return Ok(Some(own));
     }
-    search.begin(entity)?;
-    for owner in owners {
-        if let Some(nearest) = search.step(known.supertypes, owners)? {
-            if is_over(known, entity, nearest.entity) {
-                return Ok(Some(nearest));
-            }
-        }
-        if is_over(known, entity, owner.entity) {
-            return Ok(Some(*owner));
+    if let Some(only) = only_above(alloc, known, asked, owners, name, entity)? {
+        if is_over(known, entity, only.entity) {
+            return Ok(Some(only));
         }
     }
-    Ok(None)
+    Ok(first_above(known, owners, entity))
 }
 
 /// The attribute of this name that an entity or an ancestor of it newly declares as an explicit one, where no two of them newly declare
 /// the name.
 fn attribute_above(
+    alloc: Global,
     known: &Known,
-    search: &mut Search,
+    asked: &mut Vec<Sources>,
     entity: usize,
     name: &[u8],
 ) -> Result<Option<usize>, AllocError>
     requires known { IsFitting known.now }
     requires entity { entity < length (known_schema known.now).entities }
     requires one { HasOneOrigin (known_schema known.now) (entity_name (known_schema known.now) (entity_id entity)) name.now }
-    ensures { IfOk result (λ found. MatchOption found ((d : ℕ) → d < length (known_schema known.now).entities → IsA (known_schema known.now) (entity_id entity) (entity_id d) → IsNotOwn (known_schema known.now) d name.now) (λ i. (d : ℕ) × ((d < length (known_schema known.now).entities) × (IsA (known_schema known.now) (entity_id entity) (entity_id d) × IsOwnAt (known_schema known.now) d name.now i)))) }
+    requires asked { AreEntitySources known.now asked.old.items }
+    ensures asked { OnOk result (AreEntitySources known.now asked.new.items) }
+    ensures found { IfOk result (λ found. MatchOption found ((d : ℕ) → d < length (known_schema known.now).entities → IsA (known_schema known.now) (entity_id entity) (entity_id d) → IsNotOwn (known_schema known.now) d name.now) (λ i. (d : ℕ) × ((d < length (known_schema known.now).entities) × (IsA (known_schema known.now) (entity_id entity) (entity_id d) × IsOwnAt (known_schema known.now) d name.now i)))) }
 {
     let owners = known.owners.of(name);
-    let Some(owner) = owner_above(known, search, owners, entity)? else {
+    let Some(owner) = owner_above(alloc, known, asked, owners, name, entity)? else {
         return Ok(None);
     };
     let Some(position) = owner.position else {
@@ -132,23 +175,27 @@ fn attribute_above(
 
 /// The attribute that SELF\of.name declares again.
 fn again(
+    alloc: Global,
     known: &Known,
-    search: &mut Search,
+    asked: &mut Vec<Sources>,
     of: &[u8],
     name: &[u8],
 ) -> Result<Option<usize>, AllocError>
     requires known { IsFitting known.now }
     requires of { IsEntity (known_schema known.now) of.now }
     requires one { HasOneOrigin (known_schema known.now) of.now name.now }
-    ensures { IfOk result (λ found. MatchOption found ((o : Origin) → IsIn (attributes_of (known_schema known.now).entities) o → o.name ≡ name.now → ¬ (IsOrigin (known_schema known.now) of.now name.now o.entity)) (λ i. IsOriginAt (known_schema known.now) of.now name.now i)) }
+    requires asked { AreEntitySources known.now asked.old.items }
+    ensures asked { OnOk result (AreEntitySources known.now asked.new.items) }
+    ensures found { IfOk result (λ found. MatchOption found ((o : Origin) → IsIn (attributes_of (known_schema known.now).entities) o → o.name ≡ name.now → ¬ (IsOrigin (known_schema known.now) of.now name.now o.entity)) (λ i. IsOriginAt (known_schema known.now) of.now name.now i)) }
 {
-    attribute_above(known, search, known.entities.known(of), name)
+    attribute_above(alloc, known, asked, known.entities.known(of), name)
 }
 
 /// The attribute that an explicit declaration declares. Where it newly declares one, that is the entity's own at this position.
 fn explicit_attribute(
+    alloc: Global,
     known: &Known,
-    search: &mut Search,
+    asked: &mut Vec<Sources>,
     entity: usize,
     attribute: &AttrDecl,
     position: usize,
@@ -157,29 +204,34 @@ fn explicit_attribute(
     requires entity { entity < length (known_schema known.now).entities }
     requires attribute { IsIn (get_or (known_schema known.now).entities entity no_entity).attributes (plain_attribute attribute.now) }
     requires position { (plain_attribute attribute.now).of ≡ None → (position < length (new_explicit (get_or (known_schema known.now).entities entity no_entity).attributes)) × (get_or (new_explicit (get_or (known_schema known.now).entities entity no_entity).attributes) position [] ≡ (plain_attribute attribute.now).name) }
-    ensures { IfOk result (λ place. IsDeclared (known_schema known.now) (written_explicit (get_or (known_schema known.now).entities entity no_entity).name (plain_attribute attribute.now)) place) }
+    requires asked { AreEntitySources known.now asked.old.items }
+    ensures asked { OnOk result (AreEntitySources known.now asked.new.items) }
+    ensures declared { IfOk result (λ place. IsDeclared (known_schema known.now) (written_explicit (get_or (known_schema known.now).entities entity no_entity).name (plain_attribute attribute.now)) place) }
 {
     match &attribute.of {
         None => Ok(Some(own_attribute(known, entity, position))),
-        Some(of) => again(known, search, of, &attribute.name),
+        Some(of) => again(alloc, known, asked, of, &attribute.name),
     }
 }
 
 /// The explicit attribute that a declaration in DERIVE declares again.
 fn derived_attribute(
+    alloc: Global,
     known: &Known,
-    search: &mut Search,
+    asked: &mut Vec<Sources>,
     entity: usize,
     derived: &DeriveDecl,
 ) -> Result<Option<usize>, AllocError>
     requires known { IsFitting known.now }
     requires entity { entity < length (known_schema known.now).entities }
     requires derived { IsIn (get_or (known_schema known.now).entities entity no_entity).derived (plain_derived derived.now) }
-    ensures { IfOk result (λ place. IsDeclared (known_schema known.now) (written_derived (get_or (known_schema known.now).entities entity no_entity).name (plain_derived derived.now)) place) }
+    requires asked { AreEntitySources known.now asked.old.items }
+    ensures asked { OnOk result (AreEntitySources known.now asked.new.items) }
+    ensures declared { IfOk result (λ place. IsDeclared (known_schema known.now) (written_derived (get_or (known_schema known.now).entities entity no_entity).name (plain_derived derived.now)) place) }
 {
     match &derived.of {
         None => Ok(None),
-        Some(of) => again(known, search, of, &derived.name),
+        Some(of) => again(alloc, known, asked, of, &derived.name),
     }
 }
 
@@ -200,19 +252,21 @@ fn add(
 fn add_explicit(
     alloc: Global,
     known: &Known,
-    search: &mut Search,
+    asked: &mut Vec<Sources>,
     entity: usize,
     lists: &mut Vec<Vec<Declaration>>,
 ) -> Result<(), AllocError>
     requires known { IsFitting known.now }
     requires entity { entity < length (known_schema known.now).entities }
     requires count { length (rows_of lists.old) ≡ length (attributes_of (known_schema known.now).entities) }
+    requires asked { AreEntitySources known.now asked.old.items }
+    ensures asked { OnOk result (AreEntitySources known.now asked.new.items) }
     ensures table { OnOk result ((ws : List Written) → IsDeclarationTable (known_schema known.now) ws (rows_of lists.old) → IsDeclarationTable (known_schema known.now) (ws ++ explicit_in (get_or (known_schema known.now).entities entity no_entity)) (rows_of lists.new)) }
     ensures count { OnOk result (length (rows_of lists.new) ≡ length (rows_of lists.old)) }
 {
     let mut position = 0;
     for attribute in &known.declarations.entities[entity].attributes {
-        let place = explicit_attribute(known, search, entity, attribute, position)?;
+        let place = explicit_attribute(alloc, known, asked, entity, attribute, position)?;
         if let Some(place) = place {
             let texpr = resolve(alloc, known.entities, known.types, &attribute.texpr)?;
             let optional = attribute.optional;
@@ -229,19 +283,22 @@ fn add_explicit(
 
 /// The declarations of an entity in DERIVE behind the others.
 fn add_derived(
+    alloc: Global,
     known: &Known,
-    search: &mut Search,
+    asked: &mut Vec<Sources>,
     entity: usize,
     lists: &mut Vec<Vec<Declaration>>,
 ) -> Result<(), AllocError>
     requires known { IsFitting known.now }
     requires entity { entity < length (known_schema known.now).entities }
     requires count { length (rows_of lists.old) ≡ length (attributes_of (known_schema known.now).entities) }
+    requires asked { AreEntitySources known.now asked.old.items }
+    ensures asked { OnOk result (AreEntitySources known.now asked.new.items) }
     ensures table { OnOk result ((ws : List Written) → IsDeclarationTable (known_schema known.now) ws (rows_of lists.old) → IsDeclarationTable (known_schema known.now) (ws ++ derived_in (get_or (known_schema known.now).entities entity no_entity)) (rows_of lists.new)) }
     ensures count { OnOk result (length (rows_of lists.new) ≡ length (rows_of lists.old)) }
 {
     for derived in &known.declarations.entities[entity].derived {
-        if let Some(place) = derived_attribute(known, search, entity, derived)? {
+        if let Some(place) = derived_attribute(alloc, known, asked, entity, derived)? {
             let form = Form::Derived;
             let entity = EntityId { index: entity };
             add(lists, place, Declaration { entity, form })?;
@@ -262,10 +319,10 @@ pub(crate) fn all_declarations(
     ensures { IfOk result (λ table. IsDeclarationTable (known_schema known.now) (written (known_schema known.now).entities) (rows_of table)) }
 {
     let mut lists = lists;
-    let mut search = Search::new(alloc, known.declarations.entities.len())?;
+    let mut asked = known.owners.all_sources(alloc)?;
     for entity in 0..known.declarations.entities.len() {
-        add_explicit(alloc, known, &mut search, entity, &mut lists)?;
-        add_derived(known, &mut search, entity, &mut lists)?;
+        add_explicit(alloc, known, &mut asked, entity, &mut lists)?;
+        add_derived(alloc, known, &mut asked, entity, &mut lists)?;
     }
     Ok(lists)
 }

@@ -4,11 +4,13 @@ ghost use Rattle.std.specs.Prelude.{◌≡◌, ◌<◌, ◌++◌, ◌∷◌, ℕ
 ghost use Rattle.p21_express.specs.Plain.{plain_entity};
 ghost use Rattle.p21_express.specs.Schema.{Schema};
 ghost use Rattle.p21_express.specs.WellFormed.{IsIn, new_explicit, new_derived, new_names};
-ghost use Rattle.p21_schema.specs.Graph.{rows_of};
-ghost use Rattle.p21_schema.specs.Owners.{IsListed, AreListed, IsOwnerIn, AreInLists, IsNoted, AreOwners};
+ghost use Rattle.p21_graph.specs.Graph.{rows_of};
+ghost use Rattle.p21_graph.specs.Sources.{AreSources};
+ghost use Rattle.p21_schema.specs.Owners.{IsListed, AreListed, IsOwnerIn, AreInLists, IsNoted, AreOwners, AreOwnersBelow, AreAllSources};
 
 use crate::names::Names;
 use p21_express::EntityDecl;
+use p21_graph::{Reach, Sources};
 use p21_hash::HashKey;
 use std::alloc::{AllocError, Global};
 
@@ -130,6 +132,20 @@ pub(crate) fn owner_at(owners: &[Owner], entity: usize) -> Option<Owner>
     }
 }
 
+/// The entities of some owners, of which it is asked which one alone is above another. None, where there are fewer than two owners.
+fn sources(alloc: Global, owners: &[Owner]) -> Result<Sources, AllocError>
+    ensures { IfOk result (λ sources. (g : List (List ℕ)) (reach : Reach) → AreOwnersBelow owners.now (length g) → AreSources g reach sources) }
+{
+    let mut sources = Sources::new(alloc);
+    if owners.len() < 2 {
+        return Ok(sources);
+    }
+    for owner in owners {
+        sources.add(owner.entity)?;
+    }
+    Ok(sources)
+}
+
 impl Owners {
     pub(crate) fn new(
         alloc: Global,
@@ -158,5 +174,21 @@ impl Owners {
             Some(place) => &self.lists[place],
             None => &[],
         }
+    }
+
+    /// The place of a name among the lists.
+    pub(crate) fn place(&self, name: &[u8]) -> Option<usize> {
+        self.names.place(name)
+    }
+
+    /// For each list its entities, of which it is asked which one alone is above another.
+    pub(crate) fn all_sources(&self, alloc: Global) -> Result<Vec<Sources>, AllocError>
+        ensures { IfOk result (λ all. (g : List (List ℕ)) (reach : Reach) → ((place : ℕ) → AreOwnersBelow (get_or (rows_of self.now.lists) place []) (length g)) → AreAllSources g reach all.items) }
+    {
+        let mut all = Vec::with_capacity(alloc, self.lists.len())?;
+        for list in &self.lists {
+            all.push(sources(alloc, list)?)?;
+        }
+        Ok(all)
     }
 }

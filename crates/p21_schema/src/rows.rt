@@ -4,7 +4,7 @@ ghost use Rattle.std.specs.Prelude.{◌≡◌, ◌<◌, ◌≤◌, ◌+◌, ◌-
 ghost use Rattle.p21_express.specs.Schema.{Schema};
 ghost use Rattle.p21_express.specs.Plain.{plain_entity, plain_schema};
 ghost use Rattle.p21_express.specs.WellFormed.{IsIn, AreDistinct, IsWellFormed, new_explicit};
-ghost use Rattle.p21_schema.specs.Graph.{rows_of, plain_graph, IsOrder};
+ghost use Rattle.p21_graph.specs.Graph.{rows_of, plain_graph, IsOrder};
 ghost use Rattle.p21_schema.specs.Ancestry.{AreSupertypesNamed};
 ghost use Rattle.p21_schema.specs.Row.{attributes_of};
 ghost use Rattle.p21_schema.specs.RowTable.{no_own, IsOwnTable, IsRowTable, kept, all_kept, ids_from, joined, first_of, row_in, AreIndicesOf, Begins, IsSharedRow, AreSharedRows, IsSamePosition, IsNextRow};
@@ -12,10 +12,9 @@ ghost use Rattle.p21_schema.specs.declared.ids.AttrId.{AttrId};
 ghost use Rattle.p21_schema.specs.declared.rows.Row.{Row};
 
 use crate::declarations::Declaration;
-use crate::graph::Graph;
 use crate::ids::AttrId;
-use crate::reach::places;
 use p21_express::{Declarations, EntityDecl};
+use p21_graph::{Graph, places};
 use std::alloc::{AllocError, Global};
 use std::collections::BTreeSet;
 

@@ -5,12 +5,10 @@ ghost use Rattle.std.specs.Prelude.{◌≡◌, ◌<◌, ◌↔◌, List, Some, l
 use crate::ancestry::{descents, supertype_ids, supertypes};
 use crate::bindings::{Binding, all_bindings, binding_at};
 use crate::declarations::{Declaration, Known, all_declarations};
-use crate::graph::order;
 use crate::ids::{AttrId, EntityId, TypeId};
 use crate::items::{is_among, item_rows};
 use crate::names::{Names, entity_names, type_names};
 use crate::owners::Owners;
-use crate::reach::Reach;
 use crate::resolved::Resolved;
 use crate::rows::{Own, Rows, own_attributes};
 use crate::rules::Rules;
@@ -18,6 +16,7 @@ use crate::selects::{Selects, select_tables};
 use crate::steps::Step;
 use crate::under::{resolved, type_ends};
 use p21_express::Declarations;
+use p21_graph::{Reach, order};
 use p21_hash::HashKey;
 use std::alloc::{AllocError, Global};
 use std::marker::Model;
@@ -140,7 +139,6 @@ impl Schema {
             rules,
             entities: &entity_names,
             types: &type_names,
-            supertypes: &graph,
             descents: &descents,
             own: &own,
             owners: &owners,

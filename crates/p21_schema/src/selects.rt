@@ -3,20 +3,20 @@
 ghost use Rattle.std.specs.Prelude.{◌≡◌, ◌<◌, ◌↔◌, ℕ, List, [], length, get_or, map, IfOk, IsTrue};
 ghost use Rattle.p21_express.specs.Schema.{Schema};
 ghost use Rattle.p21_express.specs.WellFormed.{IsIn, IsWellFormed};
+ghost use Rattle.p21_graph.specs.Graph.{plain_graph, rows_of, HasEdge, AreEdgesBelow, IsOrder, IsMarked};
+ghost use Rattle.p21_graph.specs.Ranges.{Covers, AreRowsInOrder};
+ghost use Rattle.p21_graph.specs.Reach.{IsEachAlone};
+ghost use Rattle.p21_graph.specs.declared.reach.Reach.{Reach as Reached};
 ghost use Rattle.p21_schema.specs.Ancestry.{AreSupertypesNamed, IsDescentTable};
-ghost use Rattle.p21_schema.specs.Graph.{plain_graph, rows_of, HasEdge, AreEdgesBelow, IsOrder, IsMarked};
-ghost use Rattle.p21_schema.specs.Ranges.{Covers};
-ghost use Rattle.p21_schema.specs.Reach.{IsEachAlone};
 ghost use Rattle.p21_schema.specs.Under.{AreResolved};
 ghost use Rattle.p21_schema.specs.SelectItems.{kind_of, place_of, targets_of, IsItemRow, IsItemGraph};
 ghost use Rattle.p21_schema.specs.SelectTable.{AreSelectRows, AreSelectTables};
-ghost use Rattle.p21_schema.specs.declared.reach.Reach.{Reach as Reached};
 
 use crate::ancestry::descents_beginning;
-use crate::graph::{Graph, order_from_above, zeros};
-use crate::ranges::{Range, covers, covers_some};
-use crate::reach::{Reach, each_alone, reached};
 use crate::resolved::{Resolved, Target};
+use p21_graph::{
+    Graph, Range, Reach, covers, covers_some, each_alone, order_from_above, reached, zeros,
+};
 use std::alloc::{AllocError, Global};
 
 /// Which entities, or which types, each type reaches, where it is a SELECT.
@@ -33,6 +33,7 @@ impl SelectRows {
     pub(crate) fn has(&self, select: usize, item: usize) -> bool
         requires select { select < length (rows_of self.now.rows) }
         requires item { item < length self.now.places.items }
+        requires ordered { AreRowsInOrder (rows_of self.now.rows) }
         ensures { IsTrue result ↔ Covers (get_or (rows_of self.now.rows) select []) (get_or self.now.places.items item 0) }
     {
         covers(&self.rows[select], self.places[item])
@@ -163,6 +164,7 @@ fn select_rows(
     requires vertices { length (plain_graph items.now) ≡ length (plain_graph inner.now) }
     requires order { IsOrder (plain_graph inner.now) order.now }
     requires all { (v : ℕ) → v < length (plain_graph inner.now) → IsIn order.now v }
+    requires ordered { AreRowsInOrder (rows_of reach.now.rows) }
     ensures { IfOk result (λ table. AreSelectRows (plain_graph items.now) (plain_graph inner.now) reach.now table) }
 {
     Ok(SelectRows {

@@ -1,12 +1,11 @@
 //! The places at which the declarations of an attribute stand, as spans.
 
 ghost use Rattle.std.specs.Prelude.{◌≡◌, ◌<◌, length, IfOk, IfSome, IsTrue};
-ghost use Rattle.p21_schema.specs.Graph.{rows_of};
+ghost use Rattle.p21_graph.specs.Graph.{rows_of};
 ghost use Rattle.p21_schema.specs.Spans.{explicit_form, AreWithin, IsRangeOf, AreSpans, IsBefore, AreInOrder};
 
 use crate::declarations::{Declaration, Form};
-use crate::ranges::Range;
-use crate::reach::Reach;
+use p21_graph::{Range, Reach};
 use std::alloc::{AllocError, Global};
 
 /// The places, among the descents of entities, of the entity that a declaration stands in and of its descendants. In the order of

@@ -5,14 +5,14 @@ ghost use Rattle.std.specs.List.{AllByRecursion};
 ghost use Rattle.p21_express.specs.Schema.{Schema, Underlying, plain, named};
 ghost use Rattle.p21_express.specs.Plain.{plain_under, plain_type};
 ghost use Rattle.p21_express.specs.WellFormed.{IsIn, HasNoCycle, IsOther};
-ghost use Rattle.p21_schema.specs.Graph.{plain_graph, IsOrder};
+ghost use Rattle.p21_graph.specs.Graph.{plain_graph, IsOrder};
 ghost use Rattle.p21_schema.specs.Resolved.{target_name, resolved_expr};
 ghost use Rattle.p21_schema.specs.Under.{IsResolved, IsNoName, IsOtherRow, AreOthers, AreEnds, AreKnown, AreResolved};
 
-use crate::graph::{Graph, order};
 use crate::names::Names;
 use crate::resolved::{Resolved, Target, resolve, target_of};
 use p21_express::{TypeDecl, TypeExpr, Under};
+use p21_graph::{Graph, order};
 use std::alloc::{AllocError, Global};
 
 /// The place of the type whose name alone stands there.

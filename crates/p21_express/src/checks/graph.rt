@@ -1,19 +1,18 @@
 //! Graphs by lists of neighbors.
 
-ghost use Rattle.std.specs.Prelude.{◌≡◌, ℕ, ◌<◌, ◌-◌, ◌^◌, ◌↔◌, List, IfOk, OnOk, IsSome, length, replicate, slice_get, slice_set};
-ghost use Rattle.p21_express.specs.WellFormed.{IsIn, HasNoCycle};
+ghost use Rattle.std.specs.Prelude.{◌≡◌, ℕ, ◌<◌, ◌-◌, ◌^◌, List, IfOk, OnOk, IsSome, length, replicate, slice_get, slice_set};
+ghost use Rattle.p21_express.specs.WellFormed.{HasNoCycle};
 ghost use Rattle.p21_express.specs.Graph.{lists, neighbors, HasEdge};
-ghost use Rattle.p21_express.specs.Search.{State, state_of, enter, meet, follow, finish, step, Reaches, IsSearchFrom, IsAtRest, IsAtEnd, IsBlank, IsWhole, IsCleared};
+ghost use Rattle.p21_express.specs.Search.{State, state_of, enter, meet, follow, finish, step, IsSearchFrom, IsAtRest, IsAtEnd, IsBlank, IsWhole};
 ghost use Rattle.std.specs.Bool.{MatchBool};
 
 use std::alloc::{AllocError, Global};
-use std::mem;
 
 /// For each vertex those to which an edge leads.
 pub(super) type Graph = Vec<Vec<usize>>;
 
 /// The same value so many times.
-pub(super) fn repeated<T: Copy>(alloc: Global, value: T, count: usize) -> Result<Vec<T>, AllocError>
+fn repeated<T: Copy>(alloc: Global, value: T, count: usize) -> Result<Vec<T>, AllocError>
     ensures { IfOk result (λ list. list.items ≡ replicate count value) }
 {
     let mut list = Vec::new(alloc);
@@ -24,7 +23,7 @@ pub(super) fn repeated<T: Copy>(alloc: Global, value: T, count: usize) -> Result
 }
 
 /// Writes a value to a place, where the list has it.
-pub(super) fn set<T: Copy>(list: &mut Vec<T>, place: usize, value: T)
+fn set<T: Copy>(list: &mut Vec<T>, place: usize, value: T)
     ensures { list.new.items ≡ slice_set list.old.items place value }
 {
     if let Some(one) = list.get_mut(place) {
@@ -56,19 +55,9 @@ enum Mark {
     Finished,
 }
 
-/// These vertices are as new.
-fn clear(marks: &mut Vec<Mark>, vertices: &[usize])
-    ensures all { length marks.new.items ≡ length marks.old.items }
-    ensures cleared { (v : ℕ) → IsCleared marks.old.items marks.new.items vertices.now v }
-{
-    for vertex in vertices {
-        set(marks, *vertex, Mark::New);
-    }
-}
-
 /// A search in depth over a graph.
 #[derive(Drop)]
-pub(super) struct Search {
+struct Search {
     marks: Vec<Mark>,
     /// The vertices on the way, and how many edges of each were taken.
     way: Vec<(usize, usize)>,
@@ -80,7 +69,7 @@ pub(super) struct Search {
 
 impl Search {
     /// A search over a graph of so many vertices.
-    pub(super) fn new(alloc: Global, count: usize) -> Result<Search, AllocError>
+    fn new(alloc: Global, count: usize) -> Result<Search, AllocError>
         ensures { IfOk result (λ s. (g : List (List ℕ)) → length g ≡ count → IsBlank g (state_of s)) }
     {
         Ok(Search {
@@ -158,25 +147,6 @@ impl Search {
         self.go_on(graph)
     }
 
-    /// The vertex, and all to which it leads. The search is then as new, at no cost but that of these vertices.
-    pub(super) fn reached(
-        &mut self,
-        alloc: Global,
-        graph: &Graph,
-        vertex: usize,
-    ) -> Result<Vec<usize>, AllocError>
-        requires acyclic { HasNoCycle (HasEdge (lists graph.now.items)) }
-        requires blank { IsBlank (lists graph.now.items) (state_of self.old) }
-        requires vertex { vertex < length graph.now.items }
-        ensures blank { OnOk result (IsBlank (lists graph.now.items) (state_of self.new)) }
-        ensures found { IfOk result (λ found. (w : ℕ) → IsIn found.items w ↔ Reaches (lists graph.now.items) vertex w) }
-    {
-        self.from(graph, vertex)?;
-        let found = mem::replace(&mut self.finished, Vec::new(alloc));
-        clear(&mut self.marks, &found);
-        Ok(found)
-    }
-
     /// A search from each vertex.
     fn whole(alloc: Global, graph: &Graph) -> Result<Search, AllocError>
         ensures { IfOk result (λ s. IsWhole (lists graph.now.items) (state_of s)) }
@@ -190,7 +160,7 @@ impl Search {
 }
 
 /// The edge of a vertex that is next to be taken.
-pub(super) fn next(graph: &Graph, vertex: usize, taken: usize) -> Option<usize>
+fn next(graph: &Graph, vertex: usize, taken: usize) -> Option<usize>
     ensures edge { result ≡ slice_get (neighbors (lists graph.now.items) vertex) taken }
     ensures fits { IsSome result → taken < 2 ^ 64 - 1 }
 {
@@ -207,11 +177,6 @@ pub(super) fn is_cyclic(alloc: Global, graph: &Graph) -> Result<bool, AllocError
     ensures { IfOk result (λ answer. MatchBool answer (¬ (HasNoCycle (HasEdge (lists graph.now.items)))) (HasNoCycle (HasEdge (lists graph.now.items)))) }
 {
     Ok(Search::whole(alloc, graph)?.is_cyclic)
-}
-
-/// All vertices, each behind those to which its edges lead, where none lies on a cycle.
-pub(super) fn ends_first(alloc: Global, graph: &Graph) -> Result<Vec<usize>, AllocError> {
-    Ok(Search::whole(alloc, graph)?.finished)
 }
 
 /// For each vertex whether it lies on a cycle.

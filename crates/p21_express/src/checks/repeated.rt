@@ -77,7 +77,7 @@ fn list(
 }
 
 /// The names that an entity newly declares.
-pub(super) fn attributes<'d>(
+fn attributes<'d>(
     alloc: Global,
     entity: &'d EntityDecl,
     places: &EntityPlaces,

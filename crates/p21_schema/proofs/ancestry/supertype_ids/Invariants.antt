@@ -1,5 +1,5 @@
 use Rattle.std.proofs.Common.{◌≡◌, map, take}
-use Rattle.p21_schema.specs.Graph.{plain_graph, rows_of}
+use Rattle.p21_graph.specs.Graph.{plain_graph, rows_of}
 use Rattle.p21_schema.specs.Ancestry.{entity_id}
 use Rattle.p21_schema.proofs.ancestry.supertype_ids.Given as goal
 

@@ -3,11 +3,11 @@ use Rattle.std.proofs.lemmas.List.{length-map, get_or-map}
 use Rattle.p21_express.specs.Schema.{Entity}
 use Rattle.p21_express.specs.Plain.{plain_entity}
 use Rattle.p21_express.specs.WellFormed.{IsIn}
+use Rattle.p21_graph.specs.Graph.{plain_graph}
+use Rattle.p21_graph.specs.MemberLaws.{at_place}
+use Rattle.p21_graph.specs.GraphLaws.{rows_push}
 use Rattle.p21_schema.specs.Place.{no_entity}
-use Rattle.p21_schema.specs.Graph.{plain_graph}
 use Rattle.p21_schema.specs.Ancestry.{AreNamed}
-use Rattle.p21_schema.proofs.Members.{at_place}
-use Rattle.p21_schema.proofs.GraphLemmas.{rows_push}
 use Rattle.p21_schema.proofs.AncestryLemmas.{supertypes_push}
 use Rattle.p21_schema.proofs.ancestry.supertypes.Goals as goal
 

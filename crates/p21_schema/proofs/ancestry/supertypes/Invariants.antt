@@ -1,6 +1,6 @@
 use Rattle.std.proofs.Common.{map, take}
 use Rattle.p21_express.specs.Plain.{plain_entity}
-use Rattle.p21_schema.specs.Graph.{plain_graph}
+use Rattle.p21_graph.specs.Graph.{plain_graph}
 use Rattle.p21_schema.specs.Ancestry.{AreSupertypesNamed}
 use Rattle.p21_schema.proofs.ancestry.supertypes.Given as goal
 

@@ -1,10 +1,10 @@
 use Rattle.std.proofs.Common.{◌≡◌, ◌<◌, ◌+◌, ℕ, [], List, None, IfSome, Vec, length, get_or, sym, ap, subst, ◌∙◌}
 use Rattle.std.proofs.lemmas.List.{length_push}
+use Rattle.p21_graph.specs.Graph.{rows_of}
+use Rattle.p21_graph.specs.GraphLaws.{row_is, row_count}
 use Rattle.p21_schema.specs.declared.declarations.Declaration.{Declaration as Coded}
 use Rattle.p21_schema.specs.declared.steps.Step.{Step}
-use Rattle.p21_schema.specs.Graph.{rows_of}
 use Rattle.p21_schema.specs.Spans.{AreWithin, AreMet}
-use Rattle.p21_schema.proofs.GraphLemmas.{row_is, row_count}
 use Rattle.p21_schema.proofs.SpanLemmas.{each_more}
 use Rattle.p21_schema.proofs.bindings.all_bindings.Goals as goal
 

@@ -1,5 +1,5 @@
 use Rattle.std.proofs.Common.{◌≡◌, ◌<◌, ℕ, [], None, IfSome, length, get_or}
-use Rattle.p21_schema.specs.Graph.{rows_of}
+use Rattle.p21_graph.specs.Graph.{rows_of}
 use Rattle.p21_schema.specs.Spans.{AreMet}
 use Rattle.p21_schema.proofs.bindings.all_bindings.Given as goal
 

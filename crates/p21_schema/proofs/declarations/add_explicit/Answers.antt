@@ -3,14 +3,13 @@ use Rattle.std.proofs.lemmas.List.{length-map, length-set, length-append, take_a
 use Rattle.std.specs.Prelude.{Vec}
 use Rattle.p21_express.specs.Schema.{Entity, Attribute}
 use Rattle.p21_express.specs.Plain.{plain_entity, plain_attribute}
+use Rattle.p21_graph.specs.Graph.{rows_of}
 use Rattle.p21_schema.specs.DeclarationTable.{known_schema, IsDeclared, IsDeclarationTable}
 use Rattle.p21_express.specs.WellFormed.{IsIn, new_explicit}
 use Rattle.p21_schema.specs.declared.declarations.Form.TheVariants as form
 use Rattle.p21_schema.specs.Declaration.{Written, written_explicit}
-use Rattle.p21_schema.specs.Graph.{rows_of}
 use Rattle.p21_schema.specs.Place.{no_entity}
-use Rattle.p21_schema.proofs.RowLemmas.{new_place, new_more, new_same, is_again}
-use Rattle.p21_schema.proofs.RowLemmas.{is_new as is_new_one}
+use Rattle.p21_schema.proofs.RowLemmas.{new_place, new_more, new_same, is_again, is_new as is_new_one}
 use Rattle.p21_schema.proofs.DeclarationLemmas.{item_at, item_in, step_same, step_more, texpr_known}
 use Rattle.p21_schema.proofs.declarations.add_explicit.Goals as goal
 use Rattle.p21_schema.proofs.declarations.add_explicit.Goals.{in-Some+in_ok-texpr+in_ok-add, in_default, then-is_none, else-is_none}
@@ -67,10 +66,10 @@ loop-attribute-preserved c =
     elim c.match-place.branch [
       | in-Some+in_ok-texpr+in_ok-add w ↦
           let is_new : new ≡ set old w.in-Some.place (get_or old w.in-Some.place [] ++ record { entity = record { index = e }; form = form.Explicit x.optional w.in_ok-texpr.texpr } ∷ []) = ap (λ (u : _). rows_of u) w.lists-is ∙ w.in_ok-add.ensures in
-          (ap length is_new ∙ length-set old w.in-Some.place _ ∙ inv.count, λ ws h. step_more s formed f all k (plain_attribute x) ws old new less'' at w.in-Some.place (record { entity = record { index = e }; form = form.Explicit x.optional w.in_ok-texpr.texpr }) (subst (λ (u : Option ℕ). IsDeclared s (f (plain_attribute x)) u) w.in-Some.is c.in_ok-place.ensures) (record { known = c.requires.entity; entity = refl; form = (refl, (rw (← c.requires.known.entities, ← c.requires.known.types) w.in_ok-texpr.ensures, texpr_known s formed.unknown e c.requires.entity (plain_attribute x) (subst (λ (u : Entity). IsIn u.attributes (plain_attribute x)) (sym entity) (item_in plain_attribute xs k x less' is)))) }) is_new (inv.table ws h))
+          (ap length is_new ∙ length-set old w.in-Some.place _ ∙ inv.count, λ ws h. step_more s formed f all k (plain_attribute x) ws old new less'' at w.in-Some.place (record { entity = record { index = e }; form = form.Explicit x.optional w.in_ok-texpr.texpr }) (subst (λ (u : Option ℕ). IsDeclared s (f (plain_attribute x)) u) w.in-Some.is c.in_ok-place.ensures.declared) (record { known = c.requires.entity; entity = refl; form = (refl, (rw (← c.requires.known.entities, ← c.requires.known.types) w.in_ok-texpr.ensures, texpr_known s formed.unknown e c.requires.entity (plain_attribute x) (subst (λ (u : Entity). IsIn u.attributes (plain_attribute x)) (sym entity) (item_in plain_attribute xs k x less' is)))) }) is_new (inv.table ws h))
       | in_default w ↦
           let is_old : new ≡ old = ap (λ (u : _). rows_of u) w.lists-is in
-          (ap length is_old ∙ inv.count, λ ws h. step_same s formed f all k (plain_attribute x) ws old new less'' at (subst (λ (u : Option ℕ). IsDeclared s (f (plain_attribute x)) u) w.in_default.is c.in_ok-place.ensures) is_old (inv.table ws h))
+          (ap length is_old ∙ inv.count, λ ws h. step_same s formed f all k (plain_attribute x) ws old new less'' at (subst (λ (u : Option ℕ). IsDeclared s (f (plain_attribute x)) u) w.in_default.is c.in_ok-place.ensures.declared) is_old (inv.table ws h))
     ] in
     let place : (c.if-is_none.position ≡ length (new_explicit (take (k + 1) all))) × (c.if-is_none.position ≤ k + 1) =
     elim c.if-is_none.branch [
@@ -82,7 +81,7 @@ loop-attribute-preserved c =
           let same = new_same all k (plain_attribute x) some.0 less'' (ap (λ (u : Attribute). u.of) at ∙ some.1) in
           (w.position-is ∙ inv.position ∙ ap length (sym same), subst (λ u. u ≤ k + 1) (sym w.position-is) (omega (arith, inv.few)))
     ] in
-    record { position = place.0; few = place.1; count = lists.0; table = lists.1 }
+    record { position = place.0; few = place.1; count = lists.0; table = lists.1; asked = c.in_ok-place.ensures.asked }
 
 pub explicit_attribute-requires-clause-position : goal.explicit_attribute-requires-clause-position
 explicit_attribute-requires-clause-position c = λ of.

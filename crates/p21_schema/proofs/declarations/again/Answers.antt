@@ -29,8 +29,8 @@ attribute_above-requires-clause-one c =
     let at = found_at s c.args.known.now.entities.now c.known.result c.args.of.now c.requires.known.entities c.known.ensures in
     subst (λ (u : List ℕ). HasOneOrigin s u c.args.name.now) (sym at.1) c.requires.one
 
-pub returns : goal.returns
-returns c =
+pub returns-clause-found : goal.returns-clause-found
+returns-clause-found c =
     let s = known_schema c.args.known.now in
     let at = found_at s c.args.known.now.entities.now c.known.result c.args.of.now c.requires.known.entities c.known.ensures in
-    IfOk-weaker c.attribute_above.result _ _ (λ found h. by s c.requires.known.well_formed c.args.of.now c.args.name.now c.known.result at.0 at.1 found h) c.attribute_above.ensures
+    IfOk-weaker c.attribute_above.result _ _ (λ found h. by s c.requires.known.well_formed c.args.of.now c.args.name.now c.known.result at.0 at.1 found h) c.attribute_above.ensures.found

@@ -22,11 +22,11 @@ again-requires-clause-one c =
     let r = derived_redeclares s c.requires.known.well_formed c.args.entity c.requires.entity (plain_derived c.args.derived.now) c.in-Some.of.items c.requires.derived of in
     rw (c.deref.ensures.value, c.deref-in-Some.ensures.value) (one_origin s c.requires.known.well_formed r.1)
 
-pub returns-in-Some : goal.returns-in-Some
-returns-in-Some c =
+pub returns-in-Some-clause-declared : goal.returns-in-Some-clause-declared
+returns-in-Some-clause-declared c =
     let s = known_schema c.args.known.now in
     let a = plain_derived c.args.derived.now in
     let of : a.of ≡ Some c.in-Some.of.items = ap (option_map (λ (n : Vec ℕ _). n.items)) c.in-Some.is in
     let r = derived_redeclares s c.requires.known.well_formed c.args.entity c.requires.entity a c.in-Some.of.items c.requires.derived of in
     IfOk-weaker c.again.result _ _ (λ place h. declared_again s c.requires.known.well_formed (written_derived (get_or s.entities c.args.entity no_entity).name a) c.in-Some.of.items r.0 place of r.1
-    (rw (c.deref.ensures.value, c.deref-in-Some.ensures.value) at h)) c.again.ensures
+    (rw (c.deref.ensures.value, c.deref-in-Some.ensures.value) at h)) c.again.ensures.found

@@ -18,8 +18,8 @@ again-requires-clause-of c =
 pub own_attribute-requires-clause-position : goal.own_attribute-requires-clause-position
 own_attribute-requires-clause-position c = (c.requires.position (ap (option_map (λ (n : Vec ℕ _). n.items)) c.in-None.is)).0
 
-pub returns-in-None : goal.returns-in-None
-returns-in-None c =
+pub returns-in-None-clause-declared : goal.returns-in-None-clause-declared
+returns-in-None-clause-declared c =
     let s = known_schema c.args.known.now in
     let a = plain_attribute c.args.attribute.now in
     let e = c.args.entity in
@@ -34,11 +34,11 @@ again-requires-clause-one c =
     let r = explicit_redeclares s c.requires.known.well_formed c.args.entity c.requires.entity (plain_attribute c.args.attribute.now) c.in-Some.of.items c.requires.attribute of in
     rw (c.deref.ensures.value, c.deref-in-Some.ensures.value) (one_origin s c.requires.known.well_formed r.1)
 
-pub returns-in-Some : goal.returns-in-Some
-returns-in-Some c =
+pub returns-in-Some-clause-declared : goal.returns-in-Some-clause-declared
+returns-in-Some-clause-declared c =
     let s = known_schema c.args.known.now in
     let a = plain_attribute c.args.attribute.now in
     let of : a.of ≡ Some c.in-Some.of.items = ap (option_map (λ (n : Vec ℕ _). n.items)) c.in-Some.is in
     let r = explicit_redeclares s c.requires.known.well_formed c.args.entity c.requires.entity a c.in-Some.of.items c.requires.attribute of in
     IfOk-weaker c.again.result _ _ (λ place h. declared_again s c.requires.known.well_formed (written_explicit (get_or s.entities c.args.entity no_entity).name a) c.in-Some.of.items r.0 place of r.1
-    (rw (c.deref.ensures.value, c.deref-in-Some.ensures.value) at h)) c.again.ensures
+    (rw (c.deref.ensures.value, c.deref-in-Some.ensures.value) at h)) c.again.ensures.found

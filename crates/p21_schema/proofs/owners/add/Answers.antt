@@ -1,9 +1,9 @@
 use Rattle.std.proofs.Common.{◌≡◌, ◌++◌, ◌∷◌, [], get_or, set, sym, ap, subst, ◌<◌, ◌∙◌}
 use Rattle.std.specs.Prelude.{Vec, List}
 use Rattle.std.proofs.lemmas.List.{map-set}
+use Rattle.p21_graph.specs.Graph.{rows_of}
+use Rattle.p21_graph.specs.GraphLaws.{row_is, row_count}
 use Rattle.p21_schema.specs.declared.owners.Owner.{Owner}
-use Rattle.p21_schema.specs.Graph.{rows_of}
-use Rattle.p21_schema.proofs.GraphLemmas.{row_is, row_count}
 use Rattle.p21_schema.proofs.owners.add.Goals as goal
 
 pub returns : goal.returns

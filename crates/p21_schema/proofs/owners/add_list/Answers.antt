@@ -1,7 +1,7 @@
 use Rattle.std.proofs.Common.{◌++◌, ◌∷◌, [], List, ap, ◌∙◌}
+use Rattle.p21_graph.specs.Graph.{rows_of}
+use Rattle.p21_graph.specs.GraphLaws.{rows_push}
 use Rattle.p21_schema.specs.declared.owners.Owner.{Owner}
-use Rattle.p21_schema.specs.Graph.{rows_of}
-use Rattle.p21_schema.proofs.GraphLemmas.{rows_push}
 use Rattle.p21_schema.proofs.owners.add_list.Goals as goal
 
 pub returns : goal.returns

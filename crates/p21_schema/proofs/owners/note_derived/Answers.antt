@@ -4,10 +4,10 @@ use Rattle.std.proofs.lemmas.List.{length-map, get_or-map, take_all}
 use Rattle.p21_express.specs.Schema.{Derived}
 use Rattle.p21_express.specs.Plain.{plain_entity, plain_derived}
 use Rattle.p21_express.specs.WellFormed.{IsIn, new_derived}
+use Rattle.p21_graph.specs.MemberLaws.{in_either, at_place}
 use Rattle.p21_schema.specs.declared.owners.Owner.{Owner}
 use Rattle.p21_schema.specs.declared.owners.Owners.{Owners}
 use Rattle.p21_schema.specs.Owners.{IsListed, IsNoted, IsOwnerIn, OwnsAt}
-use Rattle.p21_schema.proofs.Members.{in_either, at_place}
 use Rattle.p21_schema.proofs.RowLemmas.{is_new, is_again}
 use Rattle.p21_schema.proofs.OwnerLemmas.{is_one, noted_none, noted_more, owned_one, derived_more, derived_same, in_derived}
 use Rattle.p21_schema.proofs.owners.note_derived.Goals as goal

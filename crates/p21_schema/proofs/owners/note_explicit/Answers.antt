@@ -4,10 +4,10 @@ use Rattle.std.proofs.lemmas.List.{length-map, get_or-map, length-append, take_a
 use Rattle.p21_express.specs.Schema.{Attribute}
 use Rattle.p21_express.specs.Plain.{plain_entity, plain_attribute}
 use Rattle.p21_express.specs.WellFormed.{IsIn, new_explicit}
+use Rattle.p21_graph.specs.MemberLaws.{in_either}
 use Rattle.p21_schema.specs.declared.owners.Owner.{Owner}
 use Rattle.p21_schema.specs.declared.owners.Owners.{Owners}
 use Rattle.p21_schema.specs.Owners.{IsListed, IsNoted, IsOwnerIn, OwnsAt}
-use Rattle.p21_schema.proofs.Members.{in_either}
 use Rattle.p21_schema.proofs.RowLemmas.{new_place, new_more, new_same, is_new, is_again}
 use Rattle.p21_schema.proofs.OwnerLemmas.{is_one, noted_none, noted_more, owned_one}
 use Rattle.p21_schema.proofs.owners.note_explicit.Goals as goal

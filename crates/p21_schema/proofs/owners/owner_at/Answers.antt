@@ -1,6 +1,6 @@
 use Rattle.std.proofs.Common.{rules}
 use Rattle.std.proofs.lemmas.List.Sorted.{answers_always}
-use Rattle.p21_schema.proofs.Members.{at_place}
+use Rattle.p21_graph.specs.MemberLaws.{at_place}
 use Rattle.p21_schema.proofs.OwnerLemmas.{owner_found}
 use Rattle.p21_schema.proofs.owners.owner_at.Goals as goal
 

@@ -1,5 +1,5 @@
 use Rattle.std.proofs.Common.{◌<◌, length, get_or, rules}
-use Rattle.p21_schema.proofs.Members.{at_place}
+use Rattle.p21_graph.specs.MemberLaws.{at_place}
 use Rattle.p21_schema.proofs.rows.first_row.Goals as goal
 
 pub bounds-places-supertypes : goal.bounds-places-supertypes

@@ -1,7 +1,7 @@
 use Rattle.std.proofs.Common.{◌≡◌, ◌<◌, ◌-◌, ◌++◌, length, get_or, refl, arith, rules}
 use Rattle.std.proofs.lemmas.Result.{IfOk-weaker}
+use Rattle.p21_graph.specs.MemberLaws.{at_place}
 use Rattle.p21_schema.specs.RowTable.{all_kept, joined, first_of, row_in, ids_from, below, several}
-use Rattle.p21_schema.proofs.Members.{at_place}
 use Rattle.p21_schema.proofs.SharedLemmas.{lone_is}
 use Rattle.p21_schema.proofs.rows.next_row.Goals as goal
 

@@ -3,11 +3,11 @@ use Rattle.std.proofs.lemmas.List.{length-map, get_or-map, length_push, length-r
 use Rattle.p21_express.specs.Schema.{Entity}
 use Rattle.p21_express.specs.Plain.{plain_schema, plain_entity}
 use Rattle.p21_express.specs.WellFormed.{new_explicit}
+use Rattle.p21_graph.specs.Graph.{rows_of}
+use Rattle.p21_graph.specs.GraphLaws.{row_count}
 use Rattle.p21_schema.specs.declared.declarations.Declaration.{Declaration}
-use Rattle.p21_schema.specs.Graph.{rows_of}
 use Rattle.p21_schema.specs.Place.{no_entity}
 use Rattle.p21_schema.specs.Row.{own_attributes, attributes_of}
-use Rattle.p21_schema.proofs.GraphLemmas.{row_count}
 use Rattle.p21_schema.proofs.RowLemmas.{attributes_more, own_push}
 use Rattle.p21_schema.proofs.rows.own_attributes.Goals as goal
 

@@ -3,9 +3,9 @@ use Rattle.std.specs.Prelude.{Vec}
 use Rattle.std.proofs.lemmas.List.{length-map, get_or-map}
 use Rattle.p21_express.specs.Schema.{Attribute}
 use Rattle.p21_express.specs.Plain.{plain_entity, plain_attribute}
+use Rattle.p21_graph.specs.Graph.{rows_of}
+use Rattle.p21_graph.specs.GraphLaws.{rows_push}
 use Rattle.p21_schema.specs.declared.declarations.Declaration.{Declaration}
-use Rattle.p21_schema.specs.Graph.{rows_of}
-use Rattle.p21_schema.proofs.GraphLemmas.{rows_push}
 use Rattle.p21_schema.proofs.RowLemmas.{lists_more, lists_same, is_new, is_again}
 use Rattle.p21_schema.proofs.rows.push_lists.Goals as goal
 use Rattle.p21_schema.proofs.rows.push_lists.Goals.{then-is_none+in_ok-push, else-is_none}

@@ -1,8 +1,8 @@
 use Rattle.std.proofs.Common.{◌≡◌, ◌<◌, ◌-◌, ◌++◌, ◌∷◌, ℕ, [], List, length, get_or, sym, ap, ◌∙◌, subst, rules}
 use Rattle.std.proofs.lemmas.List.{take_all}
+use Rattle.p21_graph.specs.MemberLaws.{at_place}
 use Rattle.p21_schema.specs.declared.ids.AttrId.{AttrId}
 use Rattle.p21_schema.specs.RowTable.{all_kept, joined, first_of, row_in, ids_from, IsSharedRow}
-use Rattle.p21_schema.proofs.Members.{at_place}
 use Rattle.p21_schema.proofs.RowLemmas.{joined_more}
 use Rattle.p21_schema.proofs.rows.row_of.Goals as goal
 

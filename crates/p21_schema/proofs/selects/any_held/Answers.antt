@@ -1,8 +1,8 @@
 use Rattle.std.proofs.Common.{◌≡◌, ◌<◌, ◌+◌, ◌↔◌, ℕ, [], true, length, get_or, ap, ◌∙◌}
 use Rattle.std.proofs.lemmas.List.{length_push}
-use Rattle.p21_schema.specs.Graph.{rows_of}
-use Rattle.p21_schema.specs.Ranges.{Covers}
-use Rattle.p21_schema.proofs.GraphLemmas.{row_is}
+use Rattle.p21_graph.specs.Graph.{rows_of}
+use Rattle.p21_graph.specs.Ranges.{Covers}
+use Rattle.p21_graph.specs.GraphLaws.{row_is}
 use Rattle.p21_schema.proofs.SelectLemmas.{marks_more}
 use Rattle.p21_schema.proofs.selects.any_held.Goals as goal
 

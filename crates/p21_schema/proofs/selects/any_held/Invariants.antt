@@ -1,6 +1,6 @@
 use Rattle.std.proofs.Common.{◌≡◌, ◌<◌, ◌↔◌, ℕ, [], length, get_or}
-use Rattle.p21_schema.specs.Graph.{rows_of, IsMarked}
-use Rattle.p21_schema.specs.Ranges.{Covers}
+use Rattle.p21_graph.specs.Graph.{rows_of, IsMarked}
+use Rattle.p21_graph.specs.Ranges.{Covers}
 use Rattle.p21_schema.proofs.selects.any_held.Given as goal
 
 abbrev pub invariant-loop-row : goal.invariant-loop-row

@@ -1,5 +1,5 @@
 use Rattle.std.proofs.Common.{◌≡◌, length}
-use Rattle.p21_schema.specs.Graph.{plain_graph}
+use Rattle.p21_graph.specs.Graph.{plain_graph}
 use Rattle.p21_schema.proofs.selects.are_nested_deep.Given as goal
 
 abbrev pub invariant-loop-select : goal.invariant-loop-select

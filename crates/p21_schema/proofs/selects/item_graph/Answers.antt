@@ -1,7 +1,7 @@
 use Rattle.std.proofs.Common.{◌≡◌, ◌<◌, ◌+◌, length, sym, ap, subst, arith, ◌∙◌}
 use Rattle.std.proofs.lemmas.List.{length_push}
-use Rattle.p21_schema.specs.Graph.{plain_graph}
-use Rattle.p21_schema.proofs.GraphLemmas.{rows_push}
+use Rattle.p21_graph.specs.Graph.{plain_graph}
+use Rattle.p21_graph.specs.GraphLaws.{rows_push}
 use Rattle.p21_schema.proofs.SelectLemmas.{graph_more}
 use Rattle.p21_schema.proofs.selects.item_graph.Goals as goal
 

@@ -1,6 +1,6 @@
 use Rattle.std.proofs.Common.{◌≡◌, ◌<◌, ℕ, [], length, get_or}
+use Rattle.p21_graph.specs.Graph.{plain_graph}
 use Rattle.p21_schema.specs.declared.resolved.Resolved.{Resolved}
-use Rattle.p21_schema.specs.Graph.{plain_graph}
 use Rattle.p21_schema.specs.SelectItems.{IsItemRow, targets_of}
 use Rattle.p21_schema.proofs.selects.item_graph.Given as goal
 

@@ -1,10 +1,10 @@
 use Rattle.std.proofs.Common.{ℕ, sym, subst}
 use Rattle.std.proofs.lemmas.Result.{IfOk-weaker}
-use Rattle.p21_schema.specs.Graph.{plain_graph, AreEdgesBelow}
-use Rattle.p21_schema.specs.Reach.{IsEachAlone}
+use Rattle.p21_graph.specs.Graph.{plain_graph, AreEdgesBelow}
+use Rattle.p21_graph.specs.Reach.{IsEachAlone}
+use Rattle.p21_graph.specs.declared.reach.Reach.{Reach}
+use Rattle.p21_graph.specs.GraphLaws.{in_order_below}
 use Rattle.p21_schema.specs.SelectTable.{AreSelectRows}
-use Rattle.p21_schema.specs.declared.reach.Reach.{Reach}
-use Rattle.p21_schema.proofs.ReachLemmas.{in_order_below}
 use Rattle.p21_schema.proofs.selects.items_reached.Goals as goal
 
 pub met-requires : goal.met-requires
@@ -15,6 +15,9 @@ each_alone-requires c = λ v i. let e = c.in_ok-first.ensures v (rw c.deref.ensu
 
 pub select_rows-requires-clause-items : goal.select_rows-requires-clause-items
 select_rows-requires-clause-items c = subst (λ (n : ℕ). AreEdgesBelow (plain_graph c.args.items.now) n) (sym c.in_ok-alone.ensures.count) c.requires.items
+
+pub select_rows-requires-clause-ordered : goal.select_rows-requires-clause-ordered
+select_rows-requires-clause-ordered c = c.in_ok-alone.ensures.ordered
 
 pub returns : goal.returns
 returns c = IfOk-weaker c.select_rows.result (λ table. AreSelectRows (plain_graph c.args.items.now) (plain_graph c.args.inner.now) c.in_ok-alone.alone table) (λ table. (reach : Reach) × (IsEachAlone c.args.count reach × AreSelectRows (plain_graph c.args.items.now) (plain_graph c.args.inner.now) reach table))

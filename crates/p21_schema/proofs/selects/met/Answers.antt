@@ -1,8 +1,8 @@
 use Rattle.std.proofs.Common.{◌≡◌, ◌<◌, ℕ, List, [], get_or, length, sym, subst, ⊎_elim, ◌∙◌}
 use Rattle.p21_express.specs.WellFormed.{IsIn}
-use Rattle.p21_schema.specs.Graph.{plain_graph}
-use Rattle.p21_schema.proofs.Members.{at_place, in_either}
-use Rattle.p21_schema.proofs.GraphLemmas.{row_is, row_count}
+use Rattle.p21_graph.specs.Graph.{plain_graph}
+use Rattle.p21_graph.specs.MemberLaws.{at_place, in_either}
+use Rattle.p21_graph.specs.GraphLaws.{row_is, row_count}
 use Rattle.p21_schema.proofs.selects.met.Goals as goal
 
 pub index-requires : goal.index-requires

@@ -1,9 +1,9 @@
 use Rattle.std.proofs.Common.{◌≡◌, ℕ, length, sym, subst, ◌∙◌}
 use Rattle.p21_express.specs.WellFormed.{IsEntity, IsSelect}
+use Rattle.p21_graph.specs.Graph.{plain_graph, AreEdgesBelow}
+use Rattle.p21_graph.specs.GraphLaws.{row_count}
 use Rattle.p21_schema.specs.declared.selects.Item.TheVariants as item_kind
-use Rattle.p21_schema.specs.Graph.{plain_graph, AreEdgesBelow}
 use Rattle.p21_schema.specs.SelectTable.{entity_named, type_named, IsSelectTable}
-use Rattle.p21_schema.proofs.GraphLemmas.{row_count}
 use Rattle.p21_schema.proofs.SelectLemmas.{inner_below, no_inner_cycle, items_below, stands_entity, stands_other, select_table, entity_marks}
 use Rattle.p21_schema.proofs.AdmitLemmas.{admit_table}
 use Rattle.p21_schema.proofs.selects.select_tables.Goals as goal

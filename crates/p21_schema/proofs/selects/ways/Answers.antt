@@ -1,5 +1,5 @@
 use Rattle.std.proofs.Common.{◌<◌, get_or, length, rules}
-use Rattle.p21_schema.proofs.Members.{at_place}
+use Rattle.p21_graph.specs.MemberLaws.{at_place}
 use Rattle.p21_schema.proofs.selects.ways.Goals as goal
 
 pub bounds-counts-other : goal.bounds-counts-other

@@ -1,7 +1,7 @@
 use Rattle.std.proofs.Common.{◌≡◌, ◌-◌, ◌<◌, [], get_or, sym, ◌∙◌, subst, arith, length}
 use Rattle.std.proofs.lemmas.List.{get_or_default}
-use Rattle.p21_schema.specs.Graph.{rows_of}
-use Rattle.p21_schema.proofs.GraphLemmas.{row_is, row_count}
+use Rattle.p21_graph.specs.Graph.{rows_of}
+use Rattle.p21_graph.specs.GraphLaws.{row_is, row_count}
 use Rattle.p21_schema.proofs.SpanLemmas.{one_range}
 use Rattle.p21_schema.proofs.spans.range_of.Goals as goal
 

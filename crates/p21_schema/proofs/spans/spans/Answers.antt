@@ -1,9 +1,9 @@
 use Rattle.std.proofs.Common.{sym, subst, ◌∙◌}
 use Rattle.std.proofs.lemmas.List.{get_or_default}
 use Rattle.p21_express.specs.WellFormed.{IsIn}
+use Rattle.p21_graph.specs.MemberLaws.{at_place}
 use Rattle.p21_schema.specs.declared.declarations.Declaration.{Declaration as Coded}
 use Rattle.p21_schema.specs.Spans.{no_declaration}
-use Rattle.p21_schema.proofs.Members.{at_place}
 use Rattle.p21_schema.proofs.SpanLemmas.{range_more}
 use Rattle.p21_schema.proofs.spans.spans.Goals as goal
 

@@ -1,10 +1,10 @@
 use Rattle.std.proofs.Common.{◌≡◌, ◌<◌, ◌/◌, ℕ, List, length, take, drop, sym, ap, subst, ◌∙◌, arith}
 use Rattle.std.specs.Option.{option_or}
 use Rattle.std.proofs.lemmas.Result.{IfOk-weaker}
+use Rattle.p21_graph.specs.MemberLaws.{at_place}
 use Rattle.p21_schema.specs.declared.spans.Span.{Span}
 use Rattle.p21_schema.specs.declared.steps.Step.{Step}
 use Rattle.p21_schema.specs.Steps.{AreForward, first_at, step_at}
-use Rattle.p21_schema.proofs.Members.{at_place}
 use Rattle.p21_schema.proofs.StepLemmas.{forward_front, forward_back, first_parts, not_none}
 use Rattle.p21_schema.proofs.steps.+steps.Goals as goal
 

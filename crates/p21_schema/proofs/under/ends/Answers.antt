@@ -1,10 +1,9 @@
 use Rattle.std.proofs.Common.{◌≡◌, ◌<◌, ℕ, List, [], length, get_or, sym, ◌∙◌, subst}
 use Rattle.std.proofs.lemmas.List.{length-set, take_all, get_or_default}
 use Rattle.p21_express.specs.WellFormed.{IsIn}
-use Rattle.p21_schema.specs.Graph.{plain_graph, HasEdge}
-use Rattle.p21_schema.proofs.Members.{in_front}
-use Rattle.p21_schema.proofs.GraphLemmas.{row_is, row_count}
-use Rattle.p21_schema.proofs.ReachLemmas.{in_order_below}
+use Rattle.p21_graph.specs.Graph.{plain_graph, HasEdge}
+use Rattle.p21_graph.specs.MemberLaws.{in_front}
+use Rattle.p21_graph.specs.GraphLaws.{row_is, row_count, in_order_below}
 use Rattle.p21_schema.proofs.UnderLemmas.{first_in, none_in, end_more_itself, end_more_followed}
 use Rattle.p21_schema.proofs.under.ends.Goals as goal
 use Rattle.p21_schema.proofs.under.ends.Goals.{in-Some, in-None}

@@ -1,7 +1,7 @@
 use Rattle.std.proofs.Common.{◌≡◌, ℕ, length, map, take, get_or}
 use Rattle.p21_express.specs.Schema.{Schema}
 use Rattle.p21_express.specs.WellFormed.{IsIn}
-use Rattle.p21_schema.specs.Graph.{plain_graph}
+use Rattle.p21_graph.specs.Graph.{plain_graph}
 use Rattle.p21_schema.specs.Under.{AreOthers, IsEnd}
 use Rattle.p21_schema.proofs.under.ends.Given as goal
 

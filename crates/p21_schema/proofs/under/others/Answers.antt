@@ -3,11 +3,11 @@ use Rattle.std.proofs.lemmas.List.{length-map, get_or-map}
 use Rattle.p21_express.specs.Schema.{Defined}
 use Rattle.p21_express.specs.Plain.{plain_type}
 use Rattle.p21_express.specs.WellFormed.{IsIn}
+use Rattle.p21_graph.specs.Graph.{plain_graph}
+use Rattle.p21_graph.specs.MemberLaws.{at_place, in_map}
+use Rattle.p21_graph.specs.GraphLaws.{rows_push}
 use Rattle.p21_schema.specs.Place.{no_type}
-use Rattle.p21_schema.specs.Graph.{plain_graph}
 use Rattle.p21_schema.specs.Under.{IsOtherRow}
-use Rattle.p21_schema.proofs.Members.{at_place, in_map}
-use Rattle.p21_schema.proofs.GraphLemmas.{rows_push}
 use Rattle.p21_schema.proofs.UnderLemmas.{others_push}
 use Rattle.p21_schema.proofs.under.others.Goals as goal
 

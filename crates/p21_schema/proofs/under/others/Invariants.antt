@@ -1,6 +1,6 @@
 use Rattle.std.proofs.Common.{map, take}
 use Rattle.p21_express.specs.Plain.{plain_type}
-use Rattle.p21_schema.specs.Graph.{plain_graph}
+use Rattle.p21_graph.specs.Graph.{plain_graph}
 use Rattle.p21_schema.specs.Under.{AreOthers}
 use Rattle.p21_schema.proofs.under.others.Given as goal
 

@@ -3,9 +3,9 @@ use Rattle.std.proofs.lemmas.List.{length-map, get_or-map}
 use Rattle.p21_express.specs.Schema.{Defined}
 use Rattle.p21_express.specs.Plain.{plain_type}
 use Rattle.p21_express.specs.WellFormed.{IsIn}
+use Rattle.p21_graph.specs.MemberLaws.{at_place, in_map}
 use Rattle.p21_schema.specs.Place.{no_type}
 use Rattle.p21_schema.specs.Under.{IsResolved}
-use Rattle.p21_schema.proofs.Members.{at_place, in_map}
 use Rattle.p21_schema.proofs.UnderLemmas.{resolved_push}
 use Rattle.p21_schema.proofs.under.resolved.Goals as goal
 

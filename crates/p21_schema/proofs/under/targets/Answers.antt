@@ -1,6 +1,6 @@
 use Rattle.std.proofs.Common.{◌⊎◌, List, ℕ}
 use Rattle.p21_express.specs.WellFormed.{IsIn}
-use Rattle.p21_schema.proofs.Members.{holds_of}
+use Rattle.p21_graph.specs.MemberLaws.{holds_of}
 use Rattle.p21_schema.proofs.NameLemmas.{known_name, names_of}
 use Rattle.p21_schema.proofs.under.targets.Goals as goal
 

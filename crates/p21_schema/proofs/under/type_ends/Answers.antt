@@ -3,7 +3,7 @@ use Rattle.std.specs.declared.alloc.AllocError.{AllocError}
 use Rattle.std.proofs.Common.{◌≡◌, Result, Ok, Err, IfOk, Global, List, ℕ, map}
 use Rattle.p21_express.specs.Schema.{Schema, Defined}
 use Rattle.p21_express.specs.Plain.{plain_type}
-use Rattle.p21_schema.specs.Graph.{plain_graph}
+use Rattle.p21_graph.specs.Graph.{plain_graph}
 use Rattle.p21_schema.specs.Under.{AreOthers, AreEnds}
 use Rattle.p21_schema.proofs.UnderLemmas.{type_names, others_below, no_other_cycle, others_for}
 use Rattle.p21_schema.proofs.under.type_ends.Goals as goal

@@ -1,8 +1,8 @@
 use Rattle.std.proofs.Common.{◌≡◌, ◌<◌, List, [], length, get_or, sym, subst, ◌∙◌}
 use Rattle.p21_express.specs.WellFormed.{IsIn}
+use Rattle.p21_graph.specs.Graph.{rows_of}
+use Rattle.p21_graph.specs.GraphLaws.{row_is, row_count}
 use Rattle.p21_schema.specs.declared.owners.Owner.{Owner}
-use Rattle.p21_schema.specs.Graph.{rows_of}
-use Rattle.p21_schema.proofs.GraphLemmas.{row_is, row_count}
 use Rattle.p21_schema.proofs.OwnerLemmas.{listed_at, listed_in}
 use Rattle.p21_schema.proofs.owners.Owners.of.Goals as goal
 

@@ -1,14 +1,13 @@
 use Rattle.std.proofs.Common.{◌≡◌, ◌<◌, ◌≤◌, ◌++◌, ◌∷◌, ℕ, List, [], length, get_or, take, sym, ap, subst, ◌∙◌, arith, ◌+◌}
 use Rattle.std.proofs.lemmas.List.{length_push, take_all}
 use Rattle.p21_express.specs.WellFormed.{IsIn}
+use Rattle.p21_graph.specs.Graph.{plain_graph}
+use Rattle.p21_graph.specs.MemberLaws.{in_front}
+use Rattle.p21_graph.specs.GraphLaws.{row_is, row_count, in_order_below}
 use Rattle.p21_schema.specs.Ancestry.{AreNamed}
-use Rattle.p21_schema.specs.Graph.{plain_graph}
 use Rattle.p21_schema.specs.Place.{no_entity}
 use Rattle.p21_schema.specs.RowTable.{IsRowAt, IsNextRow, AreSharedRows, IsSharedRow, row_in, no_own}
-use Rattle.p21_schema.proofs.Members.{in_front}
 use Rattle.p21_schema.proofs.AncestryLemmas.{all_names}
-use Rattle.p21_schema.proofs.GraphLemmas.{row_is, row_count}
-use Rattle.p21_schema.proofs.ReachLemmas.{in_order_below}
 use Rattle.p21_schema.proofs.SharedLemmas.{earlier_row, next_at, rows_push_at, shared_push, no_rows}
 use Rattle.p21_schema.proofs.rows.Rows.new.Goals as goal
 

@@ -1,9 +1,9 @@
 use Rattle.std.proofs.Common.{◌≡◌, ◌<◌, ℕ, List, [], length, get_or, map}
 use Rattle.p21_express.specs.Schema.{Schema}
 use Rattle.p21_express.specs.WellFormed.{IsWellFormed}
+use Rattle.p21_graph.specs.Graph.{plain_graph}
 use Rattle.p21_schema.specs.declared.ids.AttrId.{AttrId}
 use Rattle.p21_schema.specs.Ancestry.{AreSupertypesNamed}
-use Rattle.p21_schema.specs.Graph.{plain_graph}
 use Rattle.p21_schema.specs.RowTable.{AreSharedRows, IsOwnTable, IsRowAt}
 use Rattle.p21_schema.proofs.rows.Rows.new.Given as goal
 

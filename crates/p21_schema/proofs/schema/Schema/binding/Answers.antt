@@ -1,13 +1,13 @@
 use Rattle.std.proofs.Common.{◌≡◌, ◌<◌, [], Some, None, length, get_or, sym, subst, ◌∙◌}
 use Rattle.std.proofs.lemmas.List.{get_or_default}
 use Rattle.p21_express.specs.Schema.{Schema}
-use Rattle.p21_schema.specs.Graph.{rows_of}
+use Rattle.p21_graph.specs.Graph.{rows_of}
+use Rattle.p21_graph.specs.GraphLaws.{row_is, row_count}
 use Rattle.p21_schema.specs.Place.{IsEntityOf}
 use Rattle.p21_schema.specs.Row.{IsAttributeOf}
 use Rattle.p21_schema.specs.Spans.{AreMet}
 use Rattle.p21_schema.specs.Tables.{schema_of}
 use Rattle.p21_schema.proofs.BindingLemmas.{met_in, binding_in}
-use Rattle.p21_schema.proofs.GraphLemmas.{row_is, row_count}
 use Rattle.p21_schema.proofs.schema.Schema.binding.Goals as goal
 
 pub binding_at-requires : goal.binding_at-requires

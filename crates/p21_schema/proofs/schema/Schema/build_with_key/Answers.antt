@@ -1,9 +1,9 @@
 use Rattle.std.proofs.Common.{◌≡◌, sym, List, [], map, get_or, ap, ◌∙◌}
 use Rattle.p21_express.specs.Schema.{Entity, Defined}
 use Rattle.p21_express.specs.Plain.{plain_schema, plain_entity, plain_type}
+use Rattle.p21_graph.specs.Graph.{plain_graph, rows_of}
 use Rattle.p21_schema.specs.Rules.{with_rules}
 use Rattle.p21_schema.specs.Declaration.{written}
-use Rattle.p21_schema.specs.Graph.{plain_graph, rows_of}
 use Rattle.p21_schema.specs.Ancestry.{AreSupertypesNamed, IsDescentTable}
 use Rattle.p21_schema.specs.SelectTable.{AreSelectTables}
 use Rattle.p21_schema.specs.Under.{AreResolved}

@@ -1,9 +1,9 @@
 use Rattle.std.proofs.Common.{◌≡◌, ◌<◌, [], length, get_or, sym, subst, ◌∙◌}
 use Rattle.p21_express.specs.Schema.{Schema}
+use Rattle.p21_graph.specs.Graph.{rows_of}
+use Rattle.p21_graph.specs.GraphLaws.{row_is, row_count}
 use Rattle.p21_schema.specs.Tables.{schema_of}
-use Rattle.p21_schema.specs.Graph.{rows_of}
 use Rattle.p21_schema.specs.Row.{IsAttributeOf}
-use Rattle.p21_schema.proofs.GraphLemmas.{row_is, row_count}
 use Rattle.p21_schema.proofs.DeclarationLemmas.{row_tells}
 use Rattle.p21_schema.proofs.schema.Schema.declarations.Goals as goal
 

@@ -1,10 +1,10 @@
 use Rattle.std.proofs.Common.{◌≡◌, ◌<◌, length, get_or, sym, subst, ◌∙◌}
 use Rattle.std.proofs.lemmas.List.{get_or_default}
 use Rattle.p21_express.specs.Schema.{Schema}
+use Rattle.p21_graph.specs.RangeLaws.{↔_through}
 use Rattle.p21_schema.specs.Tables.{schema_of}
 use Rattle.p21_schema.specs.Place.{type_name, IsTypeOf}
 use Rattle.p21_schema.specs.ItemTable.{IsNamesRow}
-use Rattle.p21_schema.proofs.RangeLemmas.{↔_through}
 use Rattle.p21_schema.proofs.UnderLemmas.{end_below}
 use Rattle.p21_schema.proofs.ItemLemmas.{has_by_row, row_of}
 use Rattle.p21_schema.proofs.schema.Schema.has_item.Goals as goal

@@ -1,8 +1,8 @@
 use Rattle.std.proofs.Common.{◌<◌, sym, subst}
 use Rattle.p21_express.specs.Schema.{Schema}
+use Rattle.p21_graph.specs.RangeLaws.{↔_through}
 use Rattle.p21_schema.specs.Tables.{schema_of}
 use Rattle.p21_schema.specs.Place.{IsEntityOf, IsTypeOf}
-use Rattle.p21_schema.proofs.RangeLemmas.{↔_through}
 use Rattle.p21_schema.proofs.schema.Schema.select_admits.Goals as goal
 
 pub has-requires-clause-select : goal.has-requires-clause-select
@@ -10,6 +10,9 @@ has-requires-clause-select c = subst (λ u. c.args.select.index < u) (sym c.self
 
 pub has-requires-clause-item : goal.has-requires-clause-item
 has-requires-clause-item c = subst (λ u. c.args.entity.index < u) (sym c.self.invariant.selects.admitted.places) (subst (λ (u : Schema). IsEntityOf u c.args.entity) (sym c.self.view_is) c.requires.entity)
+
+pub has-requires-clause-ordered : goal.has-requires-clause-ordered
+has-requires-clause-ordered c = c.self.invariant.selects.admitted.ordered
 
 pub returns : goal.returns
 returns c =

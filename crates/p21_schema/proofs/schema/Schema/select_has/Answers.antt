@@ -15,6 +15,9 @@ has-requires-clause-item c =
     let k = c.in_ok-index.index in
     subst (λ u. k < u) (sym c.self.invariant.selects.types.places) (placed s c.self.inside.type_names k c.args.name.now c.self.invariant.types c.in_ok-index.ensures).0
 
+pub has-requires-clause-ordered : goal.has-requires-clause-ordered
+has-requires-clause-ordered c = c.self.invariant.selects.types.ordered
+
 pub returns-then-has : goal.returns-then-has
 returns-then-has c =
     let s = schema_of c.self.inside in

@@ -1,0 +1,9 @@
+pub mod Members
+pub mod MemberLaws
+pub mod Graph
+pub mod GraphLaws
+pub mod Ranges
+pub mod RangeLaws
+pub mod Reach
+pub mod Stretches
+pub mod Sources

@@ -1,0 +1,185 @@
+//! Sets of places as ranges.
+
+ghost use Rattle.std.specs.Prelude.{◌≡◌, ◌<◌, ◌≤◌, ◌-◌, ◌^◌, ◌↔◌, ◌⊎◌, ℕ, [], length, get_or, IfOk, OnOk, IfSome, IfNone, IsTrue};
+ghost use Rattle.std.specs.List.Sorted.{IsPartitionPoint};
+ghost use Rattle.p21_graph.specs.Members.{IsIn};
+ghost use Rattle.p21_graph.specs.Graph.{rows_of};
+ghost use Rattle.p21_graph.specs.Ranges.{IsInRange, Covers, SomeCovers, AreUpward, AreAscending, BeginBy, AreInOrder, AreRowsInOrder};
+
+use std::alloc::{AllocError, Global};
+
+/// The places from one on, up to another.
+#[derive(Clone, Copy, Debug, PartialEq, Eq, PartialOrd, Ord)]
+pub struct Range {
+    pub from: usize,
+    pub to: usize,
+}
+
+/// Whether a place lies in the range.
+fn holds(range: Range, place: usize) -> bool
+    ensures { IsTrue result ↔ IsInRange range place }
+{
+    range.from <= place && place < range.to
+}
+
+/// How many of the ranges begin at the place or before it.
+fn begun(ranges: &[Range], place: usize) -> usize
+    requires { AreInOrder ranges.now }
+    ensures within { result ≤ length ranges.now }
+    ensures begun { IsPartitionPoint (λ (r : Range). r.from ≤ place) (λ (r : Range). place < r.from) ranges.now result }
+{
+    ranges.partition_point(|range| range.from <= place)
+}
+
+/// Whether a place lies in one of the ranges: only the last that begins at the place or before it can hold it.
+pub fn covers(ranges: &[Range], place: usize) -> bool
+    requires { AreInOrder ranges.now }
+    ensures { IsTrue result ↔ Covers ranges.now place }
+{
+    let begun = begun(ranges, place);
+    begun > 0 && holds(ranges[begun - 1], place)
+}
+
+/// The range of both, where the second begins in the first or right behind it.
+fn united(first: Range, second: Range) -> Option<Range>
+    ensures places { IfSome result (λ r. (k : ℕ) → IsInRange r k ↔ (IsInRange first k ⊎ IsInRange second k)) }
+    ensures from { IfSome result (λ r. r.from ≡ first.from) }
+    ensures to { IfSome result (λ r. first.to ≤ r.to) }
+    ensures apart { IfNone result (first.from ≤ second.from → first.to < second.from) }
+{
+    if first.from <= second.from && second.from <= first.to {
+        let to = if first.to < second.to {
+            second.to
+        } else {
+            first.to
+        };
+        Some(Range {
+            from: first.from,
+            to,
+        })
+    } else {
+        None
+    }
+}
+
+/// One range more, which begins behind where the others begin, united with the last where they meet.
+fn add(ranges: &mut Vec<Range>, range: Range) -> Result<(), AllocError>
+    requires order { AreInOrder ranges.old.items }
+    requires upward { range.from ≤ range.to }
+    requires begin { BeginBy ranges.old.items range.from }
+    ensures places { OnOk result ((k : ℕ) → Covers ranges.new.items k ↔ (Covers ranges.old.items k ⊎ IsInRange range k)) }
+    ensures order { OnOk result (AreInOrder ranges.new.items) }
+    ensures begin { OnOk result (BeginBy ranges.new.items range.from) }
+{
+    let Some(last) = ranges.pop() else {
+        ranges.push(range)?;
+        return Ok(());
+    };
+    match united(last, range) {
+        Some(both) => ranges.push(both)?,
+        None => {
+            ranges.push(last)?;
+            ranges.push(range)?;
+        }
+    }
+    Ok(())
+}
+
+/// The same places by fewer ranges, where neighboring ones meet.
+fn joined(alloc: Global, ranges: &[Range]) -> Result<Vec<Range>, AllocError>
+    requires upward { AreUpward ranges.now }
+    requires ascending { AreAscending ranges.now }
+    ensures places { IfOk result (λ all. (k : ℕ) → Covers all.items k ↔ Covers ranges.now k) }
+    ensures order { IfOk result (λ all. AreInOrder all.items) }
+{
+    let mut all = Vec::new(alloc);
+    for range in ranges {
+        add(&mut all, *range)?;
+    }
+    Ok(all)
+}
+
+/// The place alone.
+pub fn alone(alloc: Global, place: usize) -> Result<Vec<Range>, AllocError>
+    requires { place < 2 ^ 64 - 1 }
+    ensures places { IfOk result (λ row. (k : ℕ) → Covers row.items k ↔ (k ≡ place)) }
+    ensures order { IfOk result (λ row. AreInOrder row.items) }
+{
+    let mut row = Vec::new(alloc);
+    row.push(Range {
+        from: place,
+        to: place + 1,
+    })?;
+    Ok(row)
+}
+
+/// The places of the rows of some vertices behind others, one range behind the other.
+fn gather(
+    all: &mut Vec<Range>,
+    vertices: &[usize],
+    rows: &Vec<Vec<Range>>,
+) -> Result<(), AllocError>
+    requires vertices { (v : ℕ) → IsIn vertices.now v → v < length (rows_of rows.now) }
+    requires rows { AreRowsInOrder (rows_of rows.now) }
+    requires upward { AreUpward all.old.items }
+    ensures places { OnOk result ((k : ℕ) → Covers all.new.items k ↔ (Covers all.old.items k ⊎ SomeCovers (rows_of rows.now) vertices.now k)) }
+    ensures upward { OnOk result (AreUpward all.new.items) }
+{
+    for vertex in vertices {
+        all.extend_from_slice(&rows[*vertex])?;
+    }
+    Ok(())
+}
+
+/// The row of a vertex: its place, and the places of the rows of its neighbors.
+pub fn row(
+    alloc: Global,
+    place: usize,
+    neighbors: &[usize],
+    rows: &Vec<Vec<Range>>,
+) -> Result<Vec<Range>, AllocError>
+    requires place { place < 2 ^ 64 - 1 }
+    requires neighbors { (v : ℕ) → IsIn neighbors.now v → v < length (rows_of rows.now) }
+    requires rows { AreRowsInOrder (rows_of rows.now) }
+    ensures places { IfOk result (λ row. (k : ℕ) → Covers row.items k ↔ ((k ≡ place) ⊎ SomeCovers (rows_of rows.now) neighbors.now k)) }
+    ensures order { IfOk result (λ row. AreInOrder row.items) }
+{
+    let mut all = alone(alloc, place)?;
+    gather(&mut all, neighbors, rows)?;
+    all.sort_unstable();
+    joined(alloc, &all)
+}
+
+/// The places of the rows of some vertices, and of others by another table.
+pub fn both(
+    alloc: Global,
+    vertices: &[usize],
+    rows: &Vec<Vec<Range>>,
+    others: &[usize],
+    other_rows: &Vec<Vec<Range>>,
+) -> Result<Vec<Range>, AllocError>
+    requires vertices { (v : ℕ) → IsIn vertices.now v → v < length (rows_of rows.now) }
+    requires others { (v : ℕ) → IsIn others.now v → v < length (rows_of other_rows.now) }
+    requires rows { AreRowsInOrder (rows_of rows.now) }
+    requires other_rows { AreRowsInOrder (rows_of other_rows.now) }
+    ensures places { IfOk result (λ row. (k : ℕ) → Covers row.items k ↔ (SomeCovers (rows_of rows.now) vertices.now k ⊎ SomeCovers (rows_of other_rows.now) others.now k)) }
+    ensures order { IfOk result (λ row. AreInOrder row.items) }
+{
+    let mut all = Vec::new(alloc);
+    gather(&mut all, vertices, rows)?;
+    gather(&mut all, others, other_rows)?;
+    all.sort_unstable();
+    joined(alloc, &all)
+}
+
+/// Whether some place lies in one of the ranges.
+pub fn covers_some(ranges: &[Range]) -> bool
+    ensures { IsTrue result ↔ ((k : ℕ) × Covers ranges.now k) }
+{
+    for range in ranges {
+        if range.from < range.to {
+            return true;
+        }
+    }
+    false
+}
