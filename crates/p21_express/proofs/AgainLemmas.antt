@@ -6,7 +6,8 @@ use Rattle.std.proofs.lemmas.List.{map-append, take-append-drop}
 use Rattle.std.proofs.lemmas.Option.{slice_get-get_or}
 use Rattle.p21_express.specs.declared.declarations.AttrDecl.{AttrDecl}
 use Rattle.p21_express.specs.declared.declarations.DeriveDecl.{DeriveDecl}
-use Rattle.std.specs.Option.{option_to_list}
+use Rattle.std.specs.Option.{option_to_list, is_some}
+use Rattle.std.specs.Prelude.{option_map}
 use Rattle.p21_express.specs.Again.{IsDerivedAt}
 use Rattle.p21_express.specs.Plain.{plain_attribute, plain_derived}
 use Rattle.p21_express.specs.Schema.{Schema, Entity, Attribute, Derived}
@@ -49,6 +50,14 @@ again_derived_of xs = again_derived (map plain_derived xs)
 
 pub again_derived_of_joins : (xs ys : List DeriveDecl) → again_derived_of (xs ++ ys) ≡ again_derived_of xs ++ again_derived_of ys
 again_derived_of_joins xs ys = ap again_derived (map-append plain_derived xs ys) ∙ again_derived_joins (map plain_derived xs) (map plain_derived ys)
+
+-- what declares nothing again
+pub none_again : {X : Type 0} (f : X → List ℕ) (o : Option X) (b : Bool) (n : List ℕ) (explicit : Bool) → b ≡ is_some o → b ≡ false → with_again (option_map f o) n explicit [] ≡ []
+none_again f None b n explicit e h = refl
+none_again f (Some x) b n explicit e h = absurd cc
+
+pub nothing_step : {X Z : Type 0} (F : List X → List Z) (joins : (xs ys : List X) → F (xs ++ ys) ≡ F xs ++ F ys) (xs : List X) (i : ℕ) (x : X) → i < length xs → x ≡ get_or xs i x → F (take i xs) ≡ [] → F (x ∷ []) ≡ [] → F (take (i + 1) xs) ≡ []
+nothing_step {X} {Z} F joins xs i x lt is before this = one_step F joins xs i x lt is ∙ ap (λ (zs : List Z). zs ++ F (x ∷ [])) before ∙ this
 
 with_new_front : (o : Option (List ℕ)) (n : List ℕ) (ns : List (List ℕ)) → with_new o n ns ≡ with_new o n [] ++ ns
 with_new_front None n ns = refl

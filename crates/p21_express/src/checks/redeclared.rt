@@ -1,6 +1,6 @@
 //! Attributes that are declared again.
 
-ghost use Rattle.std.specs.Prelude.{◌≡◌, ◌<◌, ℕ, List, [], ◌∷◌, ◌++◌, Some, slice_get, length, IfOk, OnOk, MatchOption, MatchResult, true, map, option_map};
+ghost use Rattle.std.specs.Prelude.{◌≡◌, ◌<◌, ℕ, List, [], ◌∷◌, ◌++◌, Some, slice_get, length, IfOk, IsFalse, OnOk, MatchOption, MatchResult, true, map, option_map};
 ghost use Rattle.std.specs.Option.{option_to_list};
 ghost use Rattle.std.specs.Bool.{MatchBool};
 ghost use Rattle.std.specs.List.{AllByRecursion, AllZip};
@@ -182,6 +182,35 @@ fn all_again<'d>(
     Ok(all)
 }
 
+/// Whether an entity declares an attribute again.
+fn declares_again(entity: &EntityDecl) -> bool
+    ensures { IsFalse result → redeclarations (plain_entity entity.now) ≡ [] }
+{
+    for attribute in &entity.attributes {
+        if attribute.of.is_some() {
+            return true;
+        }
+    }
+    for derived in &entity.derived {
+        if derived.of.is_some() {
+            return true;
+        }
+    }
+    false
+}
+
+/// Whether some entity declares an attribute again.
+fn any_declares_again(declarations: &Declarations) -> bool
+    ensures { let s = plain_schema declarations.now in IsFalse result → AllByRecursion (IsRedeclaring s) s.entities }
+{
+    for entity in &declarations.entities {
+        if declares_again(entity) {
+            return true;
+        }
+    }
+    false
+}
+
 /// The attributes that were declared again, each by the position of the entity that newly declares it and by its name.
 type Origins<'d> = BTreeMap<(usize, &'d [u8]), bool>;
 
@@ -236,6 +265,9 @@ pub(super) fn check(alloc: Global, checked: Checked, index: &Index) -> Result<()
     ensures { let s = plain_schema checked.entry.declarations.now in MatchResult result (λ _. AllByRecursion (IsRedeclaring s) s.entities) (λ e. OnUnfit e (Only BadRedeclaration (¬ (AllByRecursion (IsRedeclaring s) s.entities)))) }
 {
     let declarations = checked.declarations;
+    if !any_declares_again(declarations) {
+        return Ok(());
+    }
     let supertypes = supertypes(alloc, checked, index)?;
     let known = Known {
         declarations,
