@@ -32,3 +32,4 @@ pub mod AncestryLemmas
 pub mod NewNameLemmas
 pub mod RedeclarationLemmas
 pub mod WellFormedLemmas
+pub mod Crossing

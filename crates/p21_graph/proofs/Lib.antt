@@ -1,8 +1,12 @@
 pub mod GraphLemmas
 pub mod WalkLemmas
 pub mod RangeLemmas
+pub mod SetLemmas
+pub mod UnionLemmas
+pub mod RangeSetLemmas
+pub mod RowLemmas
 pub mod OrderLemmas
 pub mod WithinLemmas
 pub mod ReachLemmas
-pub mod StretchLemmas
+pub mod LineLemmas
 pub mod SourceLemmas

@@ -1,15 +1,15 @@
 -- Ranges in order.
-use Rattle.std.proofs.Common.{◌≡◌, ℕ, ◌+◌, ◌-◌, ◌<◌, ◌≤◌, false, List, [], ◌∷◌, ◌++◌, length, get_or, set, sym, ap, ◌∙◌, subst, inl, ⊎_elim, refl, arith, length-append}
+use Rattle.std.proofs.Common.{◌≡◌, ℕ, ◌+◌, ◌-◌, ◌<◌, ◌≤◌, false, List, [], ◌∷◌, ◌++◌, length, get_or, sym, ap, ◌∙◌, subst, inl, ⊎_elim, refl, arith, length-append}
 use Rattle.std.proofs.lemmas.Bool.{cases_eq, cases_lt}
 use Rattle.std.proofs.lemmas.List.Sorted.{IsPermutation-sym, IsNonDecreasingBy-from_sort}
-use Rattle.std.proofs.lemmas.List.{get_or_append_left, get_or_push, get_or-set_same, get_or-set_other, get_or_past, get_or_default}
+use Rattle.std.proofs.lemmas.List.{get_or_append_left, get_or_push, get_or_default}
 use Rattle.std.specs.List.Sorted.{IsPermutation, IsPartitionPoint, IsSorted}
 use Rattle.std.specs.declared.cmp.Ordering.{Ordering}
 use Rattle.std.specs.declared.cmp.Ordering.TheVariants.{Less, Equal, Greater}
 use Rattle.std.specs.Ordering.{is_lt, ordering_then, nat_cmp}
 use Rattle.p21_graph.specs.Members.{IsIn}
 use Rattle.p21_graph.specs.declared.ranges.Range.{Range}
-use Rattle.p21_graph.specs.Ranges.{IsInRange, Covers, AreUpward, AreAscending, BeginBy, AreInOrder, AreRowsInOrder}
+use Rattle.p21_graph.specs.Ranges.{IsInRange, Covers, AreUpward, AreAscending, BeginBy, AreInOrder}
 use Rattle.p21_graph.specs.MemberLaws.{in_left, in_right, in_either, place_of, at_place, in_permuted}
 
 pub in_order_none : AreInOrder []
@@ -53,24 +53,6 @@ in_order_last rest r o x i =
     let long : length (rest ++ r ∷ []) ≡ length rest + 1 = length-append rest (r ∷ []) in
     let h = o.apart p.0 (length rest) r front (omega arith) in
     rw (get_or_append_left rest (r ∷ []) r p.0 front, get_or_push rest r r (length rest) refl, p.1.1 r) at h
-
--- tables of which each row is in order
-pub rows_in_order_push : (table : List (List Range)) (row : List Range) → AreRowsInOrder table → AreInOrder row → AreRowsInOrder (table ++ row ∷ [])
-rows_in_order_push table row rows o v =
-    ⊎_elim
-    (λ (e : v ≡ length table). rw (e, get_or_push table row [] (length table) refl) o)
-    (λ (ne : (v ≡ length table) → ⊥). ⊎_elim
-    (λ (l : v < length table). rw (get_or_append_left table (row ∷ []) [] v l) (rows v))
-    (λ (g : length table ≤ v). let long : length (table ++ row ∷ []) ≡ length table + 1 = length-append table (row ∷ []) in rw (get_or_past (table ++ row ∷ []) v [] (omega arith)) in_order_none)
-    (cases_lt v (length table)))
-    (cases_eq v (length table))
-
-pub rows_in_order_set : (table : List (List Range)) (k : ℕ) (row : List Range) → k < length table → AreRowsInOrder table → AreInOrder row → AreRowsInOrder (set table k row)
-rows_in_order_set table k row below rows o v =
-    ⊎_elim
-    (λ (e : v ≡ k). rw (e, get_or-set_same table k row [] below) o)
-    (λ (ne : (v ≡ k) → ⊥). rw (get_or-set_other table k v row [] ne) (rows v))
-    (cases_eq v k)
 
 pub ascending_in_order : (ranges : List Range) → AreInOrder ranges → AreAscending ranges
 ascending_in_order ranges o i j d le within =

@@ -1,4 +1,4 @@
--- Sets of places as ranges.
+-- Places by ranges.
 use Rattle.std.proofs.Common.{◌≡◌, ℕ, ◌+◌, ◌<◌, ◌≤◌, ◌↔◌, List, [], ◌∷◌, ◌++◌, ◌⊎◌, length, get_or, take, sym, ap, ◌∙◌, subst, inl, inr, ⊎_elim, arith}
 use Rattle.std.specs.List.Sorted.{IsPermutation}
 use Rattle.std.proofs.lemmas.List.Sorted.{IsPermutation-sym}
@@ -6,7 +6,7 @@ use Rattle.std.proofs.lemmas.List.{take_more}
 use Rattle.p21_graph.specs.Members.{IsIn}
 use Rattle.p21_graph.specs.declared.ranges.Range.{Range}
 use Rattle.p21_graph.specs.Ranges.{IsInRange, Covers, SomeCovers}
-use Rattle.p21_graph.specs.RangeLaws.{↔_through, covers_one}
+use Rattle.p21_graph.specs.RangeLaws.{covers_one}
 use Rattle.p21_graph.specs.MemberLaws.{in_permuted, at_place, in_left, in_right, in_either, front_more, front_in, last_in}
 
 pub ↔_back : {A B : Type 0} → A ↔ B → B ↔ A
@@ -32,10 +32,6 @@ covers_place place k =
       λ e. o.1 (omega arith, omega arith),
     )
 
--- one of two unions
-pub covers_both : {A B C D : Type 0} → A ↔ (B ⊎ D) → B ↔ C → A ↔ (C ⊎ D)
-covers_both f g = ↔_through f (↔_left g)
-
 -- ranges without any hold no place
 pub covers_none : (k : ℕ) (D : Type 0) → (Covers [] k ⊎ D) ↔ D
 covers_none k D = (λ s. ⊎_elim (λ (c : Covers [] k). absurd c.1.0) (λ (d : D). d) s, λ d. inr d)
@@ -49,21 +45,20 @@ covers_push xs r k =
     )
 
 -- the rows of the vertices up to one more
-pub some_covers_more : (D : Type 0) (table : List (List Range)) (all new row : List Range) (vs : List ℕ) (i k : ℕ) → i < length vs → get_or table (get_or vs i 0) [] ≡ row → new ≡ all ++ row → (Covers all k ↔ (D ⊎ SomeCovers table (take i vs) k)) → Covers new k ↔ (D ⊎ SomeCovers table (take (i + 1) vs) k)
-some_covers_more D table all new row vs i k less is e h =
-    let v = get_or vs i 0 in
-    let a = covers_append all row k in (
+pub some_covers_more : (A B D : Type 0) (table : List (List Range)) (row : List Range) (vs : List ℕ) (i k : ℕ) → i < length vs → get_or table (get_or vs i 0) [] ≡ row → (B ↔ (A ⊎ Covers row k)) → (A ↔ (D ⊎ SomeCovers table (take i vs) k)) → B ↔ (D ⊎ SomeCovers table (take (i + 1) vs) k)
+some_covers_more A B D table row vs i k less is a h =
+    let v = get_or vs i 0 in (
       λ c. ⊎_elim
-          (λ (l : Covers all k). ⊎_elim (λ (d : D). inl d) (λ (s : SomeCovers table (take i vs) k). inr (s.0, (front_in vs i 0 s.0 less s.1.0, s.1.1))) (h.0 l))
+          (λ (l : A). ⊎_elim (λ (d : D). inl d) (λ (s : SomeCovers table (take i vs) k). inr (s.0, (front_in vs i 0 s.0 less s.1.0, s.1.1))) (h.0 l))
           (λ (r : Covers row k). inr (v, (last_in vs i 0 less, subst (λ u. Covers u k) (sym is) r)))
-          (a.0 (subst (λ u. Covers u k) e c)),
-      λ s. subst (λ u. Covers u k) (sym e) (⊎_elim
+          (a.0 c),
+      λ s. ⊎_elim
           (λ (d : D). a.1 (inl (h.1 (inl d))))
           (λ (s : SomeCovers table (take (i + 1) vs) k). ⊎_elim
           (λ (f : IsIn (take i vs) s.0). a.1 (inl (h.1 (inr (s.0, (f, s.1.1))))))
           (λ (l : v ≡ s.0). a.1 (inr (subst (λ u. Covers u k) is (subst (λ u. Covers (get_or table u []) k) (sym l) s.1.1))))
           (front_more vs i 0 s.0 less s.1.0))
-          s),
+          s,
     )
 
 pub covers_united : (rest old new : List Range) (last range both : Range) → old ≡ rest ++ last ∷ [] → new ≡ rest ++ both ∷ [] → ((k : ℕ) → IsInRange both k ↔ (IsInRange last k ⊎ IsInRange range k)) → (k : ℕ) → Covers new k ↔ (Covers old k ⊎ IsInRange range k)

@@ -1,7 +1,5 @@
 -- What a vertex reaches, row by row.
-use Rattle.std.proofs.Common.{◌≡◌, ℕ, ◌+◌, ◌<◌, ◌↔◌, List, [], ◌∷◌, ◌++◌, ◌⊎◌, arith, length, get_or, inl, inr, ⊎_elim}
-use Rattle.std.proofs.lemmas.Bool.{cases_eq}
-use Rattle.std.proofs.lemmas.List.{get_or_append_left, get_or_push}
+use Rattle.std.proofs.Common.{ℕ, ◌↔◌, List, [], ◌⊎◌, get_or, inl, inr, ⊎_elim}
 use Rattle.p21_graph.specs.declared.ranges.Range.{Range}
 use Rattle.p21_graph.specs.Graph.{HasEdge, Reaches, here, through}
 use Rattle.p21_graph.specs.Ranges.{Covers, SomeCovers}
@@ -21,11 +19,3 @@ reach_row_is direct graph firsts v table row rows h k = (
     back : (x : ℕ) → Reaches direct graph v x → Covers (get_or firsts x []) k → Covers row k
     back x (here d) c = (h k).1 (inl (x, (d, c)))
     back x (through {b = w} e r) c = (h k).1 (inr (w, (e, (rows w e k).1 (x, (r, c)))))
-
--- rows of which each holds one place alone, and one more
-pub alone_more : (at : ℕ → ℕ) (rows : List (List Range)) (row : List Range) (n : ℕ) → length rows ≡ n → ((v k : ℕ) → v < n → Covers (get_or rows v []) k ↔ (k ≡ at v)) → ((k : ℕ) → Covers row k ↔ (k ≡ at n)) → (v k : ℕ) → v < n + 1 → Covers (get_or (rows ++ row ∷ []) v []) k ↔ (k ≡ at v)
-alone_more at rows row n long before this v k l =
-    ⊎_elim
-    (λ (e : v ≡ n). rw (e, get_or_push rows row [] n long) (this k))
-    (λ (ne : (v ≡ n) → ⊥). let less : v < n = omega arith in rw (get_or_append_left rows (row ∷ []) [] v (omega arith)) (before v k less))
-    (cases_eq v n)

@@ -3,8 +3,8 @@ use Rattle.std.proofs.Common.{◌≡◌, ℕ, ◌+◌, ◌<◌, List, [], ◌∷
 use Rattle.std.specs.Prelude.{Option, None, Some, MatchOption}
 use Rattle.p21_graph.specs.declared.reach.Reach.{Reach}
 use Rattle.p21_graph.specs.Members.{IsIn}
-use Rattle.p21_graph.specs.Graph.{rows_of}
-use Rattle.p21_graph.specs.Stretches.{IsHeldAlone}
+use Rattle.p21_graph.specs.Rows.{table_of}
+use Rattle.p21_graph.specs.Lines.{IsHeldAlone}
 use Rattle.p21_graph.specs.Sources.{IsSole, AreVertices, AreAsked}
 use Rattle.p21_graph.specs.MemberLaws.{front_more, in_either}
 
@@ -15,14 +15,14 @@ front_each P xs i d less before this x h = ⊎_elim (λ (l : IsIn (take i xs) x)
 pub vertices_push : (graph : List (List ℕ)) (vs : List ℕ) (v : ℕ) → AreVertices graph vs → v < length graph → AreVertices graph (vs ++ v ∷ [])
 vertices_push graph vs v below less u i = ⊎_elim (λ (l : IsIn vs u). below u l) (λ (r : IsIn (v ∷ []) u). ⊎_elim (λ (e : v ≡ u). subst (λ x. x < length graph) e less) (λ (n : ⊥). absurd n) r) (in_either vs (v ∷ []) u i)
 
-pub sole_alone : (graph : List (List ℕ)) (reach : Reach) (vs : List ℕ) (w v : ℕ) → AreAsked graph reach vs w → IsHeldAlone (rows_of reach.rows) vs (get_or reach.places.items w 0) v → IsSole graph vs w v
+pub sole_alone : (graph : List (List ℕ)) (reach : Reach) (vs : List ℕ) (w v : ℕ) → AreAsked graph reach vs w → IsHeldAlone (table_of reach.rows) vs (get_or reach.places.items w 0) v → IsSole graph vs w v
 sole_alone graph reach vs w v asked h = record {
   among = h.among;
   reaches = (asked.is.within v w (asked.below v h.among) asked.to).0 h.covers;
   only = λ u i r. h.only u i ((asked.is.within u w (asked.below u i) asked.to).1 r);
 }
 
-pub alone_sole : (graph : List (List ℕ)) (reach : Reach) (vs : List ℕ) (w v : ℕ) → AreAsked graph reach vs w → IsSole graph vs w v → IsHeldAlone (rows_of reach.rows) vs (get_or reach.places.items w 0) v
+pub alone_sole : (graph : List (List ℕ)) (reach : Reach) (vs : List ℕ) (w v : ℕ) → AreAsked graph reach vs w → IsSole graph vs w v → IsHeldAlone (table_of reach.rows) vs (get_or reach.places.items w 0) v
 alone_sole graph reach vs w v asked h = record {
   among = h.among;
   covers = (asked.is.within v w (asked.below v h.among) asked.to).1 h.reaches;
@@ -35,6 +35,6 @@ answer_same None P Q to back h = λ x q. h x (back x q)
 answer_same (Some x) P Q to back h = to x h
 
 pub sole_answer : (graph : List (List ℕ)) (reach : Reach) (vs : List ℕ) (w : ℕ) (o : Option ℕ) → AreAsked graph reach vs w
-    → MatchOption o ((v : ℕ) → ¬ (IsHeldAlone (rows_of reach.rows) vs (get_or reach.places.items w 0) v)) (λ v. IsHeldAlone (rows_of reach.rows) vs (get_or reach.places.items w 0) v)
+    → MatchOption o ((v : ℕ) → ¬ (IsHeldAlone (table_of reach.rows) vs (get_or reach.places.items w 0) v)) (λ v. IsHeldAlone (table_of reach.rows) vs (get_or reach.places.items w 0) v)
     → MatchOption o ((v : ℕ) → ¬ (IsSole graph vs w v)) (λ v. IsSole graph vs w v)
-sole_answer graph reach vs w o asked h = answer_same o (λ v. IsHeldAlone (rows_of reach.rows) vs (get_or reach.places.items w 0) v) (λ v. IsSole graph vs w v) (λ v. sole_alone graph reach vs w v asked) (λ v. alone_sole graph reach vs w v asked) h
+sole_answer graph reach vs w o asked h = answer_same o (λ v. IsHeldAlone (table_of reach.rows) vs (get_or reach.places.items w 0) v) (λ v. IsSole graph vs w v) (λ v. sole_alone graph reach vs w v asked) (λ v. alone_sole graph reach vs w v asked) h

@@ -4,6 +4,8 @@ pub mod Graph
 pub mod GraphLaws
 pub mod Ranges
 pub mod RangeLaws
+pub mod Sets
+pub mod Rows
 pub mod Reach
-pub mod Stretches
+pub mod Lines
 pub mod Sources

@@ -1,4 +1,4 @@
--- What follows from the definitions of sets of places.
+-- What follows from the definitions of ranges of places.
 use Rattle.std.proofs.Common.{◌≡◌, ℕ, ◌↔◌, [], ◌∷◌, refl, sym, subst, inl, ⊎_elim}
 use Rattle.p21_graph.specs.declared.ranges.Range.{Range}
 use Rattle.p21_graph.specs.Ranges.{IsInRange, Covers}

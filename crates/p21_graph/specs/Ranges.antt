@@ -1,4 +1,4 @@
--- Sets of places as ranges.
+-- Places by ranges.
 use Rattle.std.specs.Prelude.{◌<◌, ◌≤◌, ℕ, List, [], length, get_or}
 use Rattle.std.specs.List.Sorted.{IsNonDecreasingBy}
 use Rattle.p21_graph.specs.Members.{IsIn}
@@ -27,11 +27,11 @@ AreAscending rs = IsNonDecreasingBy (λ r. r.from) rs
 abbrev pub BeginBy : List Range → ℕ → Type 0
 BeginBy rs place = (r : Range) → IsIn rs r → r.from ≤ place
 
+-- each range ends at the place or before it
+abbrev pub EndBy : List Range → ℕ → Type 0
+EndBy rs place = (r : Range) → IsIn rs r → r.to ≤ place
+
 -- each range begins no later than it ends, and ends before those behind it begin
 pub record AreInOrder (ranges : List Range) : Type 0 where
   pub upward : AreUpward ranges
   pub apart : (i j : ℕ) (d : Range) → i < j → j < length ranges → (get_or ranges i d).to < (get_or ranges j d).from
-
--- each row of the table is in order
-abbrev pub AreRowsInOrder : List (List Range) → Type 0
-AreRowsInOrder table = (v : ℕ) → AreInOrder (get_or table v [])

@@ -1,9 +1,10 @@
--- What the vertices of a graph reach, by ranges of places in an order.
+-- What the vertices of a graph reach, by rows of places in an order.
 use Rattle.std.specs.Prelude.{◌≡◌, ◌<◌, ◌↔◌, ℕ, List, [], length, get_or}
 use Rattle.p21_graph.specs.declared.ranges.Range.{Range}
 use Rattle.p21_graph.specs.declared.reach.Reach.{Reach}
-use Rattle.p21_graph.specs.Graph.{HasEdge, Reaches, rows_of}
-use Rattle.p21_graph.specs.Ranges.{Covers, AreRowsInOrder}
+use Rattle.p21_graph.specs.Graph.{HasEdge, Reaches}
+use Rattle.p21_graph.specs.Ranges.{Covers}
+use Rattle.p21_graph.specs.Rows.{table_of, AreRows}
 
 -- the same vertices, and each edge turned round
 pub record IsTurned (graph turned : List (List ℕ)) : Type 0 where
@@ -23,7 +24,6 @@ IsReachRow direct graph firsts v row = (k : ℕ) → Covers row k ↔ ((x : ℕ)
 pub record IsReachTable (direct graph : List (List ℕ)) (firsts table : List (List Range)) : Type 0 where
   pub count : length table ≡ length graph
   pub rows : (v : ℕ) → v < length graph → IsReachRow direct graph firsts v (get_or table v [])
-  pub ordered : AreRowsInOrder table
 
 -- each vertex of the order with its place there
 abbrev pub ArePlaces : List ℕ → List ℕ → Type 0
@@ -33,15 +33,16 @@ ArePlaces order places = (k : ℕ) → k < length order → get_or places (get_o
 abbrev pub IsPlaceRow : List (List ℕ) → List ℕ → ℕ → List Range → Type 0
 IsPlaceRow graph order v row = (k : ℕ) → k < length order → Covers row k ↔ IsWithin graph v (get_or order k 0)
 
+-- for each vertex its place, and a row of the places of what it reaches
 pub record IsReach (graph : List (List ℕ)) (reach : Reach) : Type 0 where
   pub places : length reach.places.items ≡ length graph
-  pub count : length (rows_of reach.rows) ≡ length graph
-  pub within : (a b : ℕ) → a < length graph → b < length graph → Covers (get_or (rows_of reach.rows) a []) (get_or reach.places.items b 0) ↔ IsWithin graph a b
-  pub ordered : AreRowsInOrder (rows_of reach.rows)
+  pub count : length (table_of reach.rows) ≡ length graph
+  pub within : (a b : ℕ) → a < length graph → b < length graph → Covers (get_or (table_of reach.rows) a []) (get_or reach.places.items b 0) ↔ IsWithin graph a b
+  pub rows : AreRows reach.rows
 
 -- so many vertices, of which each reaches itself alone
 pub record IsEachAlone (size : ℕ) (reach : Reach) : Type 0 where
   pub places : length reach.places.items ≡ size
-  pub count : length (rows_of reach.rows) ≡ size
-  pub alone : (a b : ℕ) → a < size → b < size → Covers (get_or (rows_of reach.rows) a []) (get_or reach.places.items b 0) ↔ (b ≡ a)
-  pub ordered : AreRowsInOrder (rows_of reach.rows)
+  pub count : length (table_of reach.rows) ≡ size
+  pub alone : (a b : ℕ) → a < size → b < size → Covers (get_or (table_of reach.rows) a []) (get_or reach.places.items b 0) ↔ (b ≡ a)
+  pub rows : AreRows reach.rows

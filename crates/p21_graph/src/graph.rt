@@ -23,7 +23,7 @@ fn unmarked(alloc: Global, count: usize) -> Result<Vec<bool>, AllocError>
 }
 
 /// As many zeros.
-pub fn zeros(alloc: Global, count: usize) -> Result<Vec<usize>, AllocError>
+pub(crate) fn zeros(alloc: Global, count: usize) -> Result<Vec<usize>, AllocError>
     ensures { IfOk result (λ row. row.items ≡ replicate count 0) }
 {
     let mut row = Vec::with_capacity(alloc, count)?;
@@ -110,7 +110,11 @@ fn place(
 }
 
 /// These vertices and what they reach, each behind its neighbors. What one of them is the first to reach stands together.
-pub fn order_from(alloc: Global, graph: &Graph, starts: &[usize]) -> Result<Vec<usize>, AllocError>
+pub(crate) fn order_from(
+    alloc: Global,
+    graph: &Graph,
+    starts: &[usize],
+) -> Result<Vec<usize>, AllocError>
     requires edges { AreEdgesBelow (plain_graph graph.now) (length (plain_graph graph.now)) }
     requires cycles { HasNoCycle (HasEdge (plain_graph graph.now)) }
     requires starts { (v : ℕ) → IsIn starts.now v → v < length (plain_graph graph.now) }
@@ -136,7 +140,7 @@ pub fn order_from(alloc: Global, graph: &Graph, starts: &[usize]) -> Result<Vec<
 }
 
 /// All vertices, each behind its neighbors: first these and what they reach.
-pub fn order_beginning(
+pub(crate) fn order_beginning(
     alloc: Global,
     graph: &Graph,
     first: &[usize],

@@ -1,14 +1,17 @@
-//! Graphs: orders of their vertices, what each vertex reaches, by ranges of places in an order, and which of some vertices alone
-//! reaches another.
+//! Graphs: orders of their vertices, what each vertex reaches, by rows of places in an order, and which of some vertices alone reaches
+//! another.
 #![tactic(auto)]
 
 mod graph;
+mod lines;
 mod ranges;
 mod reach;
+mod rows;
+mod sets;
 mod sources;
-mod stretches;
 
-pub use graph::{Graph, order, order_beginning, order_from, order_from_above, zeros};
-pub use ranges::{Range, covers, covers_some};
+pub use graph::{Graph, order, order_from_above};
+pub use ranges::Range;
 pub use reach::{Reach, each_alone, places, reached, turned};
+pub use rows::Rows;
 pub use sources::Sources;

@@ -1,10 +1,9 @@
-//! Sets of places as ranges.
+//! Places by ranges.
 
 ghost use Rattle.std.specs.Prelude.{◌≡◌, ◌<◌, ◌≤◌, ◌-◌, ◌^◌, ◌↔◌, ◌⊎◌, ℕ, [], length, get_or, IfOk, OnOk, IfSome, IfNone, IsTrue};
 ghost use Rattle.std.specs.List.Sorted.{IsPartitionPoint};
 ghost use Rattle.p21_graph.specs.Members.{IsIn};
-ghost use Rattle.p21_graph.specs.Graph.{rows_of};
-ghost use Rattle.p21_graph.specs.Ranges.{IsInRange, Covers, SomeCovers, AreUpward, AreAscending, BeginBy, AreInOrder, AreRowsInOrder};
+ghost use Rattle.p21_graph.specs.Ranges.{IsInRange, Covers, AreUpward, AreAscending, BeginBy, AreInOrder};
 
 use std::alloc::{AllocError, Global};
 
@@ -32,7 +31,7 @@ fn begun(ranges: &[Range], place: usize) -> usize
 }
 
 /// Whether a place lies in one of the ranges: only the last that begins at the place or before it can hold it.
-pub fn covers(ranges: &[Range], place: usize) -> bool
+pub(crate) fn covers(ranges: &[Range], place: usize) -> bool
     requires { AreInOrder ranges.now }
     ensures { IsTrue result ↔ Covers ranges.now place }
 {
@@ -100,7 +99,7 @@ fn joined(alloc: Global, ranges: &[Range]) -> Result<Vec<Range>, AllocError>
 }
 
 /// The place alone.
-pub fn alone(alloc: Global, place: usize) -> Result<Vec<Range>, AllocError>
+pub(crate) fn alone(alloc: Global, place: usize) -> Result<Vec<Range>, AllocError>
     requires { place < 2 ^ 64 - 1 }
     ensures places { IfOk result (λ row. (k : ℕ) → Covers row.items k ↔ (k ≡ place)) }
     ensures order { IfOk result (λ row. AreInOrder row.items) }
@@ -113,67 +112,19 @@ pub fn alone(alloc: Global, place: usize) -> Result<Vec<Range>, AllocError>
     Ok(row)
 }
 
-/// The places of the rows of some vertices behind others, one range behind the other.
-fn gather(
-    all: &mut Vec<Range>,
-    vertices: &[usize],
-    rows: &Vec<Vec<Range>>,
-) -> Result<(), AllocError>
-    requires vertices { (v : ℕ) → IsIn vertices.now v → v < length (rows_of rows.now) }
-    requires rows { AreRowsInOrder (rows_of rows.now) }
-    requires upward { AreUpward all.old.items }
-    ensures places { OnOk result ((k : ℕ) → Covers all.new.items k ↔ (Covers all.old.items k ⊎ SomeCovers (rows_of rows.now) vertices.now k)) }
-    ensures upward { OnOk result (AreUpward all.new.items) }
+/// The same places by ranges in order, where neighboring ones meet in one.
+pub(crate) fn in_order(alloc: Global, ranges: Vec<Range>) -> Result<Vec<Range>, AllocError>
+    requires { AreUpward ranges.items }
+    ensures places { IfOk result (λ all. (k : ℕ) → Covers all.items k ↔ Covers ranges.items k) }
+    ensures order { IfOk result (λ all. AreInOrder all.items) }
 {
-    for vertex in vertices {
-        all.extend_from_slice(&rows[*vertex])?;
-    }
-    Ok(())
-}
-
-/// The row of a vertex: its place, and the places of the rows of its neighbors.
-pub fn row(
-    alloc: Global,
-    place: usize,
-    neighbors: &[usize],
-    rows: &Vec<Vec<Range>>,
-) -> Result<Vec<Range>, AllocError>
-    requires place { place < 2 ^ 64 - 1 }
-    requires neighbors { (v : ℕ) → IsIn neighbors.now v → v < length (rows_of rows.now) }
-    requires rows { AreRowsInOrder (rows_of rows.now) }
-    ensures places { IfOk result (λ row. (k : ℕ) → Covers row.items k ↔ ((k ≡ place) ⊎ SomeCovers (rows_of rows.now) neighbors.now k)) }
-    ensures order { IfOk result (λ row. AreInOrder row.items) }
-{
-    let mut all = alone(alloc, place)?;
-    gather(&mut all, neighbors, rows)?;
-    all.sort_unstable();
-    joined(alloc, &all)
-}
-
-/// The places of the rows of some vertices, and of others by another table.
-pub fn both(
-    alloc: Global,
-    vertices: &[usize],
-    rows: &Vec<Vec<Range>>,
-    others: &[usize],
-    other_rows: &Vec<Vec<Range>>,
-) -> Result<Vec<Range>, AllocError>
-    requires vertices { (v : ℕ) → IsIn vertices.now v → v < length (rows_of rows.now) }
-    requires others { (v : ℕ) → IsIn others.now v → v < length (rows_of other_rows.now) }
-    requires rows { AreRowsInOrder (rows_of rows.now) }
-    requires other_rows { AreRowsInOrder (rows_of other_rows.now) }
-    ensures places { IfOk result (λ row. (k : ℕ) → Covers row.items k ↔ (SomeCovers (rows_of rows.now) vertices.now k ⊎ SomeCovers (rows_of other_rows.now) others.now k)) }
-    ensures order { IfOk result (λ row. AreInOrder row.items) }
-{
-    let mut all = Vec::new(alloc);
-    gather(&mut all, vertices, rows)?;
-    gather(&mut all, others, other_rows)?;
-    all.sort_unstable();
-    joined(alloc, &all)
+    let mut ranges = ranges;
+    ranges.sort_unstable();
+    joined(alloc, &ranges)
 }
 
 /// Whether some place lies in one of the ranges.
-pub fn covers_some(ranges: &[Range]) -> bool
+pub(crate) fn covers_some(ranges: &[Range]) -> bool
     ensures { IsTrue result ↔ ((k : ℕ) × Covers ranges.now k) }
 {
     for range in ranges {

@@ -1,13 +1,14 @@
-//! What each vertex of a graph reaches, by ranges of places in an order in which what a vertex reaches mostly stands together.
+//! What each vertex of a graph reaches, by rows of places in an order in which what a vertex reaches mostly stands together.
 
-ghost use Rattle.std.specs.Prelude.{◌≡◌, ◌<◌, ◌-◌, ◌^◌, ◌++◌, ◌∷◌, ◌↔◌, ◌⊎◌, ℕ, List, [], length, get_or, set, IfOk, OnOk, IsTrue};
+ghost use Rattle.std.specs.Prelude.{◌≡◌, ◌<◌, ◌++◌, ◌∷◌, ◌↔◌, ◌⊎◌, ℕ, List, [], length, get_or, set, IfOk, OnOk, IsTrue};
 ghost use Rattle.p21_graph.specs.Members.{IsIn, AreDistinct};
-ghost use Rattle.p21_graph.specs.Graph.{plain_graph, rows_of, HasEdge, HasNoCycle, AreEdgesBelow, IsOrder};
-ghost use Rattle.p21_graph.specs.Ranges.{Covers, AreRowsInOrder};
+ghost use Rattle.p21_graph.specs.Graph.{plain_graph, HasEdge, HasNoCycle, AreEdgesBelow, IsOrder};
+ghost use Rattle.p21_graph.specs.Rows.{AreRows, table_of};
 ghost use Rattle.p21_graph.specs.Reach.{IsTurned, ArePlaces, IsPlaceRow, IsReach, IsWithin, IsEachAlone, IsReachTable};
 
 use crate::graph::{Graph, order_beginning, zeros};
-use crate::ranges::{Range, alone, both, covers, row};
+use crate::rows::Rows;
+use crate::sets::Unions;
 use std::alloc::{AllocError, Global};
 
 /// What each vertex of a graph reaches, itself among it.
@@ -16,7 +17,7 @@ pub struct Reach {
     /// The place of each vertex.
     pub places: Vec<usize>,
     /// For each vertex the places of what it reaches.
-    pub rows: Vec<Vec<Range>>,
+    pub rows: Rows,
 }
 
 /// A graph of so many vertices without edges.
@@ -80,31 +81,19 @@ pub fn places(alloc: Global, order: &[usize], count: usize) -> Result<Vec<usize>
     Ok(places)
 }
 
-/// So many rows without ranges.
-fn empty_rows(alloc: Global, count: usize) -> Result<Vec<Vec<Range>>, AllocError>
-    ensures count { IfOk result (λ rows. length (rows_of rows) ≡ count) }
-    ensures ordered { IfOk result (λ rows. AreRowsInOrder (rows_of rows)) }
-{
-    let mut rows = Vec::with_capacity(alloc, count)?;
-    for _ in 0..count {
-        rows.push(Vec::new(alloc))?;
-    }
-    Ok(rows)
-}
-
 /// For each vertex the places of what it reaches, in an order in which its neighbors stand before it.
-fn rows(alloc: Global, graph: &Graph, order: &[usize]) -> Result<Vec<Vec<Range>>, AllocError>
+fn rows(alloc: Global, graph: &Graph, order: &[usize]) -> Result<Rows, AllocError>
     requires order { IsOrder (plain_graph graph.now) order.now }
     requires distinct { AreDistinct order.now }
     requires all { (v : ℕ) → v < length (plain_graph graph.now) → IsIn order.now v }
-    ensures count { IfOk result (λ rows. length (rows_of rows) ≡ length (plain_graph graph.now)) }
-    ensures rows { IfOk result (λ rows. (v : ℕ) → v < length (plain_graph graph.now) → IsPlaceRow (plain_graph graph.now) order.now v (get_or (rows_of rows) v [])) }
-    ensures ordered { IfOk result (λ rows. AreRowsInOrder (rows_of rows)) }
+    ensures rows { IfOk result (λ rows. AreRows rows) }
+    ensures count { IfOk result (λ rows. length (table_of rows) ≡ length (plain_graph graph.now)) }
+    ensures places { IfOk result (λ rows. (v : ℕ) → v < length (plain_graph graph.now) → IsPlaceRow (plain_graph graph.now) order.now v (get_or (table_of rows) v [])) }
 {
-    let mut rows = empty_rows(alloc, graph.len())?;
+    let mut unions = Unions::new(alloc);
+    let mut rows = Rows::new(alloc, graph.len())?;
     for (place, vertex) in order.iter().enumerate() {
-        let row = row(alloc, place, &graph[*vertex], &rows)?;
-        rows[*vertex] = row;
+        rows.write(alloc, &mut unions, *vertex, place, &graph[*vertex])?;
     }
     Ok(rows)
 }
@@ -113,37 +102,31 @@ fn rows(alloc: Global, graph: &Graph, order: &[usize]) -> Result<Vec<Vec<Range>>
 pub fn reached(
     alloc: Global,
     direct: &Graph,
-    firsts: &Vec<Vec<Range>>,
+    firsts: &Rows,
     graph: &Graph,
     order: &[usize],
-) -> Result<Vec<Vec<Range>>, AllocError>
-    requires direct { AreEdgesBelow (plain_graph direct.now) (length (rows_of firsts.now)) }
+) -> Result<Rows, AllocError>
+    requires firsts { AreRows firsts.now }
+    requires direct { AreEdgesBelow (plain_graph direct.now) (length (table_of firsts.now)) }
     requires vertices { length (plain_graph direct.now) ≡ length (plain_graph graph.now) }
     requires order { IsOrder (plain_graph graph.now) order.now }
     requires all { (v : ℕ) → v < length (plain_graph graph.now) → IsIn order.now v }
-    requires ordered { AreRowsInOrder (rows_of firsts.now) }
-    ensures { IfOk result (λ table. IsReachTable (plain_graph direct.now) (plain_graph graph.now) (rows_of firsts.now) (rows_of table)) }
+    ensures rows { IfOk result (λ table. AreRows table) }
+    ensures table { IfOk result (λ table. IsReachTable (plain_graph direct.now) (plain_graph graph.now) (table_of firsts.now) (table_of table)) }
 {
-    let mut table = empty_rows(alloc, graph.len())?;
+    let mut unions = Unions::new(alloc);
+    let mut table = firsts.beside(alloc, graph.len())?;
     for vertex in order {
-        let row = both(alloc, &direct[*vertex], firsts, &graph[*vertex], &table)?;
-        table[*vertex] = row;
+        table.write_both(
+            alloc,
+            &mut unions,
+            *vertex,
+            &direct[*vertex],
+            firsts,
+            &graph[*vertex],
+        )?;
     }
     Ok(table)
-}
-
-/// Rows of which each holds one of these places alone.
-fn alone_at(alloc: Global, places: &[usize]) -> Result<Vec<Vec<Range>>, AllocError>
-    requires { (v : ℕ) → v < length places.now → get_or places.now v 0 < 2 ^ 64 - 1 }
-    ensures count { IfOk result (λ rows. length (rows_of rows) ≡ length places.now) }
-    ensures rows { IfOk result (λ rows. (v k : ℕ) → v < length places.now → Covers (get_or (rows_of rows) v []) k ↔ (k ≡ get_or places.now v 0)) }
-    ensures ordered { IfOk result (λ rows. AreRowsInOrder (rows_of rows)) }
-{
-    let mut rows = Vec::with_capacity(alloc, places.len())?;
-    for place in places {
-        rows.push(alone(alloc, *place)?)?;
-    }
-    Ok(rows)
 }
 
 /// What so many vertices without edges reach: each itself alone. These have the first places, in their order.
@@ -154,7 +137,7 @@ pub fn each_alone(alloc: Global, count: usize, first: &[usize]) -> Result<Reach,
     let graph = without_edges(alloc, count)?;
     let order = order_beginning(alloc, &graph, first)?;
     let places = places(alloc, &order, count)?;
-    let rows = alone_at(alloc, &places)?;
+    let rows = Rows::alone_at(alloc, &places)?;
     Ok(Reach { places, rows })
 }
 
@@ -177,6 +160,6 @@ impl Reach {
         requires { (g : List (List ℕ)) × (IsReach g self.now × ((from < length g) × (to < length g))) }
         ensures { (g : List (List ℕ)) → IsReach g self.now → from < length g → to < length g → IsTrue result ↔ IsWithin g from to }
     {
-        covers(&self.rows[from], self.places[to])
+        self.rows.has(from, self.places[to])
     }
 }

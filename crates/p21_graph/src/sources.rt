@@ -3,13 +3,13 @@
 ghost use Rattle.std.specs.Prelude.{◌≡◌, ◌<◌, ◌++◌, ◌∷◌, ◌↔◌, ℕ, List, [], length, IfOk, OnOk, IsTrue, MatchOption};
 ghost use Rattle.p21_graph.specs.declared.reach.Reach.{Reach};
 ghost use Rattle.p21_graph.specs.Members.{IsIn};
-ghost use Rattle.p21_graph.specs.Graph.{rows_of};
 ghost use Rattle.p21_graph.specs.Reach.{IsReach, IsWithin};
+ghost use Rattle.p21_graph.specs.Rows.{table_of, AreRows};
 ghost use Rattle.p21_graph.specs.Sources.{IsSole, AreVertices, AreSources, AreAsked};
 
-use crate::ranges::Range;
+use crate::lines::Lines;
 use crate::reach::Reach;
-use crate::stretches::{Stretch, sole_at, table};
+use crate::rows::Rows;
 use std::alloc::{AllocError, Global};
 
 /// Some vertices of a graph, of which it is asked which one alone reaches a vertex.
@@ -19,21 +19,16 @@ pub struct Sources {
     pub vertices: Vec<usize>,
     /// How many vertices were looked at since the last one was added.
     looks: usize,
-    /// How many looks cost as much as the table, or 0 where that is not known yet.
-    limit: usize,
-    /// The stretches of the rows of the vertices, once there were as many looks.
-    table: Option<Vec<Stretch>>,
+    /// The lines of the vertices, once the looks have cost as much as these.
+    table: Option<Lines>,
 }
 
-/// How many ranges the rows of some vertices have.
-fn range_count(vertices: &[usize], rows: &Vec<Vec<Range>>) -> usize
-    requires { AreVertices (rows_of rows.now) vertices.now }
-{
-    let mut count = 0usize;
-    for vertex in vertices {
-        count = count.saturating_add(rows[*vertex].len());
-    }
-    count
+/// How many looks are reckoned for the two rows that the lines have of a vertex: for each some ranges are gathered, sorted and joined.
+const LOOKS: usize = 16;
+
+/// How many looks cost about as much as the lines of so many vertices, for which the sets of the rows are copied as well.
+fn cost(count: usize, rows: &Rows) -> usize {
+    count.saturating_mul(LOOKS).saturating_add(rows.set_count())
 }
 
 /// The first of some vertices that reaches another.
@@ -87,7 +82,6 @@ impl Sources {
         Sources {
             vertices: Vec::new(alloc),
             looks: 0,
-            limit: 0,
             table: None,
         }
     }
@@ -99,15 +93,15 @@ impl Sources {
         ensures sources { OnOk result ((g : List (List ℕ)) (reach : Reach) → AreVertices g self.old.vertices.items → vertex < length g → AreSources g reach self.new) }
     {
         self.looks = 0;
-        self.limit = 0;
         self.table = None;
         self.vertices.push(vertex)?;
         Ok(())
     }
 
-    /// Makes the table where the looks have cost as much as it costs.
+    /// Makes the lines where the looks have cost as much as these cost.
     fn prepare(&mut self, alloc: Global, reach: &Reach) -> Result<(), AllocError>
-        requires { AreVertices (rows_of reach.now.rows) self.old.vertices.items }
+        requires rows { AreRows reach.now.rows }
+        requires vertices { AreVertices (table_of reach.now.rows) self.old.vertices.items }
         ensures vertices { OnOk result (self.new.vertices ≡ self.old.vertices) }
         ensures sources { OnOk result ((g : List (List ℕ)) → AreSources g reach.now self.old → AreSources g reach.now self.new) }
     {
@@ -115,22 +109,19 @@ impl Sources {
             return Ok(());
         }
         self.looks = self.looks.saturating_add(self.vertices.len());
-        if self.looks > self.limit {
-            self.limit = range_count(&self.vertices, &reach.rows);
-        }
-        if self.looks > self.limit {
-            self.table = Some(table(alloc, &self.vertices, &reach.rows)?);
+        if self.looks > cost(self.vertices.len(), &reach.rows) {
+            self.table = Some(Lines::new(alloc, &self.vertices, &reach.rows)?);
         }
         Ok(())
     }
 
-    /// The vertex that alone of these reaches another, if one does, by the table where there is one.
+    /// The vertex that alone of these reaches another, if one does, by the lines where there are any.
     fn answer(&self, reach: &Reach, to: usize) -> Option<usize>
         requires { (g : List (List ℕ)) × (IsReach g reach.now × (AreSources g reach.now self.now × (to < length g))) }
         ensures { (g : List (List ℕ)) → IsReach g reach.now → AreSources g reach.now self.now → to < length g → MatchOption result ((v : ℕ) → ¬ (IsSole g self.now.vertices.items to v)) (λ v. IsSole g self.now.vertices.items to v) }
     {
         match &self.table {
-            Some(table) => sole_at(table, reach.places[to]),
+            Some(lines) => lines.sole(reach.places[to]),
             None => sole_of(&self.vertices, reach, to),
         }
     }

@@ -2,3 +2,4 @@ pub mod TableLemmas
 pub mod NameLemmas
 pub mod FindLemmas
 pub mod EntityLemmas
+pub mod Crossing

@@ -109,6 +109,25 @@ fn receipts_by_lanes(rt: HostRuntime) -> Result<(), Fail> {
     Ok(())
 }
 
+/// What is read where each piece meets all others in the judge itself.
+fn read_meeting_within<R: Threads + Wait + Clock + Sync>(
+    rt: &R,
+    alloc: Global,
+    schema: &Schema,
+    file: &[u8],
+    pieces: u32,
+) -> Result<(Answer, bool), Fail>
+    requires { pieces < 64 }
+{
+    let meeting = Meeting::of(rt, pieces);
+    let judge = MeetingReader {
+        local: LocalReader { schema },
+        meeting: &meeting,
+    };
+    let answer = read_by(rt, alloc, schema, &judge, &OpenGate, file, pieces)?;
+    Ok((answer, meeting.is_met()))
+}
+
 /// What is read where each piece meets all others: at a gate, at a gate before a judge, and in the judge itself.
 fn read_meeting<R: Threads + Wait + Clock + Sync>(
     rt: &R,
@@ -119,22 +138,20 @@ fn read_meeting<R: Threads + Wait + Clock + Sync>(
 ) -> Result<[(Answer, bool); 3], Fail>
     requires { pieces < 64 }
 {
-    let local = LocalReader { schema };
     let gate = Meeting::of(rt, pieces);
     let alone = read_in(rt, alloc, schema, &gate, file, pieces)?.answer;
     let gate_by = Meeting::of(rt, pieces);
-    let by = read_by(rt, alloc, schema, &local, &gate_by, file, pieces)?;
-    let meeting = Meeting::of(rt, pieces);
-    let judge = MeetingReader {
-        local,
-        meeting: &meeting,
-    };
-    let within = read_by(rt, alloc, schema, &judge, &OpenGate, file, pieces)?;
-    Ok([
-        (alone, gate.is_met()),
-        (by, gate_by.is_met()),
-        (within, meeting.is_met()),
-    ])
+    let by = read_by(
+        rt,
+        alloc,
+        schema,
+        &LocalReader { schema },
+        &gate_by,
+        file,
+        pieces,
+    )?;
+    let within = read_meeting_within(rt, alloc, schema, file, pieces)?;
+    Ok([(alone, gate.is_met()), (by, gate_by.is_met()), within])
 }
 
 #[test]

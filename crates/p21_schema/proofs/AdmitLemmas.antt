@@ -3,13 +3,13 @@ use Rattle.std.proofs.Common.{◌≡◌, ℕ, ◌<◌, ◌↔◌, List, [], leng
 use Rattle.p21_express.specs.Schema.{Schema}
 use Rattle.p21_express.specs.WellFormed.{IsEntity, IsWellFormed, IsAncestor, HasNoUnknown}
 use Rattle.p21_graph.specs.declared.reach.Reach.{Reach}
-use Rattle.p21_graph.specs.Graph.{one, more, rows_of, Reaches}
+use Rattle.p21_graph.specs.Graph.{one, more, Reaches}
+use Rattle.p21_graph.specs.Rows.{table_of}
 use Rattle.p21_graph.specs.Ranges.{Covers}
 use Rattle.p21_graph.specs.MemberLaws.{place_of}
 use Rattle.p21_graph.specs.RangeLaws.{↔_through}
 use Rattle.p21_schema.specs.declared.resolved.Resolved.{Resolved}
 use Rattle.p21_schema.specs.declared.selects.Item.TheVariants as item_kind
-use Rattle.p21_schema.specs.declared.selects.SelectRows.{SelectRows}
 use Rattle.p21_schema.specs.Ancestry.{entity_id, IsDescentTable, IsA}
 use Rattle.p21_schema.specs.Select.{SelectReaches, ReachesA, itself, above}
 use Rattle.p21_schema.specs.SelectItems.{IsItemGraph}
@@ -31,12 +31,12 @@ module _ (s : Schema) (formed : IsWellFormed s) (unders : List Resolved) (r : Ar
   way : (i x : ℕ) → i < length s.types → x < length s.entities → SelectReaches s (type_named s i) (entity_named s x) → Reaches direct inner i x
   way i x li lx h = names_reach s formed unders r inner g item_kind.Entity (IsEntity s) (length s.entities) (entity_named s) (stands_entity s formed unders r) direct d h i x li lx refl refl (entity_at_place s x lx)
 
-  within : (x e : ℕ) → x < length s.entities → e < length s.entities → Covers (get_or (rows_of reach.rows) x []) (get_or reach.places.items e 0) ↔ IsA s (entity_id e) (entity_id x)
+  within : (x e : ℕ) → x < length s.entities → e < length s.entities → Covers (get_or (table_of reach.rows) x []) (get_or reach.places.items e 0) ↔ IsA s (entity_id e) (entity_id x)
   within x e lx le = ↔_through (t.reaches.within x e (subst (λ u. x < u) (sym t.count) lx) (subst (λ u. e < u) (sym t.count) le)) (t.descents e x le lx)
 
   -- the type reaches an entity, whose descents hold the place
   abbrev IsHeld : ℕ → ℕ → Type 0
-  IsHeld i place = (x : ℕ) × (Reaches direct inner i x × Covers (get_or (rows_of reach.rows) x []) place)
+  IsHeld i place = (x : ℕ) × (Reaches direct inner i x × Covers (get_or (table_of reach.rows) x []) place)
 
   admitted : (i e : ℕ) → e < length s.entities → IsHeld i (get_or reach.places.items e 0) → ReachesA s (type_named s i) (entity_named s e)
   admitted i e le h =
@@ -54,14 +54,14 @@ module _ (s : Schema) (formed : IsWellFormed s) (unders : List Resolved) (r : Ar
       let is : entity_named s p.0 ≡ a = sym (name_at s p.0) ∙ p.1.1 [] in
       (p.0, (way i p.0 li lx (subst (λ (u : List ℕ). SelectReaches s (type_named s i) u) (sym is) h), (within p.0 e lx le).1 (inr (subst (λ (u : List ℕ). IsAncestor s (entity_named s e) u) (sym is) up))))
 
-  pub admit_table : (table : SelectRows) → AreSelectRows direct inner reach table → IsAdmitTable s table
+  pub admit_table : (table : Reach) → AreSelectRows direct inner reach table → IsAdmitTable s table
   admit_table table h = record {
-    count = h.rows.count ∙ g.count ∙ r.count;
+    count = h.reached.count ∙ g.count ∙ r.count;
     places = ap length h.places ∙ t.reaches.places ∙ t.count;
-    ordered = h.rows.ordered;
+    rows = h.rows;
     covers = λ e i le li.
-        let row = h.rows.rows i (subst (λ u. i < u) (sym (g.count ∙ r.count)) li) (get_or reach.places.items e 0) in
+        let row = h.reached.rows i (subst (λ u. i < u) (sym (g.count ∙ r.count)) li) (get_or reach.places.items e 0) in
         let at : get_or reach.places.items e 0 ≡ get_or table.places.items e 0 = ap (λ (u : List ℕ). get_or u e 0) (sym h.places) in
-        let row' : Covers (get_or (rows_of table.rows) i []) (get_or table.places.items e 0) ↔ IsHeld i (get_or reach.places.items e 0) = subst (λ (u : ℕ). Covers (get_or (rows_of table.rows) i []) u ↔ IsHeld i (get_or reach.places.items e 0)) at row in
+        let row' : Covers (get_or (table_of table.rows) i []) (get_or table.places.items e 0) ↔ IsHeld i (get_or reach.places.items e 0) = subst (λ (u : ℕ). Covers (get_or (table_of table.rows) i []) u ↔ IsHeld i (get_or reach.places.items e 0)) at row in
         (λ c. admitted i e le (row'.0 c), λ a. row'.1 (found i e li le a));
   }

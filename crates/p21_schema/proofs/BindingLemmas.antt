@@ -5,7 +5,7 @@ use Rattle.std.proofs.lemmas.Bool.{false≢true}
 use Rattle.p21_express.specs.Schema.{Schema}
 use Rattle.p21_express.specs.WellFormed.{IsIn, IsAncestor, IsWellFormed}
 use Rattle.p21_graph.specs.declared.reach.Reach.{Reach}
-use Rattle.p21_graph.specs.Graph.{rows_of}
+use Rattle.p21_graph.specs.Rows.{table_of}
 use Rattle.p21_graph.specs.Ranges.{Covers}
 use Rattle.p21_graph.specs.MemberLaws.{place_of, at_place}
 use Rattle.p21_graph.specs.RangeLaws.{↔_through}
@@ -50,12 +50,15 @@ module _ {X Y : Type 0} {W : X → Type 0} {f : X → Y} where
 
 -- the declarations of a table stand in entities that have a row and a place
 pub within_rows : (s : Schema) (ws : List Written) (table : List (List Coded)) (reach : Reach) → IsDeclarationTable s ws table → IsDescentTable s reach → (i : ℕ) → i < length table → AreWithin reach (get_or table i [])
-within_rows s ws table reach t d i less c j =
-    let ds = get_or table i [] in
-    let h = t.rows i (subst (λ u. i < u) t.count less) in
-    let p = place_of ds c j in
-    let known : IsEntityOf s c.entity = subst (λ (u : Coded). IsEntityOf s u.entity) (p.1.1 no_declaration) (zip_at (IsResolvedDeclaration s) ds h.all p.0 no_declaration (record { entity = []; form = derived }) h.resolved p.1.0).known in
-    (subst (λ u. c.entity.index < u) (sym (d.reaches.count ∙ d.count)) known, subst (λ u. c.entity.index < u) (sym (d.reaches.places ∙ d.count)) known)
+within_rows s ws table reach t d i less = record {
+  rows = d.reaches.rows;
+  each = λ c j.
+      let ds = get_or table i [] in
+      let h = t.rows i (subst (λ u. i < u) t.count less) in
+      let p = place_of ds c j in
+      let known : IsEntityOf s c.entity = subst (λ (u : Coded). IsEntityOf s u.entity) (p.1.1 no_declaration) (zip_at (IsResolvedDeclaration s) ds h.all p.0 no_declaration (record { entity = []; form = derived }) h.resolved p.1.0).known in
+      (subst (λ u. c.entity.index < u) (sym (d.reaches.count ∙ d.count)) known, subst (λ u. c.entity.index < u) (sym (d.reaches.places ∙ d.count)) known);
+}
 
 plain_derived : (s : Schema) (f : CodedForm) (g : Form) → IsResolvedForm s f g → explicit_form f ≡ false → g ≡ derived
 plain_derived s coded.Derived derived h e = refl
@@ -74,7 +77,7 @@ module _ (s : Schema) (formed : IsWellFormed s) (reach : Reach) (t : IsDescentTa
   abbrev place : ℕ
   place = get_or reach.places.items e.index 0
 
-  within : (x y : ℕ) → x < length s.entities → y < length s.entities → Covers (get_or (rows_of reach.rows) x []) (get_or reach.places.items y 0) ↔ IsA s (entity_id y) (entity_id x)
+  within : (x y : ℕ) → x < length s.entities → y < length s.entities → Covers (get_or (table_of reach.rows) x []) (get_or reach.places.items y 0) ↔ IsA s (entity_id y) (entity_id x)
   within x y lx ly = ↔_through (t.reaches.within x y (subst (λ u. x < u) (sym t.count) lx) (subst (λ u. y < u) (sym t.count) ly)) (t.descents y x ly lx)
 
   resolved : (k : ℕ) → k < length cs → IsResolvedDeclaration s (get_or cs k no_declaration) (get_or ds k nothing)

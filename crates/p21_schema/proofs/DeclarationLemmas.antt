@@ -9,7 +9,7 @@ use Rattle.p21_express.specs.WellFormed.{IsIn, AreDistinct, IsEntity, IsKnown, O
 use Rattle.p21_graph.specs.Graph.{one, more}
 use Rattle.p21_graph.specs.MemberLaws.{at_place, in_either, in_left, in_right, from_map, holds_of, same_place, distinct_apart}
 use Rattle.p21_schema.specs.declared.declarations.Declaration.{Declaration as Coded}
-use Rattle.p21_schema.specs.declared.rows.Own.{Own}
+use Rattle.p21_graph.specs.declared.ranges.Range.{Range}
 use Rattle.p21_schema.specs.Place.{no_entity, entity_name}
 use Rattle.p21_schema.specs.Ancestry.{entity_id, IsA}
 use Rattle.p21_schema.specs.Row.{own_attributes, attributes_of, no_attribute}
@@ -40,14 +40,14 @@ from_attributes (e ∷ es) o i = ⊎_elim
     (suc h.0, (omega (arith, less), h.1.1)))
     (in_either (own_attributes e) (attributes_of es) o i)
 
-pub own_is_at : (s : Schema) (table : List Own) (e : ℕ) (own : Own) (n : List ℕ) (k i : ℕ) → IsOwnTable s table → e < length s.entities → get_or table e no_own ≡ own → (k < length (new_explicit (get_or s.entities e no_entity).attributes)) × (get_or (new_explicit (get_or s.entities e no_entity).attributes) k [] ≡ n) → i ≡ own.from + k → IsOwnAt s e n i
+pub own_is_at : (s : Schema) (table : List Range) (e : ℕ) (own : Range) (n : List ℕ) (k i : ℕ) → IsOwnTable s table → e < length s.entities → get_or table e no_own ≡ own → (k < length (new_explicit (get_or s.entities e no_entity).attributes)) × (get_or (new_explicit (get_or s.entities e no_entity).attributes) k [] ≡ n) → i ≡ own.from + k → IsOwnAt s e n i
 own_is_at s table e own n k i t less is found at =
     let entity = get_or s.entities e no_entity in
     let names = new_explicit entity.attributes in
     let origin : List ℕ → Origin = λ m. record { entity = entity.name; name = m } in
     let k_less : k < length names = found.0 in
     let k_less' : k < length (own_attributes entity) = rw (length-map names origin) k_less in
-    let from : i ≡ length (attributes_of (take e s.entities)) + k = at ∙ ap (λ (u : ℕ). u + k) (sym (ap (λ (u : Own). u.from) is) ∙ (t.rows e less).from) in
+    let from : i ≡ length (attributes_of (take e s.entities)) + k = at ∙ ap (λ (u : ℕ). u + k) (sym (ap (λ (u : Range). u.from) is) ∙ (t.rows e less).from) in
     record {
       below = subst (λ u. u < length (attributes_of s.entities)) (sym from) (own_below s.entities e k less k_less');
       is = ap (λ (u : ℕ). get_or (attributes_of s.entities) u no_attribute) from ∙ own_at s.entities e k no_attribute less k_less' ∙ get_or-map origin names k [] no_attribute k_less ∙ ap origin found.1;

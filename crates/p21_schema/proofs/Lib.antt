@@ -11,6 +11,10 @@ pub mod SelectLemmas
 pub mod Examples
 pub mod AdmitLemmas
 pub mod SharedLemmas
+pub mod PieceLemmas
+pub mod HeldLemmas
+pub mod OwnerRowLemmas
 pub mod StepLemmas
 pub mod SpanLemmas
 pub mod BindingLemmas
+pub mod Crossing

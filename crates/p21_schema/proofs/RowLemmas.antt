@@ -1,5 +1,5 @@
 -- Rows of attributes.
-use Rattle.std.proofs.Common.{◌≡◌, ℕ, zero, suc, ◌+◌, ◌-◌, ◌<◌, ◌≤◌, Bool, true, false, not, cond, ◌||◌, List, [], ◌∷◌, ◌++◌, Option, Some, None, is_some, option_map, length, get_or, take, drop, replicate, map, refl, sym, ap, ◌∙◌, subst, inl, inr, ⊎_elim, arith, append_assoc, add-zero, rules, ◌⊎◌}
+use Rattle.std.proofs.Common.{◌≡◌, ℕ, zero, suc, ◌+◌, ◌-◌, ◌<◌, ◌≤◌, Bool, true, false, not, cond, ◌||◌, List, [], ◌∷◌, ◌++◌, Option, Some, None, is_some, option_map, length, get_or, take, drop, replicate, map, refl, sym, ap, ◌∙◌, subst, inl, inr, ⊎_elim, arith, append_assoc, add-zero, ◌⊎◌}
 use Rattle.std.specs.Prelude.{slice_get}
 use Rattle.std.specs.List.{list_any, filter, AllByRecursion}
 use Rattle.std.specs.Cmp.Lexicographic.{bytes_decides}
@@ -11,17 +11,15 @@ use Rattle.std.proofs.lemmas.Option.{get_or_from_slice_get}
 use Rattle.p21_express.specs.Schema.{Schema, Entity, Attribute}
 use Rattle.p21_express.specs.WellFormed.{IsIn, AreDistinct, Origin, IsWellFormed, IsSupertype, IsAncestor, new_explicit, new_derived, new_names, with_new}
 use Rattle.p21_graph.specs.Graph as way
-use Rattle.p21_graph.specs.MemberLaws.{in_either, from_map, distinct_left, same_place, place_of, at_place, holds_of, in_map, in_front, distinct_apart}
+use Rattle.p21_graph.specs.MemberLaws.{in_either, from_map, distinct_left, same_place, place_of, at_place, in_map}
 use Rattle.p21_schema.specs.declared.ids.AttrId.{AttrId}
 use Rattle.p21_schema.specs.declared.ids.EntityId.{EntityId}
 use Rattle.p21_schema.specs.Place.{no_entity, entity_at, entity_name, IsEntityOf}
 use Rattle.p21_schema.specs.Ancestry.{entity_id, AreNamed}
 use Rattle.p21_schema.specs.Row.{own_attributes, attributes_of, no_attribute, attribute_at, IsAttributeOf, same_origin, first_places, IsRow, AreRows, row, none, more}
-use Rattle.std.specs.BTreeSet.{BTreeSet, Updates}
-use Rattle.std.specs.Ordering.{nat_cmp}
-use Rattle.std.proofs.lemmas.List.Folds.{list_any-append}
-use Rattle.p21_schema.specs.RowTable.{same_id, AreIndicesOf, kept, all_kept, ids_from, joined, first_of, IsOwn, IsOwnTable, IsRowAt, no_own}
-use Rattle.p21_schema.specs.declared.rows.Own.{Own}
+use Rattle.p21_schema.specs.Pieces.{ids_from}
+use Rattle.p21_schema.specs.RowTable.{same_id, kept, all_kept, joined, first_of, IsOwn, IsOwnTable, IsRowAt, no_own}
+use Rattle.p21_graph.specs.declared.ranges.Range.{Range}
 use Rattle.p21_schema.proofs.AncestryLemmas.{all_names, name_at}
 
 -- ---- what is kept
@@ -29,13 +27,6 @@ use Rattle.p21_schema.proofs.AncestryLemmas.{all_names, name_at}
 pub all_kept_append : (r xs ys : List AttrId) → all_kept r (xs ++ ys) ≡ all_kept (all_kept r xs) ys
 all_kept_append r [] ys = refl
 all_kept_append r (x ∷ xs) ys = all_kept_append (kept r x) xs ys
-
--- the indices of a row with one attribute more
-pub indices_more : (old new : BTreeSet ℕ) (r : List AttrId) (a : AttrId) → Updates nat_cmp old new a.index true → AreIndicesOf old r → AreIndicesOf new (r ++ a ∷ [])
-indices_more old new r a updates before = λ i. rw (list_any-append (λ b. same_id b (record { index = i })) r (a ∷ []), updates.0 i, before i) (search rules)
-
-pub kept_more : (r now new xs : List AttrId) (i : ℕ) (d : AttrId) → i < length xs → now ≡ all_kept r (take i xs) → new ≡ kept now (get_or xs i d) → new ≡ all_kept r (take (i + 1) xs)
-kept_more r now new xs i d less h e = e ∙ ap (λ (u : List AttrId). kept u (get_or xs i d)) h ∙ sym (all_kept_append r (take i xs) (get_or xs i d ∷ [])) ∙ ap (λ (u : List AttrId). all_kept r u) (sym (take_more xs i d less))
 
 pub ids_push : (i n : ℕ) → ids_from i (suc n) ≡ ids_from i n ++ record { index = i + n } ∷ []
 ids_push i zero = λ j. record { index = sym (add-zero i) j } ∷ []
@@ -229,7 +220,7 @@ own_distinct : (e : List ℕ) (ns : List (List ℕ)) → AreDistinct ns → AreD
 own_distinct e [] h = tt
 own_distinct e (n ∷ ns) h = (λ i. let f = from_map (λ m. let o : Origin = record { entity = e; name = m } in o) ns (record { entity = e; name = n }) i in h.0 (subst (λ u. IsIn ns u) (ap (λ (o : Origin). o.name) f.1.1) f.1.0), own_distinct e ns h.1)
 
-own_entity : (e : Entity) (o : Origin) → IsIn (own_attributes e) o → o.entity ≡ e.name
+pub own_entity : (e : Entity) (o : Origin) → IsIn (own_attributes e) o → o.entity ≡ e.name
 own_entity e o i = let f = from_map (λ n. let o : Origin = record { entity = e.name; name = n } in o) (new_explicit e.attributes) o i in sym (ap (λ (o : Origin). o.entity) f.1.1)
 
 any_entity : (es : List Entity) (o : Origin) → IsIn (attributes_of es) o → IsIn (map (λ (e : Entity). e.name) es) o.entity
@@ -242,7 +233,7 @@ attributes_distinct (e ∷ es) names own =
     distinct_join (own_attributes e) (attributes_of es) (own_distinct e.name (new_explicit e.attributes) (distinct_left (new_explicit e.attributes) (new_derived e.derived) own.0)) (attributes_distinct es names.1 own.1)
     (λ o i j. names.0 (subst (λ u. IsIn (map (λ (e : Entity). e.name) es) u) (own_entity e o i) (any_entity es o j)))
 
-origin_tells : (a b : Origin) → (same_origin a b ≡ true → a ≡ b) × (a ≡ b → same_origin a b ≡ true)
+pub origin_tells : (a b : Origin) → (same_origin a b ≡ true → a ≡ b) × (a ≡ b → same_origin a b ≡ true)
 origin_tells a b = (
   λ t. let p = and_parts (bytes_eq a.entity b.entity) (bytes_eq a.name b.name) t in
       let e = (bytes_decides a.entity b.entity).0 p.0 in
@@ -281,7 +272,7 @@ own_is s i less =
     let base = length (attributes_of (take i s.entities)) in
     ap (λ (u : ℕ). map (attribute_at s) (ids_from u (length own))) (sym (add-zero base)) ∙ own_ids s i less 0 (length own) own (omega arith) refl
 
-ids_below : (i n m : ℕ) → i + n ≤ m → (a : AttrId) → IsIn (ids_from i n) a → a.index < m
+pub ids_below : (i n m : ℕ) → i + n ≤ m → (a : AttrId) → IsIn (ids_from i n) a → a.index < m
 ids_below i zero m h a in' = absurd in'
 ids_below i (suc n) m h a (inl e) = let f : i ≡ a.index = ap (λ (u : AttrId). u.index) e in omega (arith, f)
 ids_below i (suc n) m h a (inr r) = ids_below (suc i) n m (omega arith) a r
@@ -300,7 +291,7 @@ names_map : (s : Schema) (es : List ℕ) → map (λ i. entity_name s (entity_id
 names_map s [] = refl
 names_map s (i ∷ is) = let first = name_at s i in let rest = names_map s is in λ j. sym first j ∷ rest j
 
-pub row_at : (s : Schema) (i : ℕ) (table : ℕ → List AttrId) (sups : List ℕ) (own : Own) (ids : List AttrId) → AreDistinct (attributes_of s.entities) → i < length s.entities → IsOwn s i own → AreNamed (all_names s) sups (get_or s.entities i no_entity).supertypes
+pub row_at : (s : Schema) (i : ℕ) (table : ℕ → List AttrId) (sups : List ℕ) (own : Range) (ids : List AttrId) → AreDistinct (attributes_of s.entities) → i < length s.entities → IsOwn s i own → AreNamed (all_names s) sups (get_or s.entities i no_entity).supertypes
     → ((e : ℕ) → IsIn sups e → IsRowAt s e (table e)) → ids ≡ all_kept [] (joined table sups ++ ids_from own.from (own.to - own.from)) → IsRowAt s i ids
 row_at s i table sups own ids distinct less is named rows e =
     let entity = get_or s.entities i no_entity in
@@ -320,7 +311,7 @@ row_at s i table sups own ids distinct less is named rows e =
       known = λ a j. known a (in_first same_id before a (subst (λ (u : List AttrId). IsIn u a) first j));
     }
   where
-    own_end : (s : Schema) (i : ℕ) (own : Own) → i < length s.entities → IsOwn s i own → own.from + (own.to - own.from) ≤ length (attributes_of s.entities)
+    own_end : (s : Schema) (i : ℕ) (own : Range) → i < length s.entities → IsOwn s i own → own.from + (own.to - own.from) ≤ length (attributes_of s.entities)
     own_end s i own less is = let m = attributes_le s.entities i less in omega (arith, m, is.count, is.from)
 
 -- ---- the row of an entity with one supertype
@@ -351,7 +342,7 @@ places_distinct (x ∷ xs) = ((λ i. dropped x (first_places same_origin xs) i),
 
 -- what stands in a row is an entity's own or an ancestor's
 mutual
-  row_origins : (s : Schema) {n : List ℕ} {all : List Origin} → IsRow s n all → (o : Origin) → IsIn all o → (o.entity ≡ n) ⊎ IsAncestor s n o.entity
+  pub row_origins : (s : Schema) {n : List ℕ} {all : List Origin} → IsRow s n all → (o : Origin) → IsIn all o → (o.entity ≡ n) ⊎ IsAncestor s n o.entity
   row_origins s {n} {all} (row {above = above} e i m rows h) o j =
       ⊎_elim
       (λ (l : IsIn above o). let r = rows_origins s rows o l in let step : (b : List ℕ) → IsIn e.supertypes b → IsSupertype s n b = λ b k. record { entity = e; declared = i; name_is = m; named = k } in
@@ -382,12 +373,12 @@ not_own s formed i e sups up less named there above o l r =
 
 -- ---- what is kept of rows in which nothing stands twice
 
-any_from : (r : List AttrId) (a : AttrId) → IsIn r a → list_any (λ b. same_id b a) r ≡ true
+pub any_from : (r : List AttrId) (a : AttrId) → IsIn r a → list_any (λ b. same_id b a) r ≡ true
 any_from [] a i = absurd i
 any_from (y ∷ ys) a (inl e) = rw (eq-eqb y.index a.index (ap (λ (u : AttrId). u.index) e)) refl
 any_from (y ∷ ys) a (inr i) = ⊎_elim (λ (t : same_id y a ≡ true). rw t refl) (λ (f : same_id y a ≡ false). rw f (any_from ys a i)) (cases_Bool (same_id y a))
 
-any_in : (r : List AttrId) (a : AttrId) → list_any (λ b. same_id b a) r ≡ true → IsIn r a
+pub any_in : (r : List AttrId) (a : AttrId) → list_any (λ b. same_id b a) r ≡ true → IsIn r a
 any_in [] a h = absurd (false≢true h)
 any_in (y ∷ ys) a h = ⊎_elim (λ (t : same_id y a ≡ true). inl (exact_id y a t)) (λ (f : same_id y a ≡ false). inr (any_in ys a (rw f at h))) (cases_Bool (same_id y a))
 
@@ -396,24 +387,22 @@ pub kept_known : (r xs : List AttrId) → ((a : AttrId) → IsIn xs a → IsIn r
 kept_known r [] h = refl
 kept_known r (x ∷ xs) h = rw (any_from r x (h x (inl refl))) (kept_known r xs (λ a i. h a (inr i)))
 
--- what is not there is kept
-kept_new : (r xs : List AttrId) → AreDistinct (r ++ xs) → all_kept r xs ≡ r ++ xs
-kept_new r [] h = sym (append-nil r)
-kept_new r (x ∷ xs) h =
+-- what differs from one another and from what is there is kept
+pub kept_free : (r xs : List AttrId) → AreDistinct xs → ((a : AttrId) → IsIn xs a → ¬ (IsIn r a)) → all_kept r xs ≡ r ++ xs
+kept_free r [] d free = sym (append-nil r)
+kept_free r (x ∷ xs) d free =
     ⊎_elim
-    (λ (t : list_any (λ b. same_id b x) r ≡ true). absurd (distinct_apart r (x ∷ xs) x h (any_in r x t) (inl refl)))
-    (λ (f : list_any (λ b. same_id b x) r ≡ false). rw f (kept_new (r ++ x ∷ []) xs (subst (λ (u : List AttrId). AreDistinct u) (sym (append_assoc r (x ∷ []) xs)) h) ∙ append_assoc r (x ∷ []) xs))
+    (λ (t : list_any (λ b. same_id b x) r ≡ true). absurd (free x (inl refl) (any_in r x t)))
+    (λ (f : list_any (λ b. same_id b x) r ≡ false). rw f (kept_free (r ++ x ∷ []) xs d.1 later ∙ append_assoc r (x ∷ []) xs))
     (cases_Bool (list_any (λ b. same_id b x) r))
+  where
+    later : (a : AttrId) → IsIn xs a → ¬ (IsIn (r ++ x ∷ []) a)
+    later a m i = ⊎_elim
+        (λ (l : IsIn r a). free a (inr m) l)
+        (λ (l : IsIn (x ∷ []) a). ⊎_elim (λ (e : x ≡ a). d.0 (subst (λ (u : AttrId). IsIn xs u) (sym e) m)) (λ (n : ⊥). n) l)
+        (in_either r (x ∷ []) a i)
 
-kept_distinct : (r xs : List AttrId) → AreDistinct r → AreDistinct (all_kept r xs)
-kept_distinct r [] h = h
-kept_distinct r (x ∷ xs) h =
-    ⊎_elim
-    (λ (t : list_any (λ b. same_id b x) r ≡ true). rw t (kept_distinct r xs h))
-    (λ (f : list_any (λ b. same_id b x) r ≡ false). rw f (kept_distinct (r ++ x ∷ []) xs (distinct_join r (x ∷ []) h ((λ i. i), tt) (λ y i j. ⊎_elim (λ (e : x ≡ y). false≢true (sym f ∙ any_from r x (subst (λ (u : AttrId). IsIn r u) (sym e) i))) (λ (n : ⊥). n) j))))
-    (cases_Bool (list_any (λ b. same_id b x) r))
-
-kept_in : (r xs : List AttrId) (a : AttrId) → IsIn (all_kept r xs) a → IsIn r a ⊎ IsIn xs a
+pub kept_in : (r xs : List AttrId) (a : AttrId) → IsIn (all_kept r xs) a → IsIn r a ⊎ IsIn xs a
 kept_in r [] a i = inl i
 kept_in r (x ∷ xs) a i =
     ⊎_elim
@@ -428,12 +417,12 @@ joined_in : (table : ℕ → List AttrId) (es : List ℕ) (a : AttrId) → IsIn 
 joined_in table [] a i = absurd i
 joined_in table (e ∷ es) a i = ⊎_elim (λ (l : IsIn (table e) a). (e, (inl refl, l))) (λ (r : IsIn (joined table es) a). let w = joined_in table es a r in (w.0, (inr w.1.0, w.1.1))) (in_either (table e) (joined table es) a i)
 
-ids_from_on : (i n : ℕ) (a : AttrId) → IsIn (ids_from i n) a → i ≤ a.index
+pub ids_from_on : (i n : ℕ) (a : AttrId) → IsIn (ids_from i n) a → i ≤ a.index
 ids_from_on i zero a m = absurd m
 ids_from_on i (suc n) a (inl e) = let f : i ≡ a.index = ap (λ (u : AttrId). u.index) e in omega (arith, f)
 ids_from_on i (suc n) a (inr m) = let h = ids_from_on (suc i) n a m in omega (arith, h)
 
-ids_distinct : (i n : ℕ) → AreDistinct (ids_from i n)
+pub ids_distinct : (i n : ℕ) → AreDistinct (ids_from i n)
 ids_distinct i zero = tt
 ids_distinct i (suc n) = ((λ m. let h : suc i ≤ i = ids_from_on (suc i) n (record { index = i }) m in absurd (omega (arith, h))), ids_distinct (suc i) n)
 
@@ -441,15 +430,15 @@ distinct_unmap : (s : Schema) (xs : List AttrId) → AreDistinct (map (attribute
 distinct_unmap s [] h = tt
 distinct_unmap s (x ∷ xs) h = ((λ i. h.0 (in_map (attribute_at s) xs x i)), distinct_unmap s xs h.1)
 
-first_kept : (s : Schema) (table : ℕ → List AttrId) (sups : List ℕ) → ((e : ℕ) → IsIn sups e → IsRowAt s e (table e)) → all_kept (first_of table sups) (joined table sups) ≡ all_kept [] (joined table sups)
+pub first_kept : (s : Schema) (table : ℕ → List AttrId) (sups : List ℕ) → ((e : ℕ) → IsIn sups e → IsRowAt s e (table e)) → all_kept (first_of table sups) (joined table sups) ≡ all_kept [] (joined table sups)
 first_kept s table [] rows = refl
 first_kept s table (e ∷ es) rows =
     let one = table e in
     let rest = joined table es in
-    let alone : all_kept [] one ≡ one = kept_new [] one (distinct_unmap s one (row_distinct s (rows e (inl refl)).is)) in
+    let alone : all_kept [] one ≡ one = kept_free [] one (distinct_unmap s one (row_distinct s (rows e (inl refl)).is)) (λ a m i. i) in
     all_kept_append one one rest ∙ ap (λ (u : List AttrId). all_kept u rest) (kept_known one one (λ a i. i) ∙ sym alone) ∙ sym (all_kept_append [] one rest)
 
-pub several_is : (s : Schema) → IsWellFormed s → (i : ℕ) (sups : List ℕ) (table : ℕ → List AttrId) (own : Own) → i < length s.entities → IsOwn s i own → AreNamed (all_names s) sups (get_or s.entities i no_entity).supertypes → ((e : ℕ) → IsIn sups e → IsRowAt s e (table e))
+pub several_is : (s : Schema) → IsWellFormed s → (i : ℕ) (sups : List ℕ) (table : ℕ → List AttrId) (own : Range) → i < length s.entities → IsOwn s i own → AreNamed (all_names s) sups (get_or s.entities i no_entity).supertypes → ((e : ℕ) → IsIn sups e → IsRowAt s e (table e))
     → all_kept (first_of table sups) (joined table sups) ++ ids_from own.from (own.to - own.from) ≡ all_kept [] (joined table sups ++ ids_from own.from (own.to - own.from))
 several_is s formed i sups table own less is named rows =
     let entity = get_or s.entities i no_entity in
@@ -457,37 +446,10 @@ several_is s formed i sups table own less is named rows =
     let above = joined table sups in
     let n : own.to - own.from ≡ length (own_attributes entity) = omega (arith, is.count) in
     let owns : map (attribute_at s) ids ≡ own_attributes entity = (λ j. map (attribute_at s) (ids_from (is.from j) (n j))) ∙ own_is s i less in
-    let apart : (a : AttrId) → IsIn (all_kept [] above) a → ¬ (IsIn ids a) = λ a l r.
+    let apart : (a : AttrId) → IsIn ids a → ¬ (IsIn (all_kept [] above) a) = λ a r l.
     ⊎_elim (λ (x : ⊥). x) (λ (m : IsIn above a). let w = joined_in table sups a m in
     not_own s formed i w.0 sups (table w.0) less named w.1.0 (rows w.0 w.1.0) (attribute_at s a) (in_map (attribute_at s) (table w.0) a w.1.1) (subst (λ (u : List Origin). IsIn u (attribute_at s a)) owns (in_map (attribute_at s) ids a r))) (kept_in [] above a l) in
-    let distinct : AreDistinct (all_kept [] above ++ ids) = distinct_join (all_kept [] above) ids (kept_distinct [] above tt) (ids_distinct own.from (own.to - own.from)) apart in
-    ap (λ (u : List AttrId). u ++ ids) (first_kept s table sups rows) ∙ sym (kept_new (all_kept [] above) ids distinct) ∙ sym (all_kept_append [] above ids)
-
--- what both rows begin with is passed
-pub passed_over : (r xs : List AttrId) (n : ℕ) → take n xs ≡ take n r → all_kept r (drop n xs) ≡ all_kept r xs
-passed_over r xs n same =
-    let known : all_kept r (take n xs) ≡ r = kept_known r (take n xs) (λ a i. in_front n r a (subst (λ (u : List AttrId). IsIn u a) same i)) in
-    ap (λ (u : List AttrId). all_kept u (drop n xs)) (sym known) ∙ sym (all_kept_append r (take n xs) (drop n xs)) ∙ ap (λ (u : List AttrId). all_kept r u) (take-append-drop n xs)
-
-pub row_below : (s : Schema) → IsWellFormed s → (i sup : ℕ) (own : Own) (up ids : List AttrId) → i < length s.entities → IsOwn s i own → AreNamed (all_names s) (sup ∷ []) (get_or s.entities i no_entity).supertypes → IsRowAt s sup up
-    → ids ≡ up ++ ids_from own.from (own.to - own.from) → IsRowAt s i ids
-row_below s formed i sup own up ids less is named above e =
-    let entity = get_or s.entities i no_entity in
-    let n : own.to - own.from ≡ length (own_attributes entity) = omega (arith, is.count) in
-    let owns : map (attribute_at s) (ids_from own.from (own.to - own.from)) ≡ own_attributes entity = (λ j. map (attribute_at s) (ids_from (is.from j) (n j))) ∙ own_is s i less in
-    let aboves = map (attribute_at s) up in
-    let all : map (attribute_at s) ids ≡ aboves ++ own_attributes entity = ap (λ (u : List AttrId). map (attribute_at s) u) e ∙ map-append (attribute_at s) up (ids_from own.from (own.to - own.from)) ∙ ap (λ (u : List Origin). aboves ++ u) owns in
-    let here : IsIn s.entities entity = at_place s.entities i no_entity less in
-    let apart = not_own s formed i sup (sup ∷ []) up less named (inl refl) above in
-    let own_apart : AreDistinct (own_attributes entity) = own_distinct entity.name (new_explicit entity.attributes) (distinct_left (new_explicit entity.attributes) (new_derived entity.derived) (holds_of (λ (e : Entity). AreDistinct (new_names e)) s.entities entity formed.repeated.attributes here)) in
-    let distinct : AreDistinct (aboves ++ own_attributes entity) = distinct_join aboves (own_attributes entity) (row_distinct s above.is) own_apart apart in
-    record {
-      is = row entity here refl (subst (λ (u : List (List ℕ)). AreRows s u aboves) (names_map s (sup ∷ []) ∙ named.named) (more above.is (none refl) (sym (append-nil aboves)))) (all ∙ sym (first_distinct (λ a b. (origin_tells a b).0) (aboves ++ own_attributes entity) distinct));
-      known = λ a j. ⊎_elim
-          (λ (l : IsIn up a). above.known a l)
-          (λ (r : IsIn (ids_from own.from (own.to - own.from)) a). ids_below own.from (own.to - own.from) (length (attributes_of s.entities)) (let m = attributes_le s.entities i less in omega (arith, m, is.count, is.from)) a r)
-          (in_either up (ids_from own.from (own.to - own.from)) a (subst (λ (u : List AttrId). IsIn u a) e j));
-    }
+    ap (λ (u : List AttrId). u ++ ids) (first_kept s table sups rows) ∙ sym (kept_free (all_kept [] above) ids (ids_distinct own.from (own.to - own.from)) apart) ∙ sym (all_kept_append [] above ids)
 
 -- ---- what the code knows of them
 
@@ -499,7 +461,7 @@ pub is_again : {X Y : Type 0} (f : X → Y) (o : Option X) (b : Bool) → is_som
 is_again f None b e h = absurd (false≢true (e ∙ ap not h))
 is_again f (Some x) b e h = (f x, refl)
 
-pub own_push : (s : Schema) (table : List Own) (own : Own) (k : ℕ) → length table ≡ k → ((i : ℕ) → i < k → IsOwn s i (get_or table i no_own)) → IsOwn s k own → (i : ℕ) → i < k + 1 → IsOwn s i (get_or (table ++ own ∷ []) i no_own)
+pub own_push : (s : Schema) (table : List Range) (own : Range) (k : ℕ) → length table ≡ k → ((i : ℕ) → i < k → IsOwn s i (get_or table i no_own)) → IsOwn s k own → (i : ℕ) → i < k + 1 → IsOwn s i (get_or (table ++ own ∷ []) i no_own)
 own_push s table own k long rows this i less =
     ⊎_elim
     (λ (e : i ≡ k). rw (e, get_or_push table own no_own k long) this)
@@ -565,9 +527,9 @@ module _ (s : Schema) (distinct : AreDistinct (map (λ (e : Entity). e.name) s.e
       let less' : k < length (map (attribute_at s) ids) = rw (length-map ids (attribute_at s)) less in
       ap (λ (u : List Origin). slice_get u k) same ∙ slice_at (map (attribute_at s) ids) k no_attribute less' ∙ ap (λ (u : Origin). Some u) (get_or-map (attribute_at s) ids k a no_attribute less ∙ ap (attribute_at s) (get_or_from_slice_get ids k a a is))
 
-module _ (s : Schema) (table : List Own) (e : EntityId) (own : Own) (t : IsOwnTable s table) (l : IsEntityOf s e) (is : get_or table e.index no_own ≡ own) where
+module _ (s : Schema) (table : List Range) (e : EntityId) (own : Range) (t : IsOwnTable s table) (l : IsEntityOf s e) (is : get_or table e.index no_own ≡ own) where
   own_of : IsOwn s e.index own
-  own_of = subst (λ (u : Own). IsOwn s e.index u) is (t.rows e.index l)
+  own_of = subst (λ (u : Range). IsOwn s e.index u) is (t.rows e.index l)
 
   pub own_known : (i k : ℕ) → k < length (own_attributes (entity_at s e)) → i ≡ own.from + k → IsAttributeOf s (record { index = i })
   own_known i k less at = subst (λ u. u < length (attributes_of s.entities)) (ap (λ (u : ℕ). u + k) (sym own_of.from) ∙ sym at) (own_below s.entities e.index k l less)

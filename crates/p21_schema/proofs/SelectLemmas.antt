@@ -5,8 +5,9 @@ use Rattle.std.proofs.lemmas.Bool.{cases_eq, cases_lt}
 use Rattle.std.proofs.lemmas.List.{length-map, get_or-map, get_or_past, get_or_append_left, get_or_push}
 use Rattle.p21_express.specs.Schema.{Schema, Defined, Underlying, items, select, plain}
 use Rattle.p21_express.specs.WellFormed.{IsIn, IsEntity, IsType, IsSelect, IsSelectType, IsInnerSelect, IsWellFormed, Leads, HasNoCycle}
-use Rattle.p21_graph.specs.Graph.{one, more, rows_of, HasEdge, AreEdgesBelow, Reaches, here, through as onward, IsMarked}
+use Rattle.p21_graph.specs.Graph.{one, more, HasEdge, AreEdgesBelow, Reaches, here, through as onward, IsMarked}
 use Rattle.p21_graph.specs.Ranges.{Covers}
+use Rattle.p21_graph.specs.Rows.{table_of}
 use Rattle.p21_graph.specs.Reach.{IsEachAlone}
 use Rattle.p21_graph.specs.declared.ranges.Range.{Range}
 use Rattle.p21_graph.specs.declared.reach.Reach.{Reach}
@@ -18,7 +19,6 @@ use Rattle.p21_schema.specs.declared.resolved.Resolved.TheVariants as resolved
 use Rattle.p21_schema.specs.declared.selects.Item.{Item}
 use Rattle.p21_schema.specs.declared.selects.Item.TheVariants as item_kind
 use Rattle.p21_schema.specs.Place.{no_type}
-use Rattle.p21_schema.specs.declared.selects.SelectRows.{SelectRows}
 use Rattle.p21_schema.specs.Resolved.{target_name}
 use Rattle.p21_schema.specs.Under.{IsResolved, AreResolved}
 use Rattle.p21_schema.specs.Select.{IsItem, SelectReaches, item, through, ReachesType}
@@ -332,28 +332,28 @@ module _ (s : Schema) (formed : IsWellFormed s) (unders : List Resolved) (r : Ar
           let p = edge_inner i b li (subst (λ (u : List ℕ). IsInnerSelect s u b) ex h) in
           onward p.1.1.1 (names_reach l p.0 k p.1.0 lk (sym p.1.1.0) ey w)
 
-      pub select_table : (reach : Reach) (table : SelectRows) → IsEachAlone size reach → AreSelectRows direct inner reach table → IsSelectTable s Wanted size named table
+      pub select_table : (reach : Reach) (table : Reach) → IsEachAlone size reach → AreSelectRows direct inner reach table → IsSelectTable s Wanted size named table
       select_table reach table alone t = record {
-        count = t.rows.count ∙ g.count ∙ r.count;
+        count = t.reached.count ∙ g.count ∙ r.count;
         places = ap length t.places ∙ alone.places;
-        ordered = t.rows.ordered;
-        within = λ i p less c. let h = (t.rows.rows i (subst (λ u. i < u) (sym (g.count ∙ r.count)) less) p).0 c in (h.0, reaches_names h.1.0);
+        rows = t.rows;
+        within = λ i p less c. let h = (t.reached.rows i (subst (λ u. i < u) (sym (g.count ∙ r.count)) less) p).0 c in (h.0, reaches_names h.1.0);
         covers = λ i k li lk.
-            let row = t.rows.rows i (subst (λ u. i < u) (sym (g.count ∙ r.count)) li) (get_or table.places.items k 0) in
+            let row = t.reached.rows i (subst (λ u. i < u) (sym (g.count ∙ r.count)) li) (get_or table.places.items k 0) in
             let at : get_or table.places.items k 0 ≡ get_or reach.places.items k 0 = ap (λ (u : List ℕ). get_or u k 0) t.places in (
               λ c.
                   let h = row.0 c in
                   let p = reaches_names h.1.0 in
-                  let is : k ≡ h.0 = (alone.alone h.0 k p.0 lk).0 (subst (λ u. Covers (get_or (rows_of reach.rows) h.0 []) u) at h.1.1) in
+                  let is : k ≡ h.0 = (alone.alone h.0 k p.0 lk).0 (subst (λ u. Covers (get_or (table_of reach.rows) h.0 []) u) at h.1.1) in
                   subst (λ u. Wanted (named u) × SelectReaches s (type_named s i) (named u)) (sym is) p.1,
-              λ p. row.1 (k, (names_reach p.1 i k li lk refl refl p.0, subst (λ u. Covers (get_or (rows_of reach.rows) k []) u) (sym at) ((alone.alone k k lk lk).1 refl))),
+              λ p. row.1 (k, (names_reach p.1 i k li lk refl refl p.0, subst (λ u. Covers (get_or (table_of reach.rows) k []) u) (sym at) ((alone.alone k k lk lk).1 refl))),
             );
       }
 
 pub entity_at_place : (s : Schema) (k : ℕ) → k < length s.entities → IsEntity s (entity_named s k)
 entity_at_place s k lk = subst (λ (u : List ℕ). IsIn (all_names s) u) (name_at s k) (at_place (all_names s) k [] (subst (λ u. k < u) (sym (name_count s)) lk))
 
-pub entity_marks : (s : Schema) (table : SelectRows) (marks : List Bool) → IsSelectTable s (IsEntity s) (length s.entities) (entity_named s) table → length marks ≡ length (rows_of table.rows) → ((i : ℕ) → i < length (rows_of table.rows) → IsMarked marks i ↔ ((k : ℕ) × Covers (get_or (rows_of table.rows) i []) k)) → AreEntityMarks s marks
+pub entity_marks : (s : Schema) (table : Reach) (marks : List Bool) → IsSelectTable s (IsEntity s) (length s.entities) (entity_named s) table → length marks ≡ length (table_of table.rows) → ((i : ℕ) → i < length (table_of table.rows) → IsMarked marks i ↔ ((k : ℕ) × Covers (get_or (table_of table.rows) i []) k)) → AreEntityMarks s marks
 entity_marks s table marks t count h = record {
   count = count ∙ t.count;
   rows = λ i less.
@@ -369,7 +369,7 @@ entity_marks s table marks t count h = record {
 
 -- ---- what the tables tell
 
-pub entity_reached : (s : Schema) (table : SelectRows) (i k : ℕ) → IsSelectTable s (IsEntity s) (length s.entities) (entity_named s) table → i < length s.types → k < length s.entities → Covers (get_or (rows_of table.rows) i []) (get_or table.places.items k 0) ↔ SelectReaches s (type_named s i) (entity_named s k)
+pub entity_reached : (s : Schema) (table : Reach) (i k : ℕ) → IsSelectTable s (IsEntity s) (length s.entities) (entity_named s) table → i < length s.types → k < length s.entities → Covers (get_or (table_of table.rows) i []) (get_or table.places.items k 0) ↔ SelectReaches s (type_named s i) (entity_named s k)
 entity_reached s table i k t li lk =
     let row = t.covers i k li lk in
     (λ m. (row.0 m).1, λ h. row.1 (entity_at_place s k lk, h))
@@ -384,12 +384,12 @@ placed s names k n is h =
 type_at_place : (s : Schema) (k : ℕ) → k < length s.types → IsType s (type_named s k)
 type_at_place s k less = in_map (λ (t : Defined). t.name) s.types (get_or s.types k no_type) (at_place s.types k no_type less)
 
-pub type_reached : (s : Schema) (table : SelectRows) (i k : ℕ) (n : List ℕ) → IsSelectTable s (λ n. ¬ (IsSelect s n)) (length s.types) (type_named s) table → i < length s.types → k < length s.types → type_named s k ≡ n → Covers (get_or (rows_of table.rows) i []) (get_or table.places.items k 0) → ReachesType s (type_named s i) n
+pub type_reached : (s : Schema) (table : Reach) (i k : ℕ) (n : List ℕ) → IsSelectTable s (λ n. ¬ (IsSelect s n)) (length s.types) (type_named s) table → i < length s.types → k < length s.types → type_named s k ≡ n → Covers (get_or (table_of table.rows) i []) (get_or table.places.items k 0) → ReachesType s (type_named s i) n
 type_reached s table i k n t li lk is m =
     let h = (t.covers i k li lk).0 m in
     subst (λ (u : List ℕ). ReachesType s (type_named s i) u) is (record { type = type_at_place s k lk; plain = h.0; reached = h.1 })
 
-pub type_not_reached : (s : Schema) (table : SelectRows) (i k : ℕ) (n : List ℕ) → IsSelectTable s (λ n. ¬ (IsSelect s n)) (length s.types) (type_named s) table → i < length s.types → k < length s.types → type_named s k ≡ n → ¬ (Covers (get_or (rows_of table.rows) i []) (get_or table.places.items k 0)) → ¬ (ReachesType s (type_named s i) n)
+pub type_not_reached : (s : Schema) (table : Reach) (i k : ℕ) (n : List ℕ) → IsSelectTable s (λ n. ¬ (IsSelect s n)) (length s.types) (type_named s) table → i < length s.types → k < length s.types → type_named s k ≡ n → ¬ (Covers (get_or (table_of table.rows) i []) (get_or table.places.items k 0)) → ¬ (ReachesType s (type_named s i) n)
 type_not_reached s table i k n t li lk is m h =
     let g : ReachesType s (type_named s i) (type_named s k) = subst (λ (u : List ℕ). ReachesType s (type_named s i) u) (sym is) h in
     m ((t.covers i k li lk).1 (g.plain, g.reached))

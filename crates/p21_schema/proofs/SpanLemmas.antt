@@ -16,15 +16,11 @@ use Rattle.p21_schema.specs.declared.steps.Step.{Step}
 use Rattle.p21_schema.specs.Spans.{no_declaration, explicit_form, row_at, place_at, IsRangeOf, IsInSpan, IsSpanOf, AreSpans, no_span, IsBefore, AreInOrder, IsMetAt, AreMet}
 use Rattle.p21_schema.specs.Steps.{holds, first_at, step_at, AreRising}
 
--- a list of one
-single : {X : Type 0} (xs : List X) (x : X) → length xs ≡ 1 → x ≡ get_or xs 0 x → xs ≡ x ∷ []
-single [] x n e = absurd (omega arith)
-single {X} (y ∷ []) x n e = ap (λ (u : X). u ∷ []) (sym e)
-single (y ∷ z ∷ zs) x n e = absurd (omega arith)
-
 -- a row of one range
-pub one_range : (xs row : List Range) (r : Range) → xs ≡ row → length row ≡ 1 → r ≡ get_or row 0 r → (k : ℕ) → Covers xs k ↔ IsInRange r k
-one_range xs row r is n e k = subst (λ (u : List Range). Covers u k ↔ IsInRange r k) (sym (is ∙ single row r n e)) (covers_one r k)
+pub one_range : (xs : List Range) (d : Range) (k : ℕ) → length xs ≡ 1 → Covers xs k ↔ IsInRange (get_or xs 0 d) k
+one_range [] d k n = absurd (omega arith)
+one_range (r ∷ []) d k n = covers_one r k
+one_range (r ∷ s ∷ rs) d k n = absurd (omega arith)
 
 -- ---- the spans of more and more declarations
 

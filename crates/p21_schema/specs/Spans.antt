@@ -1,7 +1,7 @@
 -- The places at which the declarations of an attribute stand, as spans.
 use Rattle.std.specs.Prelude.{◌≡◌, ◌<◌, ◌≤◌, ◌+◌, ◌↔◌, ◌⊎◌, ℕ, Bool, true, false, List, [], ◌∷◌, Option, Some, None, IfSome, length, get_or, Vec}
 use Rattle.p21_express.specs.WellFormed.{IsIn}
-use Rattle.p21_graph.specs.Graph.{rows_of}
+use Rattle.p21_graph.specs.Rows.{table_of, AreRows}
 use Rattle.p21_graph.specs.Ranges.{Covers, IsInRange}
 use Rattle.p21_graph.specs.declared.ranges.Range.{Range}
 use Rattle.p21_graph.specs.declared.reach.Reach.{Reach}
@@ -23,19 +23,20 @@ explicit_form (coded.Explicit o e) = true
 
 -- the places of the entity that a declaration stands in, and of its descendants
 abbrev pub row_at : Reach → Coded → List Range
-row_at reach d = get_or (rows_of reach.rows) d.entity.index []
+row_at reach d = get_or (table_of reach.rows) d.entity.index []
 
 -- the place of that entity
 abbrev pub place_at : Reach → Coded → ℕ
 place_at reach d = get_or reach.places.items d.entity.index 0
 
--- each declaration stands in an entity that has a row and a place
-abbrev pub AreWithin : Reach → List Coded → Type 0
-AreWithin reach ds = (d : Coded) → IsIn ds d → (d.entity.index < length (rows_of reach.rows)) × (d.entity.index < length reach.places.items)
+-- what is reached is told by rows, and each declaration stands in an entity that has a row and a place
+pub record AreWithin (reach : Reach) (ds : List Coded) : Type 0 where
+  pub rows : AreRows reach.rows
+  pub each : (d : Coded) → IsIn ds d → (d.entity.index < length (table_of reach.rows)) × (d.entity.index < length reach.places.items)
 
 -- the row of an entity is one range, which ends with the entity's place
 pub record IsRangeOf (reach : Reach) (e : ℕ) (r : Range) : Type 0 where
-  pub covers : (k : ℕ) → Covers (get_or (rows_of reach.rows) e []) k ↔ IsInRange r k
+  pub covers : (k : ℕ) → Covers (get_or (table_of reach.rows) e []) k ↔ IsInRange r k
   pub ends : r.to ≡ get_or reach.places.items e 0 + 1
   pub order : r.from < r.to
 

@@ -32,4 +32,4 @@ pub record AreTables (a : Inside) : Type 0 where
   pub ends : AreEnds (schema_of a) a.ends.items
   pub resolved : AreResolved (map (λ e. e.name) (schema_of a).entities) (map (λ t. t.name) (schema_of a).types) a.unders.items (schema_of a).types
   pub items : AreNamesRows a.items.items (schema_of a).types
-  pub selects : AreSelectTables (schema_of a) a.selects
+  pub selects : AreSelectTables (schema_of a) (record { entities = a.reached_entities; admitted = a.admitted_entities; types = a.reached_types; any_entity = a.any_entity })

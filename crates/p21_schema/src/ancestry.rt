@@ -10,7 +10,7 @@ ghost use Rattle.p21_schema.specs.Ancestry.{AreNamed, AreSupertypesNamed, IsDesc
 use crate::ids::EntityId;
 use crate::names::Names;
 use p21_express::EntityDecl;
-use p21_graph::{Graph, Reach, order_beginning, order_from_above, turned};
+use p21_graph::{Graph, Reach, order_from_above, turned};
 use std::alloc::{AllocError, Global};
 
 /// The places of an entity's supertypes.
@@ -74,21 +74,5 @@ pub(crate) fn descents(alloc: Global, supertypes: &Graph) -> Result<Reach, Alloc
 {
     let subtypes = turned(alloc, supertypes)?;
     let order = order_from_above(alloc, &subtypes)?;
-    Reach::new(alloc, &subtypes, &order)
-}
-
-/// The same, where these entities and their descendants have the first places.
-pub(crate) fn descents_beginning(
-    alloc: Global,
-    supertypes: &Graph,
-    first: &[usize],
-) -> Result<Reach, AllocError>
-    requires edges { AreEdgesBelow (plain_graph supertypes.now) (length (plain_graph supertypes.now)) }
-    requires cycles { HasNoCycle (HasEdge (plain_graph supertypes.now)) }
-    requires first { (v : ℕ) → IsIn first.now v → v < length (plain_graph supertypes.now) }
-    ensures { IfOk result (λ reach. (s : Schema) → IsWellFormed s → AreSupertypesNamed (map (λ e. e.name) s.entities) (plain_graph supertypes.now) s.entities → IsDescentTable s reach) }
-{
-    let subtypes = turned(alloc, supertypes)?;
-    let order = order_beginning(alloc, &subtypes, first)?;
     Reach::new(alloc, &subtypes, &order)
 }

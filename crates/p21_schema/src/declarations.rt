@@ -14,10 +14,9 @@ use crate::ids::EntityId;
 use crate::names::Names;
 use crate::owners::{Owner, Owners, owner_at};
 use crate::resolved::{ResolvedExpr, resolve};
-use crate::rows::Own;
 use crate::rules::Rules;
 use p21_express::{AttrDecl, Declarations, DeriveDecl};
-use p21_graph::{Reach, Sources};
+use p21_graph::{Range, Reach, Sources};
 use std::alloc::{AllocError, Global};
 
 /// What a declaration makes of an attribute.
@@ -49,7 +48,7 @@ pub(crate) struct Known<'a> {
     pub(crate) entities: &'a Names,
     pub(crate) types: &'a Names,
     pub(crate) descents: &'a Reach,
-    pub(crate) own: &'a [Own],
+    pub(crate) own: &'a [Range],
     pub(crate) owners: &'a Owners,
 }
 

@@ -1,29 +1,30 @@
 //! The own attributes and the row of each entity.
 
-ghost use Rattle.std.specs.Prelude.{◌≡◌, ◌<◌, ◌≤◌, ◌+◌, ◌-◌, ◌++◌, ◌∷◌, ℕ, List, [], Some, slice_get, take, replicate, length, get_or, map, IfOk, OnOk};
+ghost use Rattle.std.specs.Prelude.{◌≡◌, ◌<◌, ◌≤◌, ◌+◌, ◌-◌, ◌++◌, ◌∷◌, ◌⊎◌, ℕ, List, [], Some, slice_get, take, drop, replicate, length, get_or, map, IfOk, OnOk};
+ghost use Rattle.std.specs.List.Sorted.{IsPartitionPoint, IsNonDecreasingBy};
 ghost use Rattle.p21_express.specs.Schema.{Schema};
 ghost use Rattle.p21_express.specs.Plain.{plain_entity, plain_schema};
 ghost use Rattle.p21_express.specs.WellFormed.{IsIn, AreDistinct, IsWellFormed, new_explicit};
 ghost use Rattle.p21_graph.specs.Graph.{rows_of, plain_graph, IsOrder};
-ghost use Rattle.p21_schema.specs.Ancestry.{AreSupertypesNamed};
-ghost use Rattle.p21_schema.specs.Row.{attributes_of};
-ghost use Rattle.p21_schema.specs.RowTable.{no_own, IsOwnTable, IsRowTable, kept, all_kept, ids_from, joined, first_of, row_in, AreIndicesOf, Begins, IsSharedRow, AreSharedRows, IsSamePosition, IsNextRow};
+ghost use Rattle.p21_graph.specs.Ranges.{AreUpward};
+ghost use Rattle.p21_graph.specs.Reach.{IsReach};
+ghost use Rattle.p21_graph.specs.declared.ranges.Range.{Range};
+ghost use Rattle.p21_schema.specs.Ancestry.{AreSupertypesNamed, IsDescentTable};
+ghost use Rattle.p21_schema.specs.Held.{HoldsRow, AreApart};
+ghost use Rattle.p21_schema.specs.OwnerRow.{AreOwners, AreOwnedBy, IsKnownRow};
+ghost use Rattle.p21_schema.specs.Pieces.{ids_from, ids_of, IsStretch};
+ghost use Rattle.p21_schema.specs.Row.{attributes_of, IsAttributeOf};
+ghost use Rattle.p21_schema.specs.RowTable.{no_own, IsOwnTable, IsRowAt, IsRowTable, all_kept, joined, first_of, row_in, Begins, IsSharedRow, AreSharedRows, IsNextRow};
 ghost use Rattle.p21_schema.specs.declared.ids.AttrId.{AttrId};
 ghost use Rattle.p21_schema.specs.declared.rows.Row.{Row};
 
 use crate::declarations::Declaration;
+use crate::held::Held;
 use crate::ids::AttrId;
+use crate::pieces::{Piece, count, piece_at, pieces, push_ids};
 use p21_express::{Declarations, EntityDecl};
-use p21_graph::{Graph, places};
+use p21_graph::{Graph, Range, Reach, places};
 use std::alloc::{AllocError, Global};
-use std::collections::BTreeSet;
-
-/// The attributes that an entity newly declares, from one place up to another among those of all entities.
-#[derive(Clone, Copy, Debug)]
-pub(crate) struct Own {
-    pub(crate) from: usize,
-    pub(crate) to: usize,
-}
 
 /// One empty list more for each explicit attribute that an entity newly declares.
 fn push_lists(
@@ -41,11 +42,11 @@ fn push_lists(
     Ok(())
 }
 
-/// Where the own attributes of each entity stand, and an empty list for each attribute.
+/// Where the own attributes of each entity stand among those of all entities, and an empty list for each attribute.
 pub(crate) fn own_attributes(
     alloc: Global,
     declarations: &Declarations,
-) -> Result<(Vec<Own>, Vec<Vec<Declaration>>), AllocError>
+) -> Result<(Vec<Range>, Vec<Vec<Declaration>>), AllocError>
     ensures own { IfOk result (λ r. IsOwnTable (plain_schema declarations.now) r.0.items) }
     ensures lists { IfOk result (λ r. rows_of r.1 ≡ replicate (length (attributes_of (plain_schema declarations.now).entities)) []) }
 {
@@ -55,88 +56,18 @@ pub(crate) fn own_attributes(
         let from = lists.len();
         push_lists(alloc, &mut lists, entity)?;
         let to = lists.len();
-        table.push(Own { from, to })?;
+        table.push(Range { from, to })?;
     }
     Ok((table, lists))
 }
 
-/// The indices of the attributes of a row.
-fn indices_of(alloc: Global, row: &[AttrId]) -> Result<BTreeSet<usize>, AllocError>
-    ensures { IfOk result (λ indices. AreIndicesOf indices row.now) }
-{
-    let mut indices = BTreeSet::new(alloc);
-    for attribute in row {
-        indices.insert(attribute.index)?;
-    }
-    Ok(indices)
-}
-
-/// An attribute behind the others of a row, of which these are the indices, where it does not stand among them.
-fn keep(
-    row: &mut Vec<AttrId>,
-    indices: &mut BTreeSet<usize>,
-    attribute: AttrId,
-) -> Result<(), AllocError>
-    requires { AreIndicesOf indices.old row.old.items }
-    ensures row { OnOk result (row.new.items ≡ kept row.old.items attribute) }
-    ensures indices { OnOk result (AreIndicesOf indices.new row.new.items) }
-{
-    if indices.insert(attribute.index)? {
-        row.push(attribute)?;
-    }
-    Ok(())
-}
-
-/// With how many of the same attributes two rows begin.
-fn common(row: &[AttrId], attributes: &[AttrId]) -> usize
-    ensures within { result ≤ length attributes.now }
-    ensures same { take result attributes.now ≡ take result row.now }
-{
-    for position in 0..attributes.len() {
-        if position >= row.len() || row[position] != attributes[position] {
-            return position;
-        }
-    }
-    attributes.len()
-}
-
-/// Each of these attributes behind the others, where it does not stand among them.
-fn keep_each(
-    row: &mut Vec<AttrId>,
-    indices: &mut BTreeSet<usize>,
-    attributes: &[AttrId],
-) -> Result<(), AllocError>
-    requires { AreIndicesOf indices.old row.old.items }
-    ensures row { OnOk result (row.new.items ≡ all_kept row.old.items attributes.now) }
-    ensures indices { OnOk result (AreIndicesOf indices.new row.new.items) }
-{
-    for attribute in attributes {
-        keep(row, indices, *attribute)?;
-    }
-    Ok(())
-}
-
-/// The same, where those with which both begin are passed at once.
-fn keep_all(
-    row: &mut Vec<AttrId>,
-    indices: &mut BTreeSet<usize>,
-    attributes: &[AttrId],
-) -> Result<(), AllocError>
-    requires { AreIndicesOf indices.old row.old.items }
-    ensures row { OnOk result (row.new.items ≡ all_kept row.old.items attributes.now) }
-    ensures indices { OnOk result (AreIndicesOf indices.new row.new.items) }
-{
-    let same = common(row, attributes);
-    keep_each(row, indices, &attributes[same..])
-}
-
-/// The row of an entity: it begins with so many attributes of an earlier row, and then has the rest. So a long row that many
-/// entities have in common stands once.
+/// The row of an entity. It begins with the whole row of a supertype, the first one whose row has an attribute; the rest is behind that.
+/// So what rows have in common stands once.
 #[derive(Drop)]
 pub(crate) struct Row {
     /// How many attributes it has.
     count: usize,
-    /// With how many attributes of the row above it begins.
+    /// How many of them the row above has: it begins with these.
     shared: usize,
     /// The place of the row above.
     above: usize,
@@ -144,18 +75,22 @@ pub(crate) struct Row {
     far: usize,
     /// How many links there are above it.
     depth: usize,
-    rest: Vec<AttrId>,
+    /// The rest, by pieces.
+    pieces: Vec<Piece>,
+    /// All attributes, where these are few.
+    ids: Vec<AttrId>,
 }
 
-/// The longest row that is copied, so that it is found without a link.
+/// The longest row that has its attributes by itself too, so that each is found without a link.
 const SHORT: usize = 32;
 
-/// The place of an earlier row that has this attribute at this position too.
+/// The place of an earlier row that has an attribute at this position too, and with all attributes of which this one begins.
 fn further_up(rows: &[Row], place: usize, position: usize) -> usize
     requires place { place < length rows.now }
     requires rows { (all : List (List AttrId)) × (AreSharedRows all rows.now × ((d : Row) → position < (get_or rows.now place d).shared)) }
     ensures earlier { result < place }
-    ensures same { (all : List (List AttrId)) → AreSharedRows all rows.now → IsSamePosition all place result position }
+    ensures there { (all : List (List AttrId)) → AreSharedRows all rows.now → position < length (get_or all result []) }
+    ensures begins { (all : List (List AttrId)) → AreSharedRows all rows.now → Begins (get_or all result []) (get_or all place []) }
 {
     let row = &rows[place];
     if position < rows[row.far].count {
@@ -165,55 +100,194 @@ fn further_up(rows: &[Row], place: usize, position: usize) -> usize
     }
 }
 
-/// The attribute at a position of the row at a place.
-fn attribute(rows: &[Row], place: usize, position: usize) -> AttrId
+/// The piece of the row at a place in which a position lies.
+fn piece(rows: &[Row], place: usize, position: usize) -> Piece
     requires { (all : List (List AttrId)) × (AreSharedRows all rows.now × ((place < length rows.now) × (position < length (get_or all place [])))) }
-    ensures { (all : List (List AttrId)) → AreSharedRows all rows.now → position < length (get_or all place []) → slice_get (get_or all place []) position ≡ Some result }
+    ensures position { position < result.end }
+    ensures indices { result.end - position ≤ result.range.to }
+    ensures ids { (all : List (List AttrId)) → AreSharedRows all rows.now → position < length (get_or all place []) → IsStretch (get_or all place []) position result.end (result.range.to - (result.end - position)) }
 {
     let mut place = place;
     while position < rows[place].shared {
         place = further_up(rows, place, position);
     }
-    let row = &rows[place];
-    row.rest[position - row.shared]
+    piece_at(&rows[place].pieces, position)
 }
 
-/// The whole row at a place.
-fn whole(alloc: Global, rows: &[Row], place: usize) -> Result<Vec<AttrId>, AllocError>
-    requires { (all : List (List AttrId)) × (AreSharedRows all rows.now × (place < length rows.now)) }
-    ensures { IfOk result (λ ids. (all : List (List AttrId)) → AreSharedRows all rows.now → ids.items ≡ get_or all place []) }
+/// The attribute at a position of the row at a place.
+fn attribute(rows: &[Row], place: usize, position: usize) -> AttrId
+    requires { (all : List (List AttrId)) × (AreSharedRows all rows.now × ((place < length rows.now) × (position < length (get_or all place [])))) }
+    ensures { (all : List (List AttrId)) → AreSharedRows all rows.now → position < length (get_or all place []) → slice_get (get_or all place []) position ≡ Some result }
+{
+    let row = &rows[place];
+    if position < row.ids.len() {
+        return row.ids[position];
+    }
+    let piece = piece(rows, place, position);
+    AttrId {
+        index: piece.from_position(position).from,
+    }
+}
+
+/// Attributes that one entity newly declares.
+#[derive(Clone, Copy)]
+struct Part {
+    /// The place of that entity.
+    owner: usize,
+    range: Range,
+}
+
+/// How many entities' own attributes begin at an index or before it.
+fn begun(own: &[Range], index: usize) -> usize
+    requires { IsNonDecreasingBy (λ (r : Range). r.from) own.now }
+    ensures within { result ≤ length own.now }
+    ensures begun { IsPartitionPoint (λ (r : Range). r.from ≤ index) (λ (r : Range). index < r.from) own.now result }
+{
+    own.partition_point(|range| range.from <= index)
+}
+
+/// The first attributes of a range, as far as one entity newly declares them: the last whose own attributes begin where the range does
+/// or before it, since those of an entity without any begin where the next one's do.
+fn first_part(own: &[Range], range: Range) -> Part
+    requires owners { AreOwners own.now }
+    requires some { 1 ≤ length own.now }
+    requires forward { range.from < range.to }
+    ensures owner { result.owner < length own.now }
+    ensures from { result.range.from ≡ range.from }
+    ensures further { range.from < result.range.to }
+    ensures within { result.range.to ≤ range.to }
+    ensures owned { (s : Schema) → IsOwnTable s own.now → AreOwnedBy s result.owner result.range }
+{
+    let begun = begun(own, range.from);
+    let to = if begun < own.len() {
+        own[begun].from.min(range.to)
+    } else {
+        range.to
+    };
+    Part {
+        owner: begun - 1,
+        range: Range {
+            from: range.from,
+            to,
+        },
+    }
+}
+
+/// These attributes behind others, but those that stand among these, and none of them where the first entity descends from the one
+/// that newly declares them: then they stand in its row.
+fn keep_part(
+    descents: &Reach,
+    first: usize,
+    part: Part,
+    held: &mut Held,
+    kept: &mut Vec<Range>,
+) -> Result<(), AllocError>
+    requires descents { (g : List (List ℕ)) × (IsReach g descents.now × ((part.owner < length g) × (first < length g))) }
+    requires apart { AreApart held.old.ends }
+    ensures apart { OnOk result (AreApart held.new.ends) }
+    ensures upward { OnOk result (AreUpward kept.old.items → AreUpward kept.new.items) }
+    ensures kept { OnOk result ((s : Schema) (row : List AttrId) → IsWellFormed s → IsDescentTable s descents.now → part.owner < length s.entities → first < length s.entities → IsRowAt s first row → AreOwnedBy s part.owner part.range
+        → ((a : AttrId) → IsIn (ids_from part.range.from (part.range.to - part.range.from)) a → IsAttributeOf s a) → HoldsRow held.old (ids_of kept.old.items)
+        → (row ++ ids_of kept.new.items ≡ all_kept (row ++ ids_of kept.old.items) (ids_from part.range.from (part.range.to - part.range.from))) × HoldsRow held.new (ids_of kept.new.items)) }
+{
+    if descents.has(part.owner, first) {
+        return Ok(());
+    }
+    held.keep(kept, part.range)
+}
+
+/// The attributes of the row at a place behind others, but those that stand among these or in the row of the first entity.
+fn keep_row(
+    rows: &[Row],
+    place: usize,
+    own: &[Range],
+    descents: &Reach,
+    first: usize,
+    held: &mut Held,
+    kept: &mut Vec<Range>,
+) -> Result<(), AllocError>
+    requires rows { (all : List (List AttrId)) × (AreSharedRows all rows.now × (place < length rows.now)) }
+    requires owners { AreOwners own.now }
+    requires descents { (g : List (List ℕ)) × (IsReach g descents.now × (length g ≡ length own.now)) }
+    requires first { first < length own.now }
+    requires apart { AreApart held.old.ends }
+    requires upward { AreUpward kept.old.items }
+    ensures apart { OnOk result (AreApart held.new.ends) }
+    ensures upward { OnOk result (AreUpward kept.new.items) }
+    ensures kept { OnOk result ((s : Schema) (all : List (List AttrId)) (row : List AttrId) → IsKnownRow s own.now descents.now first row → AreSharedRows all rows.now
+        → ((a : AttrId) → IsIn (get_or all place []) a → IsAttributeOf s a) → HoldsRow held.old (ids_of kept.old.items)
+        → (row ++ ids_of kept.new.items ≡ all_kept (row ++ ids_of kept.old.items) (get_or all place [])) × HoldsRow held.new (ids_of kept.new.items)) }
 {
     let count = rows[place].count;
-    let mut ids = Vec::with_capacity(alloc, count)?;
-    for position in 0..count {
-        ids.push(attribute(rows, place, position))?;
-    }
-    Ok(ids)
-}
-
-/// The own attributes behind others.
-fn push_own(row: &mut Vec<AttrId>, own: Own) -> Result<(), AllocError>
-    requires { own.from ≤ own.to }
-    ensures { OnOk result (row.new.items ≡ row.old.items ++ ids_from own.from (own.to - own.from)) }
-{
-    for index in own.from..own.to {
-        row.push(AttrId { index })?;
+    let mut position = 0;
+    while position < count {
+        let piece = piece(rows, place, position);
+        let part = first_part(own, piece.from_position(position));
+        position += part.range.to - part.range.from;
+        keep_part(descents, first, part, held, kept)?;
     }
     Ok(())
 }
 
-/// The row at a place that shares nothing.
-fn alone(place: usize, ids: Vec<AttrId>) -> Row
-    ensures { (all : List (List AttrId)) → length all ≡ place → IsSharedRow (all ++ ids.items ∷ []) place result }
+/// What the rows of these supertypes have that the first one's has not. That one's row is not gone through: an attribute stands in it
+/// where the first supertype is the entity that newly declares the attribute, or descends from it.
+fn others(
+    alloc: Global,
+    supertypes: &[usize],
+    places: &[usize],
+    rows: &[Row],
+    own: &[Range],
+    descents: &Reach,
+) -> Result<Vec<Range>, AllocError>
+    requires some { 1 ≤ length supertypes.now }
+    requires supertypes { (e : ℕ) → IsIn supertypes.now e → (e < length places.now) × (get_or places.now e 0 < length rows.now) }
+    requires rows { (all : List (List AttrId)) × AreSharedRows all rows.now }
+    requires count { length own.now ≡ length places.now }
+    requires owners { AreOwners own.now }
+    requires descents { (g : List (List ℕ)) × (IsReach g descents.now × (length g ≡ length own.now)) }
+    ensures upward { IfOk result (λ others. AreUpward others.items) }
+    ensures others { IfOk result (λ others. (s : Schema) (all : List (List AttrId)) → IsWellFormed s → IsOwnTable s own.now → IsDescentTable s descents.now → ((e : ℕ) → IsIn supertypes.now e → IsRowAt s e (row_in all places.now e)) → AreSharedRows all rows.now
+        → first_of (row_in all places.now) supertypes.now ++ ids_of others.items ≡ all_kept (first_of (row_in all places.now) supertypes.now) (joined (row_in all places.now) supertypes.now)) }
 {
-    Row {
-        count: ids.len(),
-        shared: 0,
-        above: place,
-        far: place,
-        depth: 0,
-        rest: ids,
+    let first = supertypes[0];
+    let mut held = Held::new(alloc);
+    let mut others = Vec::new(alloc);
+    for supertype in &supertypes[1..] {
+        let place = places[*supertype];
+        keep_row(rows, place, own, descents, first, &mut held, &mut others)?;
     }
+    Ok(others)
+}
+
+/// What the row of an entity has behind that of the first of these supertypes: what the others have beside it, and its own attributes.
+fn rest(
+    alloc: Global,
+    supertypes: &[usize],
+    places: &[usize],
+    rows: &[Row],
+    entity: usize,
+    own: &[Range],
+    descents: &Reach,
+) -> Result<Vec<Range>, AllocError>
+    requires supertypes { (e : ℕ) → IsIn supertypes.now e → (e < length places.now) × (get_or places.now e 0 < length rows.now) }
+    requires rows { (all : List (List AttrId)) × AreSharedRows all rows.now }
+    requires count { length own.now ≡ length places.now }
+    requires owners { AreOwners own.now }
+    requires descents { (g : List (List ℕ)) × (IsReach g descents.now × (length g ≡ length own.now)) }
+    requires entity { entity < length own.now }
+    requires own { (get_or own.now entity no_own).from ≤ (get_or own.now entity no_own).to }
+    ensures upward { IfOk result (λ rest. AreUpward rest.items) }
+    ensures rest { IfOk result (λ rest. (s : Schema) (all : List (List AttrId)) → IsWellFormed s → IsOwnTable s own.now → IsDescentTable s descents.now → ((e : ℕ) → IsIn supertypes.now e → IsRowAt s e (row_in all places.now e)) → AreSharedRows all rows.now
+        → first_of (row_in all places.now) supertypes.now ++ ids_of rest.items ≡ all_kept (first_of (row_in all places.now) supertypes.now) (joined (row_in all places.now) supertypes.now)
+        ++ ids_from (get_or own.now entity no_own).from ((get_or own.now entity no_own).to - (get_or own.now entity no_own).from)) }
+{
+    let mut rest = if supertypes.len() > 1 {
+        others(alloc, supertypes, places, rows, own, descents)?
+    } else {
+        Vec::new(alloc)
+    };
+    rest.push(own[entity])?;
+    Ok(rest)
 }
 
 /// The row over several links at once for one that is linked to the row at this place. Links over links lead far up, so that a row
@@ -234,98 +308,91 @@ fn far_above(rows: &[Row], above: usize) -> usize
     }
 }
 
-/// The row that is linked to another, and has so many attributes.
-fn linked(
+/// The attributes of a row of so many, which are those of another and these behind them, where they are few.
+fn few(
     alloc: Global,
-    rows: &[Row],
-    above: usize,
-    own: Own,
     count: usize,
-) -> Result<Row, AllocError>
-    requires above { above < length rows.now }
-    requires own { own.from ≤ own.to }
-    requires rows { (all : List (List AttrId)) × (AreSharedRows all rows.now × (count ≡ length (get_or all above []) + (own.to - own.from))) }
-    ensures { IfOk result (λ row. (all : List (List AttrId)) → AreSharedRows all rows.now → IsSharedRow (all ++ (get_or all above [] ++ ids_from own.from (own.to - own.from)) ∷ []) (length rows.now) row) }
+    front: &[AttrId],
+    rest: &[Range],
+) -> Result<Vec<AttrId>, AllocError>
+    requires { AreUpward rest.now }
+    ensures { IfOk result (λ ids. (ids.items ≡ []) ⊎ (ids.items ≡ front.now ++ ids_of rest.now)) }
 {
-    let mut rest = Vec::new(alloc);
-    push_own(&mut rest, own)?;
+    if count > SHORT {
+        return Ok(Vec::new(alloc));
+    }
+    let mut ids = Vec::with_capacity(alloc, count)?;
+    ids.extend_from_slice(front)?;
+    push_ids(&mut ids, rest)?;
+    Ok(ids)
+}
+
+/// The row at a place that has these attributes and shares none.
+fn top(alloc: Global, place: usize, rest: &[Range]) -> Result<Row, AllocError>
+    requires { AreUpward rest.now }
+    ensures { IfOk result (λ row. (all : List (List AttrId)) → length all ≡ place → IsSharedRow (all ++ ids_of rest.now ∷ []) place row) }
+{
+    let Some(count) = count(0, rest) else {
+        return Err(AllocError);
+    };
+    Ok(Row {
+        count,
+        shared: 0,
+        above: place,
+        far: place,
+        depth: 0,
+        pieces: pieces(alloc, 0, rest)?,
+        ids: few(alloc, count, &[], rest)?,
+    })
+}
+
+/// The row behind all rows that begins with the one at a place, and has these attributes behind it.
+fn below(alloc: Global, rows: &[Row], above: usize, rest: &[Range]) -> Result<Row, AllocError>
+    requires above { above < length rows.now }
+    requires upward { AreUpward rest.now }
+    requires rows { (all : List (List AttrId)) × AreSharedRows all rows.now }
+    ensures { IfOk result (λ row. (all : List (List AttrId)) → AreSharedRows all rows.now → IsSharedRow (all ++ (get_or all above [] ++ ids_of rest.now) ∷ []) (length rows.now) row) }
+{
     let up = &rows[above];
+    let Some(count) = count(up.count, rest) else {
+        return Err(AllocError);
+    };
+    let ids = if up.ids.len() == up.count {
+        few(alloc, count, &up.ids, rest)?
+    } else {
+        Vec::new(alloc)
+    };
     Ok(Row {
         count,
         shared: up.count,
         above,
         far: far_above(rows, above),
         depth: up.depth.wrapping_add(1),
-        rest,
+        pieces: pieces(alloc, up.count, rest)?,
+        ids,
     })
 }
 
-/// The row that begins with a copy of another.
-fn copied(alloc: Global, rows: &[Row], above: usize, own: Own) -> Result<Row, AllocError>
-    requires above { above < length rows.now }
-    requires own { own.from ≤ own.to }
-    requires rows { (all : List (List AttrId)) × AreSharedRows all rows.now }
-    ensures { IfOk result (λ row. (all : List (List AttrId)) → AreSharedRows all rows.now → IsSharedRow (all ++ (get_or all above [] ++ ids_from own.from (own.to - own.from)) ∷ []) (length rows.now) row) }
+/// How many supertypes there are before the first whose row has an attribute.
+fn empty(supertypes: &[usize], places: &[usize], rows: &[Row]) -> usize
+    requires supertypes { (e : ℕ) → IsIn supertypes.now e → (e < length places.now) × (get_or places.now e 0 < length rows.now) }
+    ensures within { result ≤ length supertypes.now }
+    ensures empty { (all : List (List AttrId)) → AreSharedRows all rows.now → (e : ℕ) → IsIn (take result supertypes.now) e → row_in all places.now e ≡ [] }
 {
-    let mut ids = whole(alloc, rows, above)?;
-    push_own(&mut ids, own)?;
-    Ok(alone(rows.len(), ids))
-}
-
-/// The row of an entity with one supertype: that one's row, and its own attributes.
-fn below(alloc: Global, rows: &[Row], above: usize, own: Own) -> Result<Row, AllocError>
-    requires above { above < length rows.now }
-    requires own { own.from ≤ own.to }
-    requires rows { (all : List (List AttrId)) × AreSharedRows all rows.now }
-    ensures { IfOk result (λ row. (all : List (List AttrId)) → AreSharedRows all rows.now → IsSharedRow (all ++ (get_or all above [] ++ ids_from own.from (own.to - own.from)) ∷ []) (length rows.now) row) }
-{
-    let shared = rows[above].count;
-    if shared > SHORT {
-        if let Some(count) = shared.checked_add(own.to - own.from) {
-            return linked(alloc, rows, above, own, count);
+    for index in 0..supertypes.len() {
+        if rows[places[supertypes[index]]].count > 0 {
+            return index;
         }
     }
-    copied(alloc, rows, above, own)
+    supertypes.len()
 }
 
-/// The row of the first supertype, where there is one.
-fn first_row(
-    alloc: Global,
-    supertypes: &[usize],
-    places: &[usize],
-    rows: &[Row],
-) -> Result<Vec<AttrId>, AllocError>
+/// The supertypes from the first on whose row has an attribute.
+fn with_attributes<'s>(supertypes: &'s [usize], places: &[usize], rows: &[Row]) -> &'s [usize]
     requires supertypes { (e : ℕ) → IsIn supertypes.now e → (e < length places.now) × (get_or places.now e 0 < length rows.now) }
-    requires rows { (all : List (List AttrId)) × AreSharedRows all rows.now }
-    ensures { IfOk result (λ row. (all : List (List AttrId)) → AreSharedRows all rows.now → row.items ≡ first_of (row_in all places.now) supertypes.now) }
+    ensures { (empty : ℕ) × ((result.now ≡ drop empty supertypes.now) × ((all : List (List AttrId)) → AreSharedRows all rows.now → (e : ℕ) → IsIn (take empty supertypes.now) e → row_in all places.now e ≡ [])) }
 {
-    if supertypes.is_empty() {
-        return Ok(Vec::new(alloc));
-    }
-    whole(alloc, rows, places[supertypes[0]])
-}
-
-/// The row of an entity by those of its supertypes: the first one's, of the others what does not stand there, and its own attributes.
-fn row_of(
-    alloc: Global,
-    supertypes: &[usize],
-    places: &[usize],
-    rows: &[Row],
-    own: Own,
-) -> Result<Row, AllocError>
-    requires supertypes { (e : ℕ) → IsIn supertypes.now e → (e < length places.now) × (get_or places.now e 0 < length rows.now) }
-    requires own { own.from ≤ own.to }
-    requires rows { (all : List (List AttrId)) × AreSharedRows all rows.now }
-    ensures { IfOk result (λ row. (all : List (List AttrId)) → AreSharedRows all rows.now → IsSharedRow (all ++ (all_kept (first_of (row_in all places.now) supertypes.now) (joined (row_in all places.now) supertypes.now) ++ ids_from own.from (own.to - own.from)) ∷ []) (length rows.now) row) }
-{
-    let mut row = first_row(alloc, supertypes, places, rows)?;
-    let mut indices = indices_of(alloc, &row)?;
-    for supertype in supertypes {
-        let ids = whole(alloc, rows, places[*supertype])?;
-        keep_all(&mut row, &mut indices, &ids)?;
-    }
-    push_own(&mut row, own)?;
-    Ok(alone(rows.len(), row))
+    &supertypes[empty(supertypes, places, rows)..]
 }
 
 /// The row of the next entity, by those of its supertypes.
@@ -334,17 +401,26 @@ fn next_row(
     supertypes: &[usize],
     places: &[usize],
     rows: &[Row],
-    own: Own,
+    entity: usize,
+    own: &[Range],
+    descents: &Reach,
 ) -> Result<Row, AllocError>
     requires supertypes { (e : ℕ) → IsIn supertypes.now e → (e < length places.now) × (get_or places.now e 0 < length rows.now) }
-    requires own { own.from ≤ own.to }
     requires rows { (all : List (List AttrId)) × AreSharedRows all rows.now }
-    ensures { IfOk result (λ row. (all : List (List AttrId)) → AreSharedRows all rows.now → (ids : List AttrId) × (IsNextRow (row_in all places.now) supertypes.now own ids × IsSharedRow (all ++ ids ∷ []) (length rows.now) row)) }
+    requires count { length own.now ≡ length places.now }
+    requires owners { AreOwners own.now }
+    requires descents { (g : List (List ℕ)) × (IsReach g descents.now × (length g ≡ length own.now)) }
+    requires entity { entity < length own.now }
+    requires own { (get_or own.now entity no_own).from ≤ (get_or own.now entity no_own).to }
+    ensures { IfOk result (λ row. (all : List (List AttrId)) → AreSharedRows all rows.now → (ids : List AttrId) × (IsSharedRow (all ++ ids ∷ []) (length rows.now) row
+        × ((s : Schema) → IsWellFormed s → IsOwnTable s own.now → IsDescentTable s descents.now → ((e : ℕ) → IsIn supertypes.now e → IsRowAt s e (row_in all places.now e)) → IsNextRow (row_in all places.now) supertypes.now (get_or own.now entity no_own) ids))) }
 {
-    if supertypes.len() == 1 {
-        below(alloc, rows, places[supertypes[0]], own)
+    let behind = with_attributes(supertypes, places, rows);
+    let rest = rest(alloc, behind, places, rows, entity, own, descents)?;
+    if behind.is_empty() {
+        top(alloc, rows.len(), &rest)
     } else {
-        row_of(alloc, supertypes, places, rows, own)
+        below(alloc, rows, places[behind[0]], &rest)
     }
 }
 
@@ -360,7 +436,8 @@ impl Rows {
     pub(crate) fn new(
         alloc: Global,
         graph: &Graph,
-        own: &[Own],
+        own: &[Range],
+        descents: &Reach,
         order: &[usize],
     ) -> Result<Rows, AllocError>
         requires order { IsOrder (plain_graph graph.now) order.now }
@@ -368,12 +445,15 @@ impl Rows {
         requires all { (v : ℕ) → v < length (plain_graph graph.now) → IsIn order.now v }
         requires count { length own.now ≡ length (plain_graph graph.now) }
         requires own { (v : ℕ) → v < length own.now → (get_or own.now v no_own).from ≤ (get_or own.now v no_own).to }
-        ensures { IfOk result (λ rows. (s : Schema) → IsWellFormed s → AreSupertypesNamed (map (λ e. e.name) s.entities) (plain_graph graph.now) s.entities → IsOwnTable s own.now → IsRowTable s rows) }
+        requires owners { AreOwners own.now }
+        requires descents { (g : List (List ℕ)) × (IsReach g descents.now × (length g ≡ length own.now)) }
+        ensures { IfOk result (λ rows. (s : Schema) → IsWellFormed s → AreSupertypesNamed (map (λ e. e.name) s.entities) (plain_graph graph.now) s.entities → IsOwnTable s own.now → IsDescentTable s descents.now → IsRowTable s rows) }
     {
         let places = places(alloc, order, graph.len())?;
         let mut rows = Vec::with_capacity(alloc, graph.len())?;
         for entity in order {
-            let row = next_row(alloc, &graph[*entity], &places, &rows, own[*entity])?;
+            let supertypes = &graph[*entity];
+            let row = next_row(alloc, supertypes, &places, &rows, *entity, own, descents)?;
             rows.push(row)?;
         }
         Ok(Rows { places, rows })

@@ -10,13 +10,13 @@ use crate::items::{is_among, item_rows};
 use crate::names::{Names, entity_names, type_names};
 use crate::owners::Owners;
 use crate::resolved::Resolved;
-use crate::rows::{Own, Rows, own_attributes};
+use crate::rows::{Rows, own_attributes};
 use crate::rules::Rules;
-use crate::selects::{Selects, select_tables};
+use crate::selects::{has, select_tables};
 use crate::steps::Step;
 use crate::under::{resolved, type_ends};
 use p21_express::Declarations;
-use p21_graph::{Reach, order};
+use p21_graph::{Range, Reach, order};
 use p21_hash::HashKey;
 use std::alloc::{AllocError, Global};
 use std::marker::Model;
@@ -30,7 +30,8 @@ pub struct Schema {
     supertypes: Vec<Vec<EntityId>>,
     /// For each entity which entities descend from it.
     descents: Reach,
-    own: Vec<Own>,
+    /// Where the attributes that each entity newly declares stand among those of all entities.
+    own: Vec<Range>,
     rows: Rows,
     /// For each attribute its declarations.
     attributes: Vec<Vec<Declaration>>,
@@ -42,7 +43,14 @@ pub struct Schema {
     unders: Vec<Resolved>,
     /// For each type the items of its ENUMERATION in the order of their bytes.
     items: Vec<Vec<Vec<u8>>>,
-    selects: Selects,
+    /// For each type which entities it reaches, where it is a SELECT.
+    reached_entities: Reach,
+    /// For each type the entities that it reaches, where it is a SELECT, and their descendants.
+    admitted_entities: Reach,
+    /// For each type which types that are no SELECT it reaches, where it is one.
+    reached_types: Reach,
+    /// For each type whether it is a SELECT that reaches an entity.
+    any_entity: Vec<bool>,
 }
 
 impl Model for Schema {
@@ -78,7 +86,10 @@ impl Drop for Schema {
             ends: _,
             unders: _,
             items: _,
-            selects: _,
+            reached_entities: _,
+            admitted_entities: _,
+            reached_types: _,
+            any_entity: _,
         } = self;
     }
 }
@@ -128,7 +139,7 @@ impl Schema {
         let order = order(alloc, &graph)?;
         let descents = descents(alloc, &graph)?;
         let (own, lists) = own_attributes(alloc, &declarations)?;
-        let rows = Rows::new(alloc, &graph, &own, &order)?;
+        let rows = Rows::new(alloc, &graph, &own, &descents, &order)?;
         let supertypes = supertype_ids(alloc, &graph)?;
         let type_names = type_names(alloc, key, &declarations.types)?;
         let ends = type_ends(alloc, &type_names, &declarations.types)?;
@@ -145,7 +156,7 @@ impl Schema {
         };
         let attributes = all_declarations(alloc, &known, lists)?;
         let bindings = all_bindings(alloc, &descents, &attributes)?;
-        let selects = select_tables(alloc, &unders, &graph, &descents)?;
+        let selects = select_tables(alloc, &unders, &descents)?;
         let items = item_rows(alloc, &declarations.types)?;
         Ok(Schema {
             declarations,
@@ -161,7 +172,10 @@ impl Schema {
             ends,
             unders,
             items,
-            selects,
+            reached_entities: selects.entities,
+            admitted_entities: selects.admitted,
+            reached_types: selects.types,
+            any_entity: selects.any_entity,
         })
     }
 
@@ -334,7 +348,7 @@ impl Schema {
         ensures { MatchOption result (¬ (ReachesType self.now (type_name self.now select) name.now)) (λ t. IsTypeOf self.now t × ((type_name self.now t ≡ name.now) × ReachesType self.now (type_name self.now select) name.now)) }
     {
         let index = self.type_names.place(name)?;
-        if self.selects.types.has(select.index, index) {
+        if has(&self.reached_types, select.index, index) {
             Some(TypeId { index })
         } else {
             None
@@ -347,7 +361,7 @@ impl Schema {
         requires entity { IsEntityOf self.now entity }
         ensures { IsTrue result ↔ SelectReaches self.now (type_name self.now select) (entity_name self.now entity) }
     {
-        self.selects.entities.has(select.index, entity.index)
+        has(&self.reached_entities, select.index, entity.index)
     }
 
     /// Whether the SELECT reaches the entity or an ancestor of it.
@@ -356,7 +370,7 @@ impl Schema {
         requires entity { IsEntityOf self.now entity }
         ensures { IsTrue result ↔ ReachesA self.now (type_name self.now select) (entity_name self.now entity) }
     {
-        self.selects.admitted.has(select.index, entity.index)
+        has(&self.admitted_entities, select.index, entity.index)
     }
 
     /// Whether the SELECT reaches an entity.
@@ -364,6 +378,6 @@ impl Schema {
         requires { IsTypeOf self.now select }
         ensures { IsTrue result ↔ ReachesEntity self.now (type_name self.now select) }
     {
-        self.selects.any_entity[select.index]
+        self.any_entity[select.index]
     }
 }

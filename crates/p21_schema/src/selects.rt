@@ -3,52 +3,39 @@
 ghost use Rattle.std.specs.Prelude.{◌≡◌, ◌<◌, ◌↔◌, ℕ, List, [], length, get_or, map, IfOk, IsTrue};
 ghost use Rattle.p21_express.specs.Schema.{Schema};
 ghost use Rattle.p21_express.specs.WellFormed.{IsIn, IsWellFormed};
-ghost use Rattle.p21_graph.specs.Graph.{plain_graph, rows_of, HasEdge, AreEdgesBelow, IsOrder, IsMarked};
-ghost use Rattle.p21_graph.specs.Ranges.{Covers, AreRowsInOrder};
+ghost use Rattle.p21_graph.specs.Graph.{plain_graph, HasEdge, AreEdgesBelow, IsOrder, IsMarked};
+ghost use Rattle.p21_graph.specs.Ranges.{Covers};
+ghost use Rattle.p21_graph.specs.Rows.{table_of, AreRows};
 ghost use Rattle.p21_graph.specs.Reach.{IsEachAlone};
 ghost use Rattle.p21_graph.specs.declared.reach.Reach.{Reach as Reached};
-ghost use Rattle.p21_schema.specs.Ancestry.{AreSupertypesNamed, IsDescentTable};
+ghost use Rattle.p21_schema.specs.Ancestry.{IsDescentTable};
 ghost use Rattle.p21_schema.specs.Under.{AreResolved};
 ghost use Rattle.p21_schema.specs.SelectItems.{kind_of, place_of, targets_of, IsItemRow, IsItemGraph};
 ghost use Rattle.p21_schema.specs.SelectTable.{AreSelectRows, AreSelectTables};
 
-use crate::ancestry::descents_beginning;
 use crate::resolved::{Resolved, Target};
-use p21_graph::{
-    Graph, Range, Reach, covers, covers_some, each_alone, order_from_above, reached, zeros,
-};
+use p21_graph::{Graph, Reach, Rows, each_alone, order_from_above, reached};
 use std::alloc::{AllocError, Global};
 
-/// Which entities, or which types, each type reaches, where it is a SELECT.
-#[derive(Drop)]
-pub(crate) struct SelectRows {
-    /// The place of each entity or type, in an order in which what a SELECT reaches mostly stands together.
-    places: Vec<usize>,
-    /// For each type the places of those that it reaches.
-    rows: Vec<Vec<Range>>,
-}
-
-impl SelectRows {
-    /// Whether a type reaches an entity or a type.
-    pub(crate) fn has(&self, select: usize, item: usize) -> bool
-        requires select { select < length (rows_of self.now.rows) }
-        requires item { item < length self.now.places.items }
-        requires ordered { AreRowsInOrder (rows_of self.now.rows) }
-        ensures { IsTrue result ↔ Covers (get_or (rows_of self.now.rows) select []) (get_or self.now.places.items item 0) }
-    {
-        covers(&self.rows[select], self.places[item])
-    }
+/// Whether a type reaches an entity or a type, by a table of what each type reaches.
+pub(crate) fn has(table: &Reach, select: usize, item: usize) -> bool
+    requires rows { AreRows table.now.rows }
+    requires select { select < length (table_of table.now.rows) }
+    requires item { item < length table.now.places.items }
+    ensures { IsTrue result ↔ Covers (get_or (table_of table.now.rows) select []) (get_or table.now.places.items item 0) }
+{
+    table.rows.has(select, table.places[item])
 }
 
 /// What each type reaches, where it is a SELECT.
 #[derive(Drop)]
 pub(crate) struct Selects {
     /// For each type which entities it reaches.
-    pub(crate) entities: SelectRows,
+    pub(crate) entities: Reach,
     /// For each type the entities that it reaches and their descendants.
-    pub(crate) admitted: SelectRows,
+    pub(crate) admitted: Reach,
     /// For each type which types that are no SELECT it reaches.
-    pub(crate) types: SelectRows,
+    pub(crate) types: Reach,
     /// For each type whether it reaches an entity.
     pub(crate) any_entity: Vec<bool>,
 }
@@ -129,13 +116,14 @@ fn item_graph(alloc: Global, unders: &[Resolved], wanted: Item) -> Result<Graph,
 }
 
 /// Whether each row holds some place.
-fn any_held(alloc: Global, table: &Vec<Vec<Range>>) -> Result<Vec<bool>, AllocError>
-    ensures count { IfOk result (λ marks. length marks.items ≡ length (rows_of table.now)) }
-    ensures marks { IfOk result (λ marks. (i : ℕ) → i < length (rows_of table.now) → IsMarked marks.items i ↔ ((k : ℕ) × Covers (get_or (rows_of table.now) i []) k)) }
+fn any_held(alloc: Global, table: &Rows) -> Result<Vec<bool>, AllocError>
+    requires { AreRows table.now }
+    ensures count { IfOk result (λ marks. length marks.items ≡ length (table_of table.now)) }
+    ensures marks { IfOk result (λ marks. (i : ℕ) → i < length (table_of table.now) → IsMarked marks.items i ↔ ((k : ℕ) × Covers (get_or (table_of table.now) i []) k)) }
 {
     let mut marks = Vec::with_capacity(alloc, table.len())?;
-    for row in table {
-        marks.push(covers_some(row))?;
+    for row in 0..table.len() {
+        marks.push(table.holds_some(row))?;
     }
     Ok(marks)
 }
@@ -159,15 +147,15 @@ fn select_rows(
     reach: &Reach,
     inner: &Graph,
     order: &[usize],
-) -> Result<SelectRows, AllocError>
-    requires items { AreEdgesBelow (plain_graph items.now) (length (rows_of reach.now.rows)) }
+) -> Result<Reach, AllocError>
+    requires reach { AreRows reach.now.rows }
+    requires items { AreEdgesBelow (plain_graph items.now) (length (table_of reach.now.rows)) }
     requires vertices { length (plain_graph items.now) ≡ length (plain_graph inner.now) }
     requires order { IsOrder (plain_graph inner.now) order.now }
     requires all { (v : ℕ) → v < length (plain_graph inner.now) → IsIn order.now v }
-    requires ordered { AreRowsInOrder (rows_of reach.now.rows) }
     ensures { IfOk result (λ table. AreSelectRows (plain_graph items.now) (plain_graph inner.now) reach.now table) }
 {
-    Ok(SelectRows {
+    Ok(Reach {
         places: Vec::from_slice(alloc, &reach.places)?,
         rows: reached(alloc, items, &reach.rows, inner, order)?,
     })
@@ -181,7 +169,7 @@ fn items_reached(
     count: usize,
     inner: &Graph,
     order: &[usize],
-) -> Result<SelectRows, AllocError>
+) -> Result<Reach, AllocError>
     requires items { AreEdgesBelow (plain_graph items.now) count }
     requires vertices { length (plain_graph items.now) ≡ length (plain_graph inner.now) }
     requires order { IsOrder (plain_graph inner.now) order.now }
@@ -193,85 +181,21 @@ fn items_reached(
     select_rows(alloc, items, &alone, inner, order)
 }
 
-/// How many items a SELECT reaches, each as often as there are ways to it, by how many its inner SELECTs reach.
-fn ways(items: &[usize], inner: &[usize], counts: &[usize]) -> usize
-    requires { (v : ℕ) → IsIn inner.now v → v < length counts.now }
-{
-    let mut count = items.len();
-    for other in inner {
-        count = count.saturating_add(counts[*other]);
-    }
-    count
-}
-
-/// Items that are reached so many times as often as they are named are reached by SELECTs that are nested deep.
-const OFTEN: usize = 16;
-
-/// Whether SELECTs are nested so deep that they reach their items much more often than these are named.
-fn are_nested_deep(
-    alloc: Global,
-    items: &Graph,
-    inner: &Graph,
-    order: &[usize],
-) -> Result<bool, AllocError>
-    requires vertices { length (plain_graph items.now) ≡ length (plain_graph inner.now) }
-    requires edges { AreEdgesBelow (plain_graph inner.now) (length (plain_graph inner.now)) }
-    requires order { (v : ℕ) → IsIn order.now v → v < length (plain_graph inner.now) }
-{
-    let mut counts = zeros(alloc, inner.len())?;
-    let mut named = inner.len();
-    let mut reached: usize = 0;
-    for select in order {
-        let count = ways(&items[*select], &inner[*select], &counts);
-        counts[*select] = count;
-        named = named.saturating_add(items[*select].len());
-        reached = reached.saturating_add(count);
-    }
-    Ok(reached / OFTEN > named)
-}
-
-/// For each type the entities that it reaches and their descendants: by the order of the descents, or, where that could take many
-/// ranges, by an order of their own, in which what SELECTs meet first stands first.
-fn admitted(
-    alloc: Global,
-    items: &Graph,
-    inner: &Graph,
-    order: &[usize],
-    supertypes: &Graph,
-    descents: &Reach,
-) -> Result<SelectRows, AllocError>
-    requires vertices { length (plain_graph items.now) ≡ length (plain_graph inner.now) }
-    requires edges { AreEdgesBelow (plain_graph inner.now) (length (plain_graph inner.now)) }
-    requires order { IsOrder (plain_graph inner.now) order.now }
-    requires all { (v : ℕ) → v < length (plain_graph inner.now) → IsIn order.now v }
-    requires schema { (s : Schema) × (IsWellFormed s × (AreSupertypesNamed (map (λ e. e.name) s.entities) (plain_graph supertypes.now) s.entities × (AreEdgesBelow (plain_graph items.now) (length s.entities) × IsDescentTable s descents.now))) }
-    ensures { IfOk result (λ table. (reach : Reached) × (AreSelectRows (plain_graph items.now) (plain_graph inner.now) reach table × ((s : Schema) → IsWellFormed s → AreSupertypesNamed (map (λ e. e.name) s.entities) (plain_graph supertypes.now) s.entities → IsDescentTable s descents.now → IsDescentTable s reach))) }
-{
-    if are_nested_deep(alloc, items, inner, order)? {
-        let first = met(alloc, items, order)?;
-        let descents = descents_beginning(alloc, supertypes, &first)?;
-        select_rows(alloc, items, &descents, inner, order)
-    } else {
-        select_rows(alloc, items, descents, inner, order)
-    }
-}
-
-/// What each type reaches, by what stands under the types, and by the supertypes and the descents of entities.
+/// What each type reaches, by what stands under the types, and by the descents of entities.
 pub(crate) fn select_tables(
     alloc: Global,
     unders: &[Resolved],
-    supertypes: &Graph,
     descents: &Reach,
 ) -> Result<Selects, AllocError>
-    requires { (s : Schema) × (IsWellFormed s × (AreResolved (map (λ e. e.name) s.entities) (map (λ t. t.name) s.types) unders.now s.types × (AreSupertypesNamed (map (λ e. e.name) s.entities) (plain_graph supertypes.now) s.entities × IsDescentTable s descents.now))) }
-    ensures { IfOk result (λ tables. (s : Schema) → IsWellFormed s → AreResolved (map (λ e. e.name) s.entities) (map (λ t. t.name) s.types) unders.now s.types → AreSupertypesNamed (map (λ e. e.name) s.entities) (plain_graph supertypes.now) s.entities → IsDescentTable s descents.now → AreSelectTables s tables) }
+    requires { (s : Schema) × (IsWellFormed s × (AreResolved (map (λ e. e.name) s.entities) (map (λ t. t.name) s.types) unders.now s.types × IsDescentTable s descents.now)) }
+    ensures { IfOk result (λ tables. (s : Schema) → IsWellFormed s → AreResolved (map (λ e. e.name) s.entities) (map (λ t. t.name) s.types) unders.now s.types → IsDescentTable s descents.now → AreSelectTables s tables) }
 {
     let inner = item_graph(alloc, unders, Item::Select)?;
     let order = order_from_above(alloc, &inner)?;
     let items = item_graph(alloc, unders, Item::Entity)?;
-    let entities = items_reached(alloc, &items, supertypes.len(), &inner, &order)?;
+    let entities = items_reached(alloc, &items, descents.places.len(), &inner, &order)?;
     let any_entity = any_held(alloc, &entities.rows)?;
-    let admitted = admitted(alloc, &items, &inner, &order, supertypes, descents)?;
+    let admitted = select_rows(alloc, &items, descents, &inner, &order)?;
     let items = item_graph(alloc, unders, Item::Other)?;
     let types = items_reached(alloc, &items, unders.len(), &inner, &order)?;
     Ok(Selects {

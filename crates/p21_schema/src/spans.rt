@@ -1,7 +1,7 @@
 //! The places at which the declarations of an attribute stand, as spans.
 
 ghost use Rattle.std.specs.Prelude.{◌≡◌, ◌<◌, length, IfOk, IfSome, IsTrue};
-ghost use Rattle.p21_graph.specs.Graph.{rows_of};
+ghost use Rattle.p21_graph.specs.Rows.{table_of, AreRows};
 ghost use Rattle.p21_schema.specs.Spans.{explicit_form, AreWithin, IsRangeOf, AreSpans, IsBefore, AreInOrder};
 
 use crate::declarations::{Declaration, Form};
@@ -23,15 +23,18 @@ pub(crate) struct Span {
 
 /// The places of an entity and of its descendants, where they are one range, which ends with the entity's own.
 fn range_of(descents: &Reach, entity: usize) -> Option<Range>
-    requires row { entity < length (rows_of descents.now.rows) }
+    requires rows { AreRows descents.now.rows }
+    requires row { entity < length (table_of descents.now.rows) }
     requires place { entity < length descents.now.places.items }
     ensures { IfSome result (λ range. IsRangeOf descents.now entity range) }
 {
-    let row = &descents.rows[entity];
-    if row.len() != 1 {
+    let Some(ranges) = descents.rows.ranges(entity) else {
+        return None;
+    };
+    if ranges.len() != 1 {
         return None;
     }
-    let range = row[0];
+    let range = ranges[0];
     if range.from < range.to && range.to - 1 == descents.places[entity] {
         Some(range)
     } else {

@@ -26,3 +26,4 @@ pub mod FileVerdict
 pub mod InOrder
 pub mod TextFaults
 pub mod UpToFault
+pub mod Crossing

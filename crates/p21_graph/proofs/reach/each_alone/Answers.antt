@@ -1,6 +1,7 @@
 use Rattle.std.proofs.Common.{◌≡◌, ℕ, ◌<◌, ◌↔◌, [], length, get_or, sym, ap, subst, arith, ◌∙◌}
 use Rattle.p21_graph.specs.Members.{IsIn}
-use Rattle.p21_graph.specs.Graph.{plain_graph, rows_of}
+use Rattle.p21_graph.specs.Graph.{plain_graph}
+use Rattle.p21_graph.specs.Rows.{table_of}
 use Rattle.p21_graph.specs.Ranges.{Covers}
 use Rattle.p21_graph.specs.Reach.{ArePlaces}
 use Rattle.p21_graph.specs.GraphLaws.{in_order_below}
@@ -39,7 +40,7 @@ returns c =
       places = c.in_ok-places.ensures.count;
       count = c.in_ok-rows.ensures.count ∙ ap length c.deref-2.ensures.value ∙ c.in_ok-places.ensures.count;
       alone = λ a b la lb.
-          let row : Covers (get_or (rows_of c.in_ok-rows.rows) a []) (get_or places b 0) ↔ (get_or places b 0 ≡ get_or places a 0) = rw c.deref-2.ensures.value at (c.in_ok-rows.ensures.rows a (get_or places b 0) (rw (c.deref-2.ensures.value, c.in_ok-places.ensures.count) la)) in
+          let row : Covers (get_or (table_of c.in_ok-rows.rows) a []) (get_or places b 0) ↔ (get_or places b 0 ≡ get_or places a 0) = rw c.deref-2.ensures.value at (c.in_ok-rows.ensures.places a (get_or places b 0) (rw (c.deref-2.ensures.value, c.in_ok-places.ensures.count) la)) in
           (λ c. one_place order places b a are (there b lb) (there a la) (row.0 c), λ e. row.1 (ap (λ u. get_or places u 0) e));
-      ordered = c.in_ok-rows.ensures.ordered;
+      rows = c.in_ok-rows.ensures.rows;
     }

@@ -1,11 +1,17 @@
+use denote.Param.Send.{sendable}
+use Rattle.std.proofs.Crossing.{crosses}
 use Rattle.std.proofs.Common.{ℕ, List, map, subst}
 use Rattle.p21_cut.specs.Pieces.{PiecesAre}
 use Rattle.p21_cut.specs.Cutter.{file_of, place_of, plain_piece}
 use Rattle.p21_tree.specs.declared.pieces.Piece.{Piece}
+use Rattle.p21_schema.proofs.Crossing.{Schema-sync}
 use Rattle.p21_reader.specs.Lanes as dealing
 use Rattle.p21_reader.specs.ReadingBy.{by_pieces}
 use Rattle.p21_reader.proofs.LaneLemmas.{judged_only, values_only, stopped_before}
 use Rattle.p21_reader.proofs.lanes.read_pieces.Goals as goal
+
+pub run_crew-requires-sync-W : goal.run_crew-requires-sync-W
+run_crew-requires-sync-W g c κs within = search (sendable, crosses, Schema-sync) depth 40
 
 pub returns-in-Err : goal.returns-in-Err
 returns-in-Err g c = stopped_before (g.E.EntityJudge.judges c.args.judge.now c.args.schema.now) c.args.schema.now c.args.file.now c.args.lanes _ c.stopped.result c.in-Err.ensures.fault c.stopped.ensures

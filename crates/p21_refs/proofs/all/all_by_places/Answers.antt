@@ -1,3 +1,4 @@
+use denote.Param.Send.{sendable}
 use Rattle.std.proofs.Common.{◌≡◌, ◌-◌, ◌<◌, length, sym, ap, subst, ◌∙◌, arith}
 use Rattle.std.specs.List.{AllZip, range_with_len}
 use Rattle.std.proofs.lemmas.List.{length-map}
@@ -8,7 +9,19 @@ use Rattle.p21_join.specs.Model.{instances_of, plain_instances}
 use Rattle.p21_refs.specs.AllReferenceFaults.{AreReferenceFaults}
 use Rattle.p21_refs.specs.Places.{IsFaultAt}
 use Rattle.p21_refs.proofs.AllLemmas.{all_found}
+use Rattle.std.proofs.Crossing.{crosses}
+use Rattle.p21_schema.proofs.Crossing.{Schema-sync}
+use Rattle.p21_join.proofs.Crossing.{Model-sync}
 use Rattle.p21_refs.proofs.all.all_by_places.Goals as goal
+
+pub filter_map-requires-send-F : goal.filter_map-requires-send-F
+filter_map-requires-send-F g c κs within = search (sendable, crosses, Schema-sync, Model-sync) depth 40
+
+pub filter_map-requires-sync-F : goal.filter_map-requires-sync-F
+filter_map-requires-sync-F g c κs within = search (sendable, crosses, Schema-sync, Model-sync) depth 40
+
+pub collect-requires-send-Self : goal.collect-requires-send-Self
+collect-requires-send-Self g c κs within = search (sendable, crosses, Schema-sync, Model-sync) depth 40
 
 pub collect-requires-clause-ready : goal.collect-requires-clause-ready
 collect-requires-clause-ready g c κs within =

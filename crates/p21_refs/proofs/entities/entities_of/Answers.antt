@@ -1,3 +1,4 @@
+use denote.Param.Send.{sendable}
 use Rattle.std.proofs.Common.{ap, subst, ◌∙◌}
 use Rattle.std.specs.List.{AllZip}
 use Rattle.rayon.proofs.ListFacts.{IfOk-then}
@@ -6,7 +7,19 @@ use Rattle.p21_tree.specs.Views.{plain_instance}
 use Rattle.p21_check.specs.EntityOf.{IsSimpleEntity}
 use Rattle.p21_join.specs.Model.{instances_of}
 use Rattle.p21_refs.proofs.PlaceLemmas.{plain_entities}
+use Rattle.std.proofs.Crossing.{crosses}
+use Rattle.p21_schema.proofs.Crossing.{Schema-sync}
+use Rattle.p21_tree.proofs.Crossing.{RawInstance-sync}
 use Rattle.p21_refs.proofs.entities.entities_of.Goals as goal
+
+pub map-requires-send-F : goal.map-requires-send-F
+map-requires-send-F g c κs within = search (sendable, crosses, Schema-sync) depth 40
+
+pub map-requires-sync-F : goal.map-requires-sync-F
+map-requires-sync-F g c κs within = search (sendable, crosses, Schema-sync) depth 40
+
+pub collect-requires-send-Self : goal.collect-requires-send-Self
+collect-requires-send-Self g c κs within = search (sendable, crosses, Schema-sync, RawInstance-sync) depth 40
 
 pub returns : goal.returns
 returns g c =

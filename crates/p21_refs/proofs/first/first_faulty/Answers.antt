@@ -1,3 +1,4 @@
+use denote.Param.Send.{sendable}
 use Rattle.std.proofs.Common.{◌-◌, ◌<◌, ◌≤◌, arith, length, sym, subst, ◌∙◌}
 use Rattle.std.specs.Prelude.{MatchOption}
 use Rattle.std.specs.List.{AllZip, range_with_len}
@@ -7,7 +8,13 @@ use Rattle.p21_tree.specs.Views.{plain_instance}
 use Rattle.p21_join.specs.Model.{instances_of, plain_instances}
 use Rattle.p21_refs.specs.Places.{AreAnsweredBefore, IsFaultinessAt, IsFirstFaulty}
 use Rattle.p21_refs.proofs.SearchLemmas.{stride_answered, stride_faulty}
+use Rattle.std.proofs.Crossing.{crosses}
+use Rattle.p21_schema.proofs.Crossing.{Schema-sync}
+use Rattle.p21_join.proofs.Crossing.{Model-sync}
 use Rattle.p21_refs.proofs.first.first_faulty.Goals as goal
+
+pub position_first-requires-sync-F : goal.position_first-requires-sync-F
+position_first-requires-sync-F g c κs within = search (sendable, crosses, Schema-sync, Model-sync) depth 40
 
 pub position_first-requires-clause-items : goal.position_first-requires-clause-items
 position_first-requires-clause-items g c κs within =

@@ -16,8 +16,8 @@ each_alone-requires c = λ v i. let e = c.in_ok-first.ensures v (rw c.deref.ensu
 pub select_rows-requires-clause-items : goal.select_rows-requires-clause-items
 select_rows-requires-clause-items c = subst (λ (n : ℕ). AreEdgesBelow (plain_graph c.args.items.now) n) (sym c.in_ok-alone.ensures.count) c.requires.items
 
-pub select_rows-requires-clause-ordered : goal.select_rows-requires-clause-ordered
-select_rows-requires-clause-ordered c = c.in_ok-alone.ensures.ordered
+pub select_rows-requires-clause-reach : goal.select_rows-requires-clause-reach
+select_rows-requires-clause-reach c = c.in_ok-alone.ensures.rows
 
 pub returns : goal.returns
 returns c = IfOk-weaker c.select_rows.result (λ table. AreSelectRows (plain_graph c.args.items.now) (plain_graph c.args.inner.now) c.in_ok-alone.alone table) (λ table. (reach : Reach) × (IsEachAlone c.args.count reach × AreSelectRows (plain_graph c.args.items.now) (plain_graph c.args.inner.now) reach table))

@@ -1,7 +1,6 @@
 use Rattle.std.proofs.Common.{◌≡◌, ℕ, length, sym, subst, ◌∙◌}
 use Rattle.p21_express.specs.WellFormed.{IsEntity, IsSelect}
 use Rattle.p21_graph.specs.Graph.{plain_graph, AreEdgesBelow}
-use Rattle.p21_graph.specs.GraphLaws.{row_count}
 use Rattle.p21_schema.specs.declared.selects.Item.TheVariants as item_kind
 use Rattle.p21_schema.specs.SelectTable.{entity_named, type_named, IsSelectTable}
 use Rattle.p21_schema.proofs.SelectLemmas.{inner_below, no_inner_cycle, items_below, stands_entity, stands_other, select_table, entity_marks}
@@ -22,19 +21,19 @@ pub items_reached-requires-clause-items : goal.items_reached-requires-clause-ite
 items_reached-requires-clause-items c =
     let q = c.requires in
     let s = q.0 in
-    subst (λ (n : ℕ). AreEdgesBelow (plain_graph c.in_ok-items.items) n) (sym (c.len.ensures ∙ sym (row_count c.args.supertypes.now) ∙ q.1.1.1.0.count))
+    subst (λ (n : ℕ). AreEdgesBelow (plain_graph c.in_ok-items.items) n) (sym (c.len.ensures ∙ c.args.descents.now.places.ok.0 ∙ q.1.1.1.reaches.places ∙ q.1.1.1.count))
     (items_below s q.1.0 c.args.unders.now q.1.1.0 item_kind.Entity (IsEntity s) (length s.entities) (entity_named s) (stands_entity s q.1.0 c.args.unders.now q.1.1.0) (plain_graph c.in_ok-items.items) c.in_ok-items.ensures)
 
-pub admitted-requires-clause-edges : goal.admitted-requires-clause-edges
-admitted-requires-clause-edges c =
-    let q = c.requires in
-    inner_below q.0 q.1.0 c.args.unders.now q.1.1.0 (plain_graph c.in_ok-inner.inner) c.in_ok-inner.ensures
+pub select_rows-requires-clause-reach : goal.select_rows-requires-clause-reach
+select_rows-requires-clause-reach c = c.requires.1.1.1.reaches.rows
 
-pub admitted-requires-clause-schema : goal.admitted-requires-clause-schema
-admitted-requires-clause-schema c =
+pub select_rows-requires-clause-items : goal.select_rows-requires-clause-items
+select_rows-requires-clause-items c =
     let q = c.requires in
     let s = q.0 in
-    (s, (q.1.0, (q.1.1.1.0, (items_below s q.1.0 c.args.unders.now q.1.1.0 item_kind.Entity (IsEntity s) (length s.entities) (entity_named s) (stands_entity s q.1.0 c.args.unders.now q.1.1.0) (plain_graph c.in_ok-items.items) c.in_ok-items.ensures, q.1.1.1.1))))
+    let t = q.1.1.1 in
+    subst (λ (n : ℕ). AreEdgesBelow (plain_graph c.in_ok-items.items) n) (sym (t.reaches.count ∙ t.count))
+    (items_below s q.1.0 c.args.unders.now q.1.1.0 item_kind.Entity (IsEntity s) (length s.entities) (entity_named s) (stands_entity s q.1.0 c.args.unders.now q.1.1.0) (plain_graph c.in_ok-items.items) c.in_ok-items.ensures)
 
 pub items_reached-requires-2-clause-items : goal.items_reached-requires-2-clause-items
 items_reached-requires-2-clause-items c =
@@ -44,18 +43,17 @@ items_reached-requires-2-clause-items c =
     (items_below s q.1.0 c.args.unders.now q.1.1.0 item_kind.Other (λ n. ¬ (IsSelect s n)) (length s.types) (type_named s) (stands_other s q.1.0 c.args.unders.now q.1.1.0) (plain_graph c.in_ok-items-2.items) c.in_ok-items-2.ensures)
 
 pub returns : goal.returns
-returns c = λ s formed r named descents.
+returns c = λ s formed r descents.
     let unders = c.args.unders.now in
     let inner = plain_graph c.in_ok-inner.inner in
     let e = c.in_ok-entities.ensures in
-    let a = c.in_ok-admitted.ensures in
     let t = c.in_ok-types.ensures in
-    let count : c.len.result ≡ length s.entities = c.len.ensures ∙ sym (row_count c.args.supertypes.now) ∙ named.count in
+    let count : c.len.result ≡ length s.entities = c.len.ensures ∙ c.args.descents.now.places.ok.0 ∙ descents.reaches.places ∙ descents.count in
     let table : IsSelectTable s (IsEntity s) (length s.entities) (entity_named s) c.in_ok-entities.entities =
     select_table s formed unders r inner c.in_ok-inner.ensures item_kind.Entity (IsEntity s) (length s.entities) (entity_named s) (stands_entity s formed unders r) (plain_graph c.in_ok-items.items) c.in_ok-items.ensures e.0 c.in_ok-entities.entities (rw count at e.1.0) e.1.1 in
     record {
       entities = table;
-      admitted = admit_table s formed unders r inner c.in_ok-inner.ensures (plain_graph c.in_ok-items.items) c.in_ok-items.ensures a.0 (a.1.1 s formed named descents) c.in_ok-admitted.admitted a.1.0;
+      admitted = admit_table s formed unders r inner c.in_ok-inner.ensures (plain_graph c.in_ok-items.items) c.in_ok-items.ensures c.args.descents.now descents c.in_ok-admitted.admitted c.in_ok-admitted.ensures;
       types = select_table s formed unders r inner c.in_ok-inner.ensures item_kind.Other (λ n. ¬ (IsSelect s n)) (length s.types) (type_named s) (stands_other s formed unders r) (plain_graph c.in_ok-items-2.items) c.in_ok-items-2.ensures t.0 c.in_ok-types.types (rw (sym r.count) t.1.0) t.1.1;
       any_entity = entity_marks s c.in_ok-entities.entities c.in_ok-any_entity.any_entity.items table c.in_ok-any_entity.ensures.count c.in_ok-any_entity.ensures.marks;
     }

@@ -11,13 +11,13 @@ pub range_of-requires-clause-row : goal.range_of-requires-clause-row
 range_of-requires-clause-row c =
     let ds = c.args.declarations.now in
     let d = c.index-declarations-position.result in
-    (c.requires d (subst (λ (u : Coded). IsIn ds u) (sym c.index-declarations-position.is) (at_place ds c.loop-position.position d c.loop-position-test.true))).0
+    (c.requires.each d (subst (λ (u : Coded). IsIn ds u) (sym c.index-declarations-position.is) (at_place ds c.loop-position.position d c.loop-position-test.true))).0
 
 pub range_of-requires-clause-place : goal.range_of-requires-clause-place
 range_of-requires-clause-place c =
     let ds = c.args.declarations.now in
     let d = c.index-declarations-position.result in
-    (c.requires d (subst (λ (u : Coded). IsIn ds u) (sym c.index-declarations-position.is) (at_place ds c.loop-position.position d c.loop-position-test.true))).1
+    (c.requires.each d (subst (λ (u : Coded). IsIn ds u) (sym c.index-declarations-position.is) (at_place ds c.loop-position.position d c.loop-position-test.true))).1
 
 pub loop-position-preserved : goal.loop-position-preserved
 loop-position-preserved c =

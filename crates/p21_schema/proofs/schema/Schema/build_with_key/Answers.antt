@@ -1,4 +1,4 @@
-use Rattle.std.proofs.Common.{◌≡◌, sym, List, [], map, get_or, ap, ◌∙◌}
+use Rattle.std.proofs.Common.{◌≡◌, length, sym, List, [], map, get_or, ap, ◌∙◌}
 use Rattle.p21_express.specs.Schema.{Entity, Defined}
 use Rattle.p21_express.specs.Plain.{plain_schema, plain_entity, plain_type}
 use Rattle.p21_graph.specs.Graph.{plain_graph, rows_of}
@@ -9,6 +9,8 @@ use Rattle.p21_schema.specs.SelectTable.{AreSelectTables}
 use Rattle.p21_schema.specs.Under.{AreResolved}
 use Rattle.p21_schema.proofs.RuleLemmas.{fits_with, own_with}
 use Rattle.p21_schema.proofs.AncestryLemmas.{named_by, distinct_entities, supertypes_known, edges_below, no_cycle, supertype_table}
+use Rattle.p21_schema.specs.RowTable.{IsOwnTable}
+use Rattle.p21_schema.proofs.OwnerRowLemmas.{owners}
 use Rattle.p21_schema.proofs.BindingLemmas.{within_rows}
 use Rattle.p21_schema.proofs.DeclarationLemmas.{empty_at}
 use Rattle.p21_schema.proofs.UnderLemmas.{distinct_types, other_known, unders_known}
@@ -53,7 +55,7 @@ invariant_of-result c =
     let types_are : c.in_ok-type_names.type_names ≡ map (λ (t : Defined). t.name) s.types = c.in_ok-type_names.ensures ∙ ap (λ (ts : List _). map (λ (t : Defined). t.name) (map plain_type ts)) c.deref-5.ensures.value in
     let found : AreResolved (map (λ (e : Entity). e.name) s.entities) (map (λ (t : Defined). t.name) s.types) c.in_ok-unders.unders.items s.types = rw (← names_are, ← types_are, ← c.deref-7.ensures.value) c.in_ok-unders.ensures in
     let descents : IsDescentTable s c.in_ok-descents.descents = c.in_ok-descents.ensures s (fits_with (plain_schema c.args.declarations) c.args.rules c.requires) h in
-    let selects : AreSelectTables s c.in_ok-selects.selects = c.in_ok-selects.ensures s (fits_with (plain_schema c.args.declarations) c.args.rules c.requires) (rw c.deref-10.ensures.value found) h descents in
+    let selects : AreSelectTables s c.in_ok-selects.selects = c.in_ok-selects.ensures s (fits_with (plain_schema c.args.declarations) c.args.rules c.requires) (rw c.deref-10.ensures.value found) descents in
     record {
       types = types_are;
       attributes = c.in_ok-attributes.ensures;
@@ -63,7 +65,7 @@ invariant_of-result c =
       resolved = found;
       items = rw (← c.deref-11.ensures.value) c.in_ok-items.ensures;
       own = own_with (plain_schema c.args.declarations) c.args.rules _ c.in_ok-own.ensures.own;
-      rows = c.in_ok-rows.ensures s (fits_with (plain_schema c.args.declarations) c.args.rules c.requires) h (rw c.deref-3.ensures.value (own_with (plain_schema c.args.declarations) c.args.rules _ c.in_ok-own.ensures.own));
+      rows = c.in_ok-rows.ensures s (fits_with (plain_schema c.args.declarations) c.args.rules c.requires) h (rw c.deref-3.ensures.value (own_with (plain_schema c.args.declarations) c.args.rules _ c.in_ok-own.ensures.own)) descents;
       well_formed = fits_with (plain_schema c.args.declarations) c.args.rules c.requires;
       names = names_are;
       supertypes = rw c.in_ok-supertypes.ensures (supertype_table s g h);
@@ -115,4 +117,15 @@ select_tables-requires c =
     let found : AreResolved (map (λ (e : Entity). e.name) s.entities) (map (λ (t : Defined). t.name) s.types) c.in_ok-unders.unders.items s.types = rw (← names_are, ← types_are, ← c.deref-7.ensures.value) c.in_ok-unders.ensures in
     let h : AreSupertypesNamed (map (λ (e : Entity). e.name) s.entities) (plain_graph c.in_ok-graph.graph) s.entities = named_by plain_entity c.in_ok-entity_names.entity_names (plain_graph c.in_ok-graph.graph) c.deref.result.now c.deref-2.result.now c.args.declarations.entities.items c.in_ok-entity_names.ensures c.deref.ensures.value c.deref-2.ensures.value c.in_ok-graph.ensures in
     let formed = fits_with (plain_schema c.args.declarations) c.args.rules c.requires in
-    (s, (formed, (rw c.deref-10.ensures.value found, (h, c.in_ok-descents.ensures s formed h))))
+    (s, (formed, (rw c.deref-10.ensures.value found, c.in_ok-descents.ensures s formed h)))
+
+pub new-requires-clause-owners : goal.new-requires-clause-owners
+new-requires-clause-owners c = rw c.deref-3.ensures.value (owners (with_rules (plain_schema c.args.declarations) c.args.rules) c.in_ok-own.own.items (own_with (plain_schema c.args.declarations) c.args.rules _ c.in_ok-own.ensures.own))
+
+pub new-requires-clause-descents : goal.new-requires-clause-descents
+new-requires-clause-descents c =
+    let s = with_rules (plain_schema c.args.declarations) c.args.rules in
+    let h : AreSupertypesNamed (map (λ (e : Entity). e.name) s.entities) (plain_graph c.in_ok-graph.graph) s.entities = named_by plain_entity c.in_ok-entity_names.entity_names (plain_graph c.in_ok-graph.graph) c.deref.result.now c.deref-2.result.now c.args.declarations.entities.items c.in_ok-entity_names.ensures c.deref.ensures.value c.deref-2.ensures.value c.in_ok-graph.ensures in
+    let descents : IsDescentTable s c.in_ok-descents.descents = c.in_ok-descents.ensures s (fits_with (plain_schema c.args.declarations) c.args.rules c.requires) h in
+    let own : IsOwnTable s c.in_ok-own.own.items = own_with (plain_schema c.args.declarations) c.args.rules _ c.in_ok-own.ensures.own in
+    (descents.graph, (descents.reaches, descents.count ∙ sym own.count ∙ ap length (sym c.deref-3.ensures.value)))

@@ -11,8 +11,8 @@ has-requires-clause-select c = subst (λ u. c.args.select.index < u) (sym c.self
 pub has-requires-clause-item : goal.has-requires-clause-item
 has-requires-clause-item c = subst (λ u. c.args.entity.index < u) (sym c.self.invariant.selects.admitted.places) (subst (λ (u : Schema). IsEntityOf u c.args.entity) (sym c.self.view_is) c.requires.entity)
 
-pub has-requires-clause-ordered : goal.has-requires-clause-ordered
-has-requires-clause-ordered c = c.self.invariant.selects.admitted.ordered
+pub has-requires-clause-rows : goal.has-requires-clause-rows
+has-requires-clause-rows c = c.self.invariant.selects.admitted.rows
 
 pub returns : goal.returns
 returns c =

@@ -12,12 +12,12 @@ has-requires-clause-select c = subst (λ u. c.args.select.index < u) (sym c.self
 pub has-requires-clause-item : goal.has-requires-clause-item
 has-requires-clause-item c = subst (λ u. c.args.entity.index < u) (sym c.self.invariant.selects.entities.places) (subst (λ (u : Schema). IsEntityOf u c.args.entity) (sym c.self.view_is) c.requires.entity)
 
-pub has-requires-clause-ordered : goal.has-requires-clause-ordered
-has-requires-clause-ordered c = c.self.invariant.selects.entities.ordered
+pub has-requires-clause-rows : goal.has-requires-clause-rows
+has-requires-clause-rows c = c.self.invariant.selects.entities.rows
 
 pub returns : goal.returns
 returns c =
     let s = schema_of c.self.inside in
     let li : IsTypeOf s c.args.select = subst (λ (u : Schema). IsTypeOf u c.args.select) (sym c.self.view_is) c.requires.select in
     let le : IsEntityOf s c.args.entity = subst (λ (u : Schema). IsEntityOf u c.args.entity) (sym c.self.view_is) c.requires.entity in
-    rw (← c.self.view_is) (↔_through c.has.ensures (entity_reached s c.self.inside.selects.entities c.args.select.index c.args.entity.index c.self.invariant.selects.entities li le))
+    rw (← c.self.view_is) (↔_through c.has.ensures (entity_reached s c.self.inside.reached_entities c.args.select.index c.args.entity.index c.self.invariant.selects.entities li le))

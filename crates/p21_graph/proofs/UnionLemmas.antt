@@ -1,0 +1,151 @@
+-- Unions of sets of places, and those that are known.
+use Rattle.std.proofs.Common.{◌≡◌, ℕ, zero, suc, ◌-◌, ◌^◌, ◌<◌, ◌≤◌, ◌↔◌, Bool, true, false, cond, List, ◌⊎◌, Option, Some, None, MatchOption, length, get_or, refl, sym, ap, ◌∙◌, subst, inl, inr, ⊎_elim, arith}
+use Rattle.std.specs.BTreeMap.{BTreeMap, get}
+use Rattle.std.specs.Ordering.{nat_cmp, ordering_then, is_eq}
+use Rattle.std.specs.declared.cmp.Ordering.{Ordering}
+use Rattle.std.specs.declared.cmp.Ordering.TheVariants.{Less, Equal, Greater}
+use Rattle.std.proofs.lemmas.Bool.{cases_lt, false≢true}
+use Rattle.std.proofs.lemmas.Map.Lookups.{exact_unsigned}
+use Rattle.p21_graph.specs.declared.sets.Halves.{Halves}
+use Rattle.p21_graph.specs.declared.sets.Pair.{Pair}
+use Rattle.p21_graph.specs.declared.sets.Sets.{Sets}
+use Rattle.p21_graph.specs.Sets.{low_of, high_of, nothing, pair_cmp, IsPairOf, IsHeld, IsStore, IsSetOf, IsUnion, AreUnions, AreSets, Keeps}
+use Rattle.p21_graph.specs.RangeLaws.{↔_through}
+use Rattle.p21_graph.proofs.RangeLemmas.{↔_back}
+use Rattle.p21_graph.proofs.SetLemmas.{↔_both, held_low, held_high, held_below, nothing_holds_none, everything_holds_all, halves_below, keeps_self, keeps_halves, keeps_length, keeps_through, keeps_union}
+
+-- a set holds a place in the half in which it lies if one of the other two does
+either_half : (hs : List Halves) (levels first second set low high k : ℕ) → IsSetOf hs low high set → IsUnion hs (low_of hs first) (low_of hs second) low → IsUnion hs (high_of hs first) (high_of hs second) high
+    → IsHeld hs (suc levels) set k ↔ (IsHeld hs (suc levels) first k ⊎ IsHeld hs (suc levels) second k)
+either_half hs levels first second set low high k is lows highs =
+    ⊎_elim
+    (λ (l : k < 2 ^ levels).
+    ↔_through (held_low hs levels set k l)
+    (↔_through (subst (λ n. IsHeld hs levels n k ↔ (IsHeld hs levels (low_of hs first) k ⊎ IsHeld hs levels (low_of hs second) k)) (sym is.low) (lows.holds levels k))
+    (↔_back (↔_both (held_low hs levels first k l) (held_low hs levels second k l)))))
+    (λ (l : 2 ^ levels ≤ k).
+    let j = k - 2 ^ levels in
+    ↔_through (held_high hs levels set k l)
+    (↔_through (subst (λ n. IsHeld hs levels n j ↔ (IsHeld hs levels (high_of hs first) j ⊎ IsHeld hs levels (high_of hs second) j)) (sym is.high) (highs.holds levels j))
+    (↔_back (↔_both (held_high hs levels first k l) (held_high hs levels second k l)))))
+    (cases_lt k (2 ^ levels))
+
+-- a set is a union where its halves are
+pub union_of_halves : (hs : List Halves) (first second set low high : ℕ) → 2 ≤ first → 2 ≤ second → 1 ≤ set → IsSetOf hs low high set → IsUnion hs (low_of hs first) (low_of hs second) low → IsUnion hs (high_of hs first) (high_of hs second) high → IsUnion hs first second set
+union_of_halves hs first second set low high f s u is lows highs = record { below = is.below; holds = holds }
+  where
+    holds : (levels k : ℕ) → IsHeld hs levels set k ↔ (IsHeld hs levels first k ⊎ IsHeld hs levels second k)
+    holds zero k = (
+      λ h. inl (omega (arith, f), h.1),
+      λ h. (u, ⊎_elim (λ (a : (1 ≤ first) × (k ≡ 0)). a.1) (λ (b : (1 ≤ second) × (k ≡ 0)). b.1) h),
+    )
+    holds (suc levels) k = either_half hs levels first second set low high k is lows highs
+
+-- unions where one set holds the other
+pub union_self : (hs : List Halves) (set : ℕ) → set < length hs → IsUnion hs set set set
+union_self hs set less = record { below = less; holds = λ levels k. (λ h. inl h, λ s. ⊎_elim (λ (h : IsHeld hs levels set k). h) (λ (h : IsHeld hs levels set k). h) s) }
+
+pub union_nothing : (hs : List Halves) (set : ℕ) → IsStore hs → set < length hs → IsUnion hs set 0 set
+union_nothing hs set store less = record { below = less; holds = λ levels k. (λ h. inl h, λ s. ⊎_elim (λ (h : IsHeld hs levels set k). h) (λ (n : IsHeld hs levels 0 k). absurd (nothing_holds_none hs levels k store n)) s) }
+
+pub union_everything : (hs : List Halves) (set : ℕ) → IsStore hs → IsUnion hs 1 set 1
+union_everything hs set store =
+    record {
+      below = let count = store.count in omega arith;
+      holds = λ levels k. (λ h. inl h, λ s. ⊎_elim (λ (h : IsHeld hs levels 1 k). h) (λ (h : IsHeld hs levels set k). everything_holds_all hs levels k store (held_below hs levels set k h)) s);
+    }
+
+-- the union of two sets is that of the second and the first
+pub union_turned : (hs : List Halves) (first second union : ℕ) → IsUnion hs first second union → IsUnion hs second first union
+union_turned hs first second union is =
+    record {
+      below = is.below;
+      holds = λ levels k. ↔_through (is.holds levels k) (
+        λ s. ⊎_elim (λ (h : IsHeld hs levels first k). inr h) (λ (h : IsHeld hs levels second k). inl h) s,
+        λ s. ⊎_elim (λ (h : IsHeld hs levels second k). inr h) (λ (h : IsHeld hs levels first k). inl h) s,
+      );
+    }
+
+-- two pairs that the order does not tell apart are one
+same_pair : (p q : Pair) → is_eq (pair_cmp p q) ≡ true → p ≡ q
+same_pair p q e =
+    let both = equal (nat_cmp p.first q.first) (nat_cmp p.second q.second) e in
+    let first = exact_unsigned p.first q.first both.0 in
+    let second = exact_unsigned p.second q.second both.1 in
+    ap (λ (n : ℕ). let r : Pair = record { first = n; second = p.second } in r) first ∙ ap (λ (n : ℕ). let r : Pair = record { first = q.first; second = n } in r) second
+  where
+    equal : (o r : Ordering) → is_eq (ordering_then o r) ≡ true → (o ≡ Equal) × (r ≡ Equal)
+    equal Less r e = absurd (false≢true e)
+    equal Equal Less e = absurd (false≢true e)
+    equal Equal Equal e = (refl, refl)
+    equal Equal Greater e = absurd (false≢true e)
+    equal Greater r e = absurd (false≢true e)
+
+-- the union that was made of a half of both of two sets is still that
+pub half_united : (half : Halves → ℕ) (old between new : Sets) (first second union : ℕ) (one other : Halves) → AreSets between → Keeps old between → Keeps between new
+    → first < length old.halves.items → second < length old.halves.items → one ≡ get_or old.halves.items first nothing → other ≡ get_or old.halves.items second nothing
+    → half one < length old.halves.items → half other < length old.halves.items → IsUnion between.halves.items (half one) (half other) union
+    → IsUnion new.halves.items (half (get_or new.halves.items first nothing)) (half (get_or new.halves.items second nothing)) union
+half_united half old between new first second union one other are before after f s e g below below' is =
+    let n = keeps_length old between before in
+    let keeps = keeps_through old between new before after in
+    let i = e ∙ sym (keeps_halves old new first keeps f) in
+    let j = g ∙ sym (keeps_halves old new second keeps s) in
+    let u = keeps_union between new (half one) (half other) union after are.store (omega (arith, n, below)) (omega (arith, n, below')) is in
+    subst (λ (h : Halves). IsUnion new.halves.items (half h) (half (get_or new.halves.items second nothing)) union) i (subst (λ (h : Halves). IsUnion new.halves.items (half one) (half h) union) j u)
+
+-- the halves of a set that are read are sets
+pub read_below : (sets : Sets) (set : ℕ) (h : Halves) → AreSets sets → set < length sets.halves.items → h ≡ get_or sets.halves.items set nothing → (h.low < length sets.halves.items) × (h.high < length sets.halves.items)
+read_below sets set h are less e = rw e (halves_below sets.halves.items set are.store less)
+
+-- the union of two sets is that of the pair of them
+pub paired : (hs : List Halves) (pair : Pair) (first second union : ℕ) → IsPairOf pair first second → IsUnion hs first second union ↔ IsUnion hs pair.first pair.second union
+paired hs pair first second union (inl e) = rw (e.0, e.1) (λ u. u, λ u. u)
+paired hs pair first second union (inr e) = rw (e.0, e.1) (union_turned hs first second union, union_turned hs second first union)
+
+pub pair_below : (pair : Pair) (first second n : ℕ) → IsPairOf pair first second → first < n → second < n → (pair.first < n) × (pair.second < n)
+pair_below pair first second n (inl e) f s = rw (e.0, e.1) (f, s)
+pair_below pair first second n (inr e) f s = rw (e.0, e.1) (s, f)
+
+-- what is known of two sets, of which each holds some places and not all
+pub known : (hs : List Halves) (unions : BTreeMap Pair ℕ) (pair : Pair) (first second : ℕ) (o : Option ℕ) → AreUnions hs unions → IsPairOf pair first second → 2 ≤ first → 2 ≤ second → o ≡ get pair_cmp unions pair
+    → MatchOption o ((2 ≤ first) × (2 ≤ second)) (λ set. IsUnion hs first second set)
+known hs unions pair first second None are is f s e = (f, s)
+known hs unions pair first second (Some u) are is f s e = (paired hs pair first second u is).1 (are.is pair u (sym e))
+
+-- one union more is known
+pub unions_more : (hs : List Halves) (m n : BTreeMap Pair ℕ) (pair : Pair) (union : ℕ) → AreUnions hs m → pair.first < length hs → pair.second < length hs → IsUnion hs pair.first pair.second union
+    → ((q : Pair) → get pair_cmp n q ≡ cond (is_eq (pair_cmp pair q)) (Some union) (get pair_cmp m q)) → AreUnions hs n
+unions_more hs m n pair union are f s is updates =
+    record {
+      below = λ p u g. let k = more p u g in (k.0, k.1);
+      is = λ p u g. (more p u g).2;
+    }
+  where
+    by : (p : Pair) (u : ℕ) (b : Bool) → is_eq (pair_cmp pair p) ≡ b → cond b (Some union) (get pair_cmp m p) ≡ Some u → (p.first < length hs) × (p.second < length hs) × IsUnion hs p.first p.second u
+    by p u true e g =
+        let here = same_pair pair p e in
+        let v : union ≡ u = cc in
+        subst (λ (q : Pair). (q.first < length hs) × (q.second < length hs) × IsUnion hs q.first q.second u) here (f, s, subst (λ x. IsUnion hs pair.first pair.second x) v is)
+    by p u false e g = let b = are.below p u g in (b.0, b.1, are.is p u g)
+
+    more : (p : Pair) (u : ℕ) → get pair_cmp n p ≡ Some u → (p.first < length hs) × (p.second < length hs) × IsUnion hs p.first p.second u
+    more p u g = by p u (is_eq (pair_cmp pair p)) refl (sym (updates p) ∙ g)
+
+-- one union more of two sets is known
+pub unions_with : (hs : List Halves) (m n : BTreeMap Pair ℕ) (pair : Pair) (first second union : ℕ) → AreUnions hs m → IsPairOf pair first second → first < length hs → second < length hs → IsUnion hs first second union
+    → ((q : Pair) → get pair_cmp n q ≡ cond (is_eq (pair_cmp pair q)) (Some union) (get pair_cmp m q)) → AreUnions hs n
+unions_with hs m n pair first second union are is f s of updates =
+    let b = pair_below pair first second (length hs) is f s in
+    unions_more hs m n pair union are b.0 b.1 ((paired hs pair first second union is).0 of) updates
+
+-- a set that is made of the unions of the halves of two is the union of them
+pub made_union : (old new : Sets) (first second low high union : ℕ) → AreSets old → Keeps old new → (2 ≤ first) × (first < length old.halves.items) → (2 ≤ second) × (second < length old.halves.items)
+    → IsUnion old.halves.items (low_of old.halves.items first) (low_of old.halves.items second) low → IsUnion old.halves.items (high_of old.halves.items first) (high_of old.halves.items second) high
+    → 1 ≤ union → IsSetOf new.halves.items low high union → IsUnion new.halves.items first second union
+made_union old new first second low high union are keeps f s lows highs some is =
+    let one = halves_below old.halves.items first are.store f.1 in
+    let other = halves_below old.halves.items second are.store s.1 in
+    union_of_halves new.halves.items first second union low high f.0 s.0 some is
+    (half_united (λ h. h.low) old old new first second low (get_or old.halves.items first nothing) (get_or old.halves.items second nothing) are (keeps_self old) keeps f.1 s.1 refl refl one.0 other.0 lows)
+    (half_united (λ h. h.high) old old new first second high (get_or old.halves.items first nothing) (get_or old.halves.items second nothing) are (keeps_self old) keeps f.1 s.1 refl refl one.1 other.1 highs)

@@ -1,0 +1,41 @@
+-- Rows of places: of each row what some ranges hold, and what a set holds.
+use Rattle.std.specs.Prelude.{◌<◌, ◌+◌, ◌^◌, ◌++◌, ◌∷◌, ℕ, zero, suc, List, [], length, get_or, map}
+use Rattle.p21_graph.specs.declared.ranges.Range.{Range}
+use Rattle.p21_graph.specs.declared.rows.Row.{Row}
+use Rattle.p21_graph.specs.declared.rows.Rows.{Rows}
+use Rattle.p21_graph.specs.declared.sets.Halves.{Halves}
+use Rattle.p21_graph.specs.declared.sets.Sets.{Sets}
+use Rattle.p21_graph.specs.Ranges.{AreInOrder}
+use Rattle.p21_graph.specs.Sets.{low_of, high_of, AreSets}
+
+-- of a set of a single place the place, unless the set is nothing
+abbrev pub place_of_set : ℕ → ℕ → List Range
+place_of_set first zero = []
+place_of_set first (suc set) = record { from = first; to = first + 1 } ∷ []
+
+-- the places of a set as ranges, where the first place is this one
+abbrev pub ranges_of : List Halves → ℕ → ℕ → ℕ → List Range
+ranges_of hs zero first set = place_of_set first set
+ranges_of hs (suc levels) first set = ranges_of hs levels first (low_of hs set) ++ ranges_of hs levels (first + 2 ^ levels) (high_of hs set)
+
+-- the places of a row as ranges
+abbrev pub row_of : Sets → Row → List Range
+row_of sets row = row.ranges.items ++ ranges_of sets.halves.items sets.levels 0 row.set
+
+-- the places of each row as ranges
+abbrev pub table_of : Rows → List (List Range)
+table_of rows = map (row_of rows.sets) rows.rows.items
+
+-- its ranges are in order, and its set is one of the sets
+pub record IsRow (sets : Sets) (row : Row) : Type 0 where
+  pub order : AreInOrder row.ranges.items
+  pub set : row.set < length sets.halves.items
+
+-- each of the rows is one
+abbrev pub AreEachRows : Sets → List Row → Type 0
+AreEachRows sets rows = (v : ℕ) (d : Row) → v < length rows → IsRow sets (get_or rows v d)
+
+-- each row is one, by sets that are sets
+pub record AreRows (rows : Rows) : Type 0 where
+  pub sets : AreSets rows.sets
+  pub each : AreEachRows rows.sets rows.rows.items

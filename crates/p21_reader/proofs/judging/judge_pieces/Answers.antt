@@ -1,0 +1,7 @@
+use denote.Param.Send.{sendable}
+use Rattle.std.proofs.Crossing.{crosses}
+use Rattle.p21_schema.proofs.Crossing.{Schema-sync}
+use Rattle.p21_reader.proofs.judging.judge_pieces.Goals as goal
+
+pub run_crew-requires-sync-W : goal.run_crew-requires-sync-W
+run_crew-requires-sync-W g c κs within = search (sendable, crosses, Schema-sync) depth 40
