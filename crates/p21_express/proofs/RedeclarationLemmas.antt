@@ -18,11 +18,8 @@ use Rattle.p21_express.specs.Schema.{Schema, Entity}
 use Rattle.p21_express.specs.WellFormed.{IsIn, AreDistinct, Redeclaration, Origin, DeclaresAgain, DeclareAgain, IsRedeclaring, redeclarations}
 use Rattle.p21_express.proofs.AgainLemmas.{one_step, found_in}
 use Rattle.p21_express.proofs.GraphLemmas.{in_back}
-use Rattle.p21_express.proofs.IndexLemmas.{at_is_in, distinct_apart, is_in_push}
-
-distinct_push : {X : Type 0} (xs : List X) (x : X) → AreDistinct xs → ¬ (IsIn xs x) → AreDistinct (xs ++ x ∷ [])
-distinct_push [] x d n = ((λ h. h), tt)
-distinct_push {X} (y ∷ xs) x d n = ((λ h. ⊎_elim (λ (k : IsIn xs y). d.0 k) (λ (e : x ≡ y). n (inl (sym e))) (is_in_push xs x y h)), distinct_push xs x d.1 (λ k. n (inr k)))
+use Rattle.p21_express.proofs.IndexLemmas.{at_is_in, distinct_apart}
+use Rattle.p21_express.proofs.MetLemmas.{distinct_push}
 
 pub split_at : {X Y : Type 0} (f : X → Y) (xs : List X) (i : ℕ) (x : X) → i < length xs → x ≡ get_or xs i x → map f xs ≡ map f (take i xs) ++ f x ∷ map f (drop (i + 1) xs)
 split_at {X} {Y} f xs i x lt is =

@@ -1,6 +1,6 @@
 //! Attributes of a row by pieces.
 
-ghost use Rattle.std.specs.Prelude.{◌≡◌, ◌<◌, ◌≤◌, ◌+◌, ◌-◌, ◌^◌, ◌++◌, ℕ, List, length, take, IfOk, OnOk, IfSome};
+ghost use Rattle.std.specs.Prelude.{◌≡◌, ◌<◌, ◌≤◌, ◌+◌, ◌-◌, ◌^◌, ◌++◌, ℕ, List, length, take, IfOk, OnOk, MatchOption};
 ghost use Rattle.std.specs.List.Sorted.{IsPartitionPoint, IsNonDecreasingBy};
 ghost use Rattle.p21_graph.specs.Ranges.{AreUpward};
 ghost use Rattle.p21_schema.specs.Pieces.{ids_from, ids_of, pieces_of, IsAmong};
@@ -42,7 +42,7 @@ impl Piece {
 /// How many attributes a row has, of which so many stand before these; `None` where there is no number for that.
 pub(crate) fn count(before: usize, ranges: &[Range]) -> Option<usize>
     requires { AreUpward ranges.now }
-    ensures { IfSome result (λ count. count ≡ before + length (ids_of ranges.now)) }
+    ensures { MatchOption result (2 ^ 64 ≤ before + length (ids_of ranges.now)) (λ count. count ≡ before + length (ids_of ranges.now)) }
 {
     let mut count = before;
     for range in ranges {

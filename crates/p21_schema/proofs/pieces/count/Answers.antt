@@ -3,7 +3,7 @@ use Rattle.std.proofs.lemmas.List.{take_all}
 use Rattle.p21_graph.specs.declared.ranges.Range.{Range}
 use Rattle.p21_graph.specs.MemberLaws.{at_place}
 use Rattle.p21_schema.specs.Pieces.{ids_of}
-use Rattle.p21_schema.proofs.PieceLemmas.{count_more}
+use Rattle.p21_schema.proofs.PieceLemmas.{count_more, count_upto}
 use Rattle.p21_schema.proofs.pieces.count.Goals as goal
 
 pub overflow_sub-range : goal.overflow_sub-range
@@ -17,3 +17,13 @@ loop-range-preserved c =
 
 pub returns : goal.returns
 returns c = c.loop-range.invariant ∙ ap (λ (u : List Range). c.args.before + length (ids_of u)) (take_all c.loop-range.range-index c.args.ranges.now c.loop-range-test.false)
+
+pub returns-in_err-count : goal.returns-in_err-count
+returns-in_err-count c =
+    let ranges = c.args.ranges.now in
+    let i = c.loop-range.range-index in
+    let over = c.in_err-count.ensures in
+    let more = count_more ranges i (record { from = 0; to = 0 }) c.loop-range-test.true in
+    let upto = count_upto ranges (i + 1) in
+    let at = c.loop-range.invariant in
+    rw c.from_residual.ensures (omega (arith, over, more, upto, at))
