@@ -1,16 +1,16 @@
 -- Ranges in order.
-use Rattle.std.proofs.Common.{◌≡◌, ℕ, ◌+◌, ◌-◌, ◌<◌, ◌≤◌, false, List, [], ◌∷◌, ◌++◌, length, get_or, sym, ap, ◌∙◌, subst, inl, ⊎_elim, refl, arith, length-append}
+use Rattle.std.proofs.Common.{◌≡◌, ℕ, zero, suc, ◌+◌, ◌-◌, ◌<◌, ◌≤◌, ◌↔◌, false, List, [], ◌∷◌, ◌++◌, length, get_or, take, drop, sym, ap, ◌∙◌, subst, inl, inr, ⊎_elim, refl, arith, length-append, length-drop}
 use Rattle.std.proofs.lemmas.Bool.{cases_eq, cases_lt}
 use Rattle.std.proofs.lemmas.List.Sorted.{IsPermutation-sym, IsNonDecreasingBy-from_sort}
-use Rattle.std.proofs.lemmas.List.{get_or_append_left, get_or_push, get_or_default}
-use Rattle.std.specs.List.Sorted.{IsPermutation, IsPartitionPoint, IsSorted}
+use Rattle.std.proofs.lemmas.List.{get_or_append_left, get_or_push, get_or_default, get_or-take, get_or-drop, length-take-le}
+use Rattle.std.specs.List.Sorted.{IsNonDecreasingBy, IsPermutation, IsPartitionPoint, IsSorted}
 use Rattle.std.specs.declared.cmp.Ordering.{Ordering}
 use Rattle.std.specs.declared.cmp.Ordering.TheVariants.{Less, Equal, Greater}
 use Rattle.std.specs.Ordering.{is_lt, ordering_then, nat_cmp}
 use Rattle.p21_graph.specs.Members.{IsIn}
 use Rattle.p21_graph.specs.declared.ranges.Range.{Range}
 use Rattle.p21_graph.specs.Ranges.{IsInRange, Covers, AreUpward, AreAscending, BeginBy, AreInOrder}
-use Rattle.p21_graph.specs.MemberLaws.{in_left, in_right, in_either, place_of, at_place, in_permuted}
+use Rattle.p21_graph.specs.MemberLaws.{in_left, in_right, in_either, in_front, place_of, at_place, in_permuted}
 
 pub in_order_none : AreInOrder []
 in_order_none = record { upward = λ r i. absurd i; apart = λ i j d less within. absurd (omega arith) }
@@ -77,6 +77,71 @@ covers_last ranges place end d o parted bound c =
     (cases_lt p.0 (end - 1)))
     (λ (g : end ≤ p.0). let after : place < (get_or ranges p.0 d).from = parted.1 p.0 d g within in absurd (omega arith))
     (cases_lt p.0 end)
+
+-- ---- where a list is parted
+
+-- a member of the rest is a member
+in_back : {X : Type 0} (n : ℕ) (xs : List X) (x : X) → IsIn (drop n xs) x → IsIn xs x
+in_back zero xs x h = h
+in_back (suc n) [] x h = absurd h
+in_back (suc n) (y ∷ ys) x h = inr (in_back n ys x h)
+
+-- up to where a list is parted stand those of the one kind, and from there on those of the other
+pub in_front_parted : {X : Type 0} (P Q : X → Type 0) (xs : List X) (n : ℕ) (x : X) → n ≤ length xs → IsPartitionPoint P Q xs n → (P x → Q x → ⊥) → IsIn (take n xs) x ↔ (IsIn xs x × P x)
+in_front_parted P Q xs n x bound parted apart = (
+  λ h.
+      let p = place_of (take n xs) x h in
+      let less : p.0 < n = omega (arith, p.1.0, length-take-le n xs bound) in
+      let is = sym (get_or-take n xs p.0 x less) ∙ p.1.1 x in
+      (in_front n xs x h, subst P is (parted.0 p.0 x (omega arith) less)),
+  λ h.
+      let p = place_of xs x h.0 in
+      ⊎_elim
+      (λ (l : p.0 < n). subst (λ y. IsIn (take n xs) y) (get_or-take n xs p.0 x l ∙ p.1.1 x) (at_place (take n xs) p.0 x (omega (arith, length-take-le n xs bound))))
+      (λ (g : n ≤ p.0). absurd (apart h.1 (subst Q (p.1.1 x) (parted.1 p.0 x g p.1.0))))
+      (cases_lt p.0 n),
+)
+
+pub in_back_parted : {X : Type 0} (P Q : X → Type 0) (xs : List X) (n : ℕ) (x : X) → IsPartitionPoint P Q xs n → (P x → Q x → ⊥) → IsIn (drop n xs) x ↔ (IsIn xs x × Q x)
+in_back_parted P Q xs n x parted apart = (
+  λ h.
+      let p = place_of (drop n xs) x h in
+      let is = sym (get_or-drop n xs p.0 x) ∙ p.1.1 x in
+      (in_back n xs x h, subst Q is (parted.1 (n + p.0) x (omega arith) (omega (arith, p.1.0, length-drop n xs)))),
+  λ h.
+      let p = place_of xs x h.0 in
+      ⊎_elim
+      (λ (l : p.0 < n). absurd (apart (subst P (p.1.1 x) (parted.0 p.0 x (omega arith) l)) h.1))
+      (λ (g : n ≤ p.0).
+      let at : n + (p.0 - n) ≡ p.0 = omega arith in
+      subst (λ y. IsIn (drop n xs) y) (get_or-drop n xs (p.0 - n) x ∙ ap (λ m. get_or xs m x) at ∙ p.1.1 x) (at_place (drop n xs) (p.0 - n) x (omega (arith, p.1.0, length-drop n xs))))
+      (cases_lt p.0 n),
+)
+
+-- ---- ranges before and behind a place
+
+pub ascending_ends : (ranges : List Range) → AreInOrder ranges → IsNonDecreasingBy (λ (r : Range). r.to) ranges
+ascending_ends ranges o i j d le within =
+    ⊎_elim
+    (λ (l : i < j). let up : (get_or ranges j d).from ≤ (get_or ranges j d).to = o.upward (get_or ranges j d) (at_place ranges j d within) in omega (arith, o.apart i j d l within))
+    (λ (g : j ≤ i). let e : i ≡ j = omega arith in rw e (omega arith))
+    (cases_lt i j)
+
+pub front_in_order : (ranges : List Range) (n : ℕ) → n ≤ length ranges → AreInOrder ranges → AreInOrder (take n ranges)
+front_in_order ranges n bound o = record {
+  upward = λ r i. o.upward r (in_front n ranges r i);
+  apart = λ i j d less within.
+      let long : length (take n ranges) ≡ n = length-take-le n ranges bound in
+      rw (get_or-take n ranges i d (omega arith), get_or-take n ranges j d (omega arith)) (o.apart i j d less (omega arith));
+}
+
+pub back_in_order : (ranges : List Range) (n : ℕ) → AreInOrder ranges → AreInOrder (drop n ranges)
+back_in_order ranges n o = record {
+  upward = λ r i. o.upward r (in_back n ranges r i);
+  apart = λ i j d less within.
+      let long : length (drop n ranges) ≡ length ranges - n = length-drop n ranges in
+      rw (get_or-drop n ranges i d, get_or-drop n ranges j d) (o.apart (n + i) (n + j) d (omega arith) (omega arith));
+}
 
 -- ---- one range more
 

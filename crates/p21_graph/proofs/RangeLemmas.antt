@@ -83,6 +83,19 @@ covers_behind rest old between new last range o b n k =
 pub covers_take : (rs : List Range) (i k : ℕ) (d : Range) → i < length rs → Covers (take (i + 1) rs) k ↔ (Covers (take i rs) k ⊎ IsInRange (get_or rs i d) k)
 covers_take rs i k d less = rw (take_more rs i d less) (covers_push (take i rs) (get_or rs i d) k)
 
+-- those that begin before a place hold what lies before it, and those that end behind it hold what lies behind it
+pub covers_front : (ranges front : List Range) (place k : ℕ) → ((r : Range) → IsIn front r ↔ (IsIn ranges r × (r.from < place))) → k < place → Covers front k ↔ Covers ranges k
+covers_front ranges front place k fronts less = (
+  λ c. (c.0, (((fronts c.0).0 c.1.0).0, c.1.1)),
+  λ c. let from : c.0.from ≤ k = c.1.1.0 in (c.0, ((fronts c.0).1 (c.1.0, omega arith), c.1.1)),
+)
+
+pub covers_back : (ranges back : List Range) (place k : ℕ) → ((r : Range) → IsIn back r ↔ (IsIn ranges r × (place < r.to))) → place ≤ k → Covers back k ↔ Covers ranges k
+covers_back ranges back place k backs least = (
+  λ c. (c.0, (((backs c.0).0 c.1.0).0, c.1.1)),
+  λ c. let to : k < c.0.to = c.1.1.1 in (c.0, ((backs c.0).1 (c.1.0, omega arith), c.1.1)),
+)
+
 -- ranges of which one holds a place, and ranges of which none does yet
 pub held_at : (rs : List Range) (i : ℕ) (d : Range) → i < length rs → (get_or rs i d).from < (get_or rs i d).to → (k : ℕ) × Covers rs k
 held_at rs i d less l = ((get_or rs i d).from, (get_or rs i d, (at_place rs i d less, (omega arith, l))))

@@ -1,44 +1,69 @@
 -- Rows of places by ranges and sets.
-use Rattle.std.proofs.Common.{◌≡◌, ℕ, zero, suc, ◌+◌, ◌-◌, ◌^◌, ◌<◌, ◌≤◌, ◌↔◌, List, [], ◌∷◌, ◌++◌, ◌⊎◌, length, get_or, map, set, length-append, Bool, true, false, IsTrue, refl, sym, ap, ◌∙◌, subst, inl, inr, ⊎_elim, arith}
+use Rattle.std.proofs.Common.{◌≡◌, ℕ, zero, suc, ◌+◌, ◌-◌, ◌<◌, ◌≤◌, ◌↔◌, List, [], ◌∷◌, ◌++◌, ◌⊎◌, length, get_or, map, set, length-append, Bool, true, false, IsTrue, refl, sym, ap, ◌∙◌, subst, inl, inr, ⊎_elim, arith}
 use Rattle.std.proofs.lemmas.Bool.{cases_eq, false≢true}
+use Rattle.std.specs.Int.{bit_at}
 use Rattle.std.proofs.lemmas.Nat.{pow_pos}
+use Rattle.std.proofs.lemmas.Nat.Bits.{bit_at-lt}
 use Rattle.std.proofs.lemmas.List.{get_or_append_left, get_or_push, get_or-set_same, get_or-set_other, length-set, length-map, get_or-map, map_push, map-set}
 use Rattle.p21_graph.specs.declared.rows.Row.{Row}
 use Rattle.p21_graph.specs.declared.sets.Halves.{Halves}
 use Rattle.p21_graph.specs.declared.sets.Sets.{Sets}
 use Rattle.p21_graph.specs.Ranges.{Covers}
-use Rattle.p21_graph.specs.Rows.{place_of_set, ranges_of, row_of, IsRow, AreEachRows}
-use Rattle.p21_graph.specs.Sets.{low_of, high_of, IsHeld, IsStore, AreSets, Keeps, holds}
+use Rattle.p21_graph.specs.Rows.{place_of_bit, ranges_of_word, ranges_of, row_of, IsRow, AreEachRows}
+use Rattle.p21_graph.specs.Sets.{low_of, high_of, word_of, size_of, IsHeld, IsStore, AreSets, Keeps, holds}
 use Rattle.p21_graph.proofs.RangeLemmas.{covers_append, covers_place}
 use Rattle.p21_graph.proofs.SetLemmas.{halves_below, halves_behind, held_below, keeps_held, keeps_length, nothing_holds_none, everything_holds_all}
 
-covers_single : (first set k : ℕ) → Covers (place_of_set first set) k ↔ ((first ≤ k) × ((1 ≤ set) × (k - first ≡ 0)))
-covers_single first zero k = (λ c. absurd c.1.0, λ h. let some : 1 ≤ 0 = h.1.0 in absurd (omega arith))
-covers_single first (suc set) k =
-    let p = covers_place first k in
-    (λ c. let at : k ≡ first = p.0 c in (omega arith, (omega arith, omega arith)), λ h. p.1 (let from : first ≤ k = h.0 in let at : k - first ≡ 0 = h.1.1 in omega arith))
+-- the range of a bit
+covers_bit : (place bit k : ℕ) → bit < 2 → Covers (place_of_bit place bit) k ↔ ((bit ≡ 1) × (k ≡ place))
+covers_bit place zero k few = (λ c. absurd c.1.0, λ h. let some : 0 ≡ 1 = h.0 in absurd (omega arith))
+covers_bit place (suc bit) k few =
+    let p = covers_place place k in
+    (λ c. (omega arith, p.0 c), λ h. p.1 h.1)
+
+-- the ranges of the first bits of a word hold the places of those that are set
+covers_bits : (bits first word k : ℕ) → Covers (ranges_of_word bits first word) k ↔ ((first ≤ k) × ((k - first < bits) × (bit_at word (k - first) ≡ 1)))
+unfolding ranges_of_word
+covers_bits zero first word k = (λ c. absurd c.1.0, λ h. let few : k - first < 0 = h.1.0 in absurd (omega arith))
+covers_bits (suc bits) first word k =
+    let a = covers_append (ranges_of_word bits first word) (place_of_bit (first + bits) (bit_at word bits)) k in
+    let before = covers_bits bits first word k in
+    let last = covers_bit (first + bits) (bit_at word bits) k (bit_at-lt word bits) in (
+      λ c. ⊎_elim
+          (λ (l : Covers (ranges_of_word bits first word) k). let p = before.0 l in (p.0, (omega (arith, p.1.0), p.1.1)))
+          (λ (r : Covers (place_of_bit (first + bits) (bit_at word bits)) k).
+          let p = last.0 r in
+          let at : k ≡ first + bits = p.1 in
+          let same : bits ≡ k - first = omega arith in
+          (omega arith, (omega arith, subst (λ n. bit_at word n ≡ 1) same p.0)))
+          (a.0 c),
+      λ h. a.1 (⊎_elim
+          (λ (e : k - first ≡ bits). inr (last.1 (subst (λ n. bit_at word n ≡ 1) e h.1.1, let from : first ≤ k = h.0 in omega arith)))
+          (λ (ne : (k - first ≡ bits) → ⊥). inl (before.1 (h.0, (let few : k - first < suc bits = h.1.0 in omega arith, h.1.1))))
+          (cases_eq (k - first) bits)),
+    )
 
 -- the ranges of a set hold what the set holds
 pub covers_set : (hs : List Halves) (levels first set k : ℕ) → Covers (ranges_of hs levels first set) k ↔ ((first ≤ k) × IsHeld hs levels set (k - first))
-covers_set hs zero first set k = covers_single first set k
+covers_set hs zero first set k = covers_bits 64 first (word_of hs set) k
 covers_set hs (suc levels) first set k =
-    let a = covers_append (ranges_of hs levels first (low_of hs set)) (ranges_of hs levels (first + 2 ^ levels) (high_of hs set)) k in
+    let a = covers_append (ranges_of hs levels first (low_of hs set)) (ranges_of hs levels (first + size_of levels) (high_of hs set)) k in
     let low = covers_set hs levels first (low_of hs set) k in
-    let high = covers_set hs levels (first + 2 ^ levels) (high_of hs set) k in (
+    let high = covers_set hs levels (first + size_of levels) (high_of hs set) k in (
       λ c. ⊎_elim
           (λ (l : Covers (ranges_of hs levels first (low_of hs set)) k). let p = low.0 l in (p.0, inl (held_below hs levels (low_of hs set) (k - first) p.1, p.1)))
-          (λ (r : Covers (ranges_of hs levels (first + 2 ^ levels) (high_of hs set)) k).
+          (λ (r : Covers (ranges_of hs levels (first + size_of levels) (high_of hs set)) k).
           let p = high.0 r in
-          let from : first + 2 ^ levels ≤ k = p.0 in
-          let same : k - (first + 2 ^ levels) ≡ (k - first) - 2 ^ levels = omega arith in
+          let from : first + size_of levels ≤ k = p.0 in
+          let same : k - (first + size_of levels) ≡ (k - first) - size_of levels = omega arith in
           (omega arith, inr (omega arith, subst (λ n. IsHeld hs levels (high_of hs set) n) same p.1)))
           (a.0 c),
       λ p. a.1 (⊎_elim
-          (λ (l : (k - first < 2 ^ levels) × IsHeld hs levels (low_of hs set) (k - first)). inl (low.1 (p.0, l.1)))
-          (λ (r : (2 ^ levels ≤ k - first) × IsHeld hs levels (high_of hs set) ((k - first) - 2 ^ levels)).
+          (λ (l : (k - first < size_of levels) × IsHeld hs levels (low_of hs set) (k - first)). inl (low.1 (p.0, l.1)))
+          (λ (r : (size_of levels ≤ k - first) × IsHeld hs levels (high_of hs set) ((k - first) - size_of levels)).
           let from : first ≤ k = p.0 in
-          let least : 2 ^ levels ≤ k - first = r.0 in
-          let same : (k - first) - 2 ^ levels ≡ k - (first + 2 ^ levels) = omega arith in
+          let least : size_of levels ≤ k - first = r.0 in
+          let same : (k - first) - size_of levels ≡ k - (first + size_of levels) = omega arith in
           inr (high.1 (omega arith, subst (λ n. IsHeld hs levels (high_of hs set) n) same r.1)))
           p.1),
     )
@@ -64,15 +89,15 @@ covers_ranges sets row k are none =
 -- ---- sets that are kept
 
 pub ranges_behind : (hs rest : List Halves) (levels first set : ℕ) → IsStore hs → set < length hs → ranges_of (hs ++ rest) levels first set ≡ ranges_of hs levels first set
-ranges_behind hs rest zero first set store less = refl
+ranges_behind hs rest zero first set store less = ap (λ (h : Halves). ranges_of_word 64 first h.word) (halves_behind hs rest set less)
 ranges_behind hs rest (suc levels) first set store less =
     let b = halves_below hs set store less in
     let e = halves_behind hs rest set less in
     let low : ranges_of (hs ++ rest) levels first (low_of (hs ++ rest) set) ≡ ranges_of hs levels first (low_of hs set) =
     subst (λ (h : Halves). ranges_of (hs ++ rest) levels first h.low ≡ ranges_of hs levels first (low_of hs set)) (sym e) (ranges_behind hs rest levels first (low_of hs set) store b.0) in
-    let high : ranges_of (hs ++ rest) levels (first + 2 ^ levels) (high_of (hs ++ rest) set) ≡ ranges_of hs levels (first + 2 ^ levels) (high_of hs set) =
-    subst (λ (h : Halves). ranges_of (hs ++ rest) levels (first + 2 ^ levels) h.high ≡ ranges_of hs levels (first + 2 ^ levels) (high_of hs set)) (sym e) (ranges_behind hs rest levels (first + 2 ^ levels) (high_of hs set) store b.1) in
-    ap (λ u. u ++ ranges_of (hs ++ rest) levels (first + 2 ^ levels) (high_of (hs ++ rest) set)) low ∙ ap (λ u. ranges_of hs levels first (low_of hs set) ++ u) high
+    let high : ranges_of (hs ++ rest) levels (first + size_of levels) (high_of (hs ++ rest) set) ≡ ranges_of hs levels (first + size_of levels) (high_of hs set) =
+    subst (λ (h : Halves). ranges_of (hs ++ rest) levels (first + size_of levels) h.high ≡ ranges_of hs levels (first + size_of levels) (high_of hs set)) (sym e) (ranges_behind hs rest levels (first + size_of levels) (high_of hs set) store b.1) in
+    ap (λ u. u ++ ranges_of (hs ++ rest) levels (first + size_of levels) (high_of (hs ++ rest) set)) low ∙ ap (λ u. ranges_of hs levels first (low_of hs set) ++ u) high
 
 pub set_kept : (old new : Sets) (set : ℕ) → Keeps old new → set < length old.halves.items → set < length new.halves.items
 set_kept old new set keeps less = let longer = keeps_length old new keeps in omega arith
@@ -153,20 +178,14 @@ some_in_row sets row D E d e = (
   λ h. ⊎_elim (λ (l : Covers row.ranges.items h.0). inl (d.1 (h.0, l))) (λ (r : holds sets row.set h.0). inr (e.1 (h.0, r))) ((covers_row sets row h.0).0 h.1),
 )
 
--- a set of which it is known at once whether it holds any place
-pub some_known : (hs : List Halves) (levels set : ℕ) → IsStore hs → (levels ≡ 0) ⊎ (set ≤ 1) → (1 ≤ set) ↔ ((k : ℕ) × IsHeld hs levels set k)
+-- of nothing and everything it is known whether they hold any place
+pub some_known : (hs : List Halves) (levels set : ℕ) → IsStore hs → set ≤ 1 → (1 ≤ set) ↔ ((k : ℕ) × IsHeld hs levels set k)
 some_known hs levels set store known = (
-  λ some. ⊎_elim
-      (λ (z : levels ≡ 0). (0, subst (λ n. IsHeld hs n set 0) (sym z) (some, refl)))
-      (λ (l : set ≤ 1). let e : set ≡ 1 = omega arith in (0, subst (λ n. IsHeld hs levels n 0) (sym e) (everything_holds_all hs levels 0 store (pow_pos levels))))
-      known,
+  λ some. let e : set ≡ 1 = omega arith in (0, subst (λ n. IsHeld hs levels n 0) (sym e) (everything_holds_all hs levels 0 store (omega (arith, pow_pos levels)))),
   λ h. ⊎_elim
-      (λ (z : levels ≡ 0). (subst (λ n. IsHeld hs n set h.0) z h.1).0)
-      (λ (l : set ≤ 1). ⊎_elim
       (λ (e : set ≡ 0). absurd (nothing_holds_none hs levels h.0 store (subst (λ n. IsHeld hs levels n h.0) e h.1)))
-      (λ (ne : (set ≡ 0) → ⊥). omega (arith, l, ne))
-      (cases_eq set 0))
-      known,
+      (λ (ne : (set ≡ 0) → ⊥). omega (arith, ne))
+      (cases_eq set 0),
 )
 
 -- a set holds a place where one of its halves does
@@ -174,11 +193,11 @@ pub some_in_halves : (hs : List Halves) (levels set : ℕ) (D E : Type 0) → D 
 some_in_halves hs levels set D E d e = (
   λ s. ⊎_elim
       (λ (x : D). let h = d.0 x in (h.0, inl (held_below hs levels (low_of hs set) h.0 h.1, h.1)))
-      (λ (y : E). let h = e.0 y in let same : h.0 ≡ (h.0 + 2 ^ levels) - 2 ^ levels = omega arith in (h.0 + 2 ^ levels, inr (omega arith, subst (λ n. IsHeld hs levels (high_of hs set) n) same h.1)))
+      (λ (y : E). let h = e.0 y in let same : h.0 ≡ (h.0 + size_of levels) - size_of levels = omega arith in (h.0 + size_of levels, inr (omega arith, subst (λ n. IsHeld hs levels (high_of hs set) n) same h.1)))
       s,
   λ h. ⊎_elim
-      (λ (l : (h.0 < 2 ^ levels) × IsHeld hs levels (low_of hs set) h.0). inl (d.1 (h.0, l.1)))
-      (λ (r : (2 ^ levels ≤ h.0) × IsHeld hs levels (high_of hs set) (h.0 - 2 ^ levels)). inr (e.1 (h.0 - 2 ^ levels, r.1)))
+      (λ (l : (h.0 < size_of levels) × IsHeld hs levels (low_of hs set) h.0). inl (d.1 (h.0, l.1)))
+      (λ (r : (size_of levels ≤ h.0) × IsHeld hs levels (high_of hs set) (h.0 - size_of levels)). inr (e.1 (h.0 - size_of levels, r.1)))
       h.1,
 )
 

@@ -1,5 +1,5 @@
 -- Sets of places by the sets of their halves.
-use Rattle.std.proofs.Common.{◌≡◌, ℕ, zero, suc, ◌-◌, ◌^◌, ◌<◌, ◌≤◌, ◌↔◌, List, [], ◌∷◌, ◌++◌, ◌⊎◌, not, eqb, IsTrue, length, get_or, append_assoc, refl, sym, ap, ◌∙◌, subst, inl, inr, ⊎_elim, arith}
+use Rattle.std.proofs.Common.{◌≡◌, ℕ, zero, suc, ◌-◌, ◌<◌, ◌≤◌, ◌↔◌, List, [], ◌∷◌, ◌++◌, ◌⊎◌, not, eqb, IsTrue, length, get_or, append_assoc, refl, sym, ap, ◌∙◌, subst, inl, inr, ⊎_elim, arith}
 use Rattle.std.proofs.Math.Nat.{pow-suc}
 use Rattle.std.proofs.Math.Dec.{eqb-suc-zero}
 use Rattle.std.proofs.lemmas.Bool.{cases_lt, cases_eq, false≢true}
@@ -8,9 +8,10 @@ use Rattle.std.specs.BTreeMap.{BTreeMap}
 use Rattle.p21_graph.specs.declared.sets.Halves.{Halves}
 use Rattle.p21_graph.specs.declared.sets.Pair.{Pair}
 use Rattle.p21_graph.specs.declared.sets.Sets.{Sets}
-use Rattle.p21_graph.specs.Sets.{nothing, low_of, high_of, IsHeld, IsStore, IsUnion, AreUnions, AreSets, Keeps}
+use Rattle.p21_graph.specs.Sets.{nothing, low_of, high_of, word_of, size_of, IsHeld, IsInWord, IsStore, IsUnion, AreUnions, AreSets, Keeps}
 use Rattle.p21_graph.specs.RangeLaws.{↔_through}
 use Rattle.p21_graph.proofs.RangeLemmas.{↔_back}
+use Rattle.p21_graph.proofs.WordLemmas.{not_in_nothing, in_everything}
 
 pub ↔_both : {A B C D : Type 0} → A ↔ B → C ↔ D → (A ⊎ C) ↔ (B ⊎ D)
 ↔_both {A} {B} {C} {D} f g = (λ s. ⊎_elim (λ (a : A). inl (f.0 a)) (λ (c : C). inr (g.0 c)) s, λ s. ⊎_elim (λ (b : B). inl (f.1 b)) (λ (d : D). inr (g.1 d)) s)
@@ -32,34 +33,34 @@ halves_behind hs rest set less = get_or_append_left hs rest nothing set less
 
 -- a set that there was holds what it held when sets are pushed behind
 pub held_behind : (hs rest : List Halves) (levels set k : ℕ) → IsStore hs → set < length hs → IsHeld (hs ++ rest) levels set k ↔ IsHeld hs levels set k
-held_behind hs rest zero set k store less = (λ h. h, λ h. h)
+held_behind hs rest zero set k store less = subst (λ (h : Halves). IsInWord h.word k ↔ IsInWord (word_of hs set) k) (sym (halves_behind hs rest set less)) (λ h. h, λ h. h)
 held_behind hs rest (suc levels) set k store less =
     let e = halves_behind hs rest set less in
     let b = halves_below hs set store less in
     let low : IsHeld (hs ++ rest) levels (low_of (hs ++ rest) set) k ↔ IsHeld hs levels (low_of hs set) k =
     subst (λ (h : Halves). IsHeld (hs ++ rest) levels h.low k ↔ IsHeld hs levels (low_of hs set) k) (sym e) (held_behind hs rest levels (low_of hs set) k store b.0) in
-    let high : IsHeld (hs ++ rest) levels (high_of (hs ++ rest) set) (k - 2 ^ levels) ↔ IsHeld hs levels (high_of hs set) (k - 2 ^ levels) =
-    subst (λ (h : Halves). IsHeld (hs ++ rest) levels h.high (k - 2 ^ levels) ↔ IsHeld hs levels (high_of hs set) (k - 2 ^ levels)) (sym e) (held_behind hs rest levels (high_of hs set) (k - 2 ^ levels) store b.1) in
-    ↔_both (↔_also (k < 2 ^ levels) low) (↔_also (2 ^ levels ≤ k) high)
+    let high : IsHeld (hs ++ rest) levels (high_of (hs ++ rest) set) (k - size_of levels) ↔ IsHeld hs levels (high_of hs set) (k - size_of levels) =
+    subst (λ (h : Halves). IsHeld (hs ++ rest) levels h.high (k - size_of levels) ↔ IsHeld hs levels (high_of hs set) (k - size_of levels)) (sym e) (held_behind hs rest levels (high_of hs set) (k - size_of levels) store b.1) in
+    ↔_both (↔_also (k < size_of levels) low) (↔_also (size_of levels ≤ k) high)
 
 -- what a set holds is a place
-pub held_below : (hs : List Halves) (levels set k : ℕ) → IsHeld hs levels set k → k < 2 ^ levels
-held_below hs zero set k h = omega (arith, h.1)
+pub held_below : (hs : List Halves) (levels set k : ℕ) → IsHeld hs levels set k → k < size_of levels
+held_below hs zero set k h = omega (arith, h.0)
 held_below hs (suc levels) set k (inl h) = let l = held_below hs levels (low_of hs set) k h.1 in omega (arith, pow-suc 2 levels, l)
-held_below hs (suc levels) set k (inr h) = let l = held_below hs levels (high_of hs set) (k - 2 ^ levels) h.1 in omega (arith, pow-suc 2 levels, l)
+held_below hs (suc levels) set k (inr h) = let l = held_below hs levels (high_of hs set) (k - size_of levels) h.1 in omega (arith, pow-suc 2 levels, l)
 
 pub nothing_holds_none : (hs : List Halves) (levels k : ℕ) → IsStore hs → ¬ (IsHeld hs levels 0 k)
-nothing_holds_none hs zero k store h = omega (arith, h.0)
+nothing_holds_none hs zero k store h = not_in_nothing (word_of hs 0) k store.nothing.2 h
 nothing_holds_none hs (suc levels) k store (inl h) = nothing_holds_none hs levels k store (subst (λ n. IsHeld hs levels n k) store.nothing.0 h.1)
-nothing_holds_none hs (suc levels) k store (inr h) = nothing_holds_none hs levels (k - 2 ^ levels) store (subst (λ n. IsHeld hs levels n (k - 2 ^ levels)) store.nothing.1 h.1)
+nothing_holds_none hs (suc levels) k store (inr h) = nothing_holds_none hs levels (k - size_of levels) store (subst (λ n. IsHeld hs levels n (k - size_of levels)) store.nothing.1 h.1)
 
-pub everything_holds_all : (hs : List Halves) (levels k : ℕ) → IsStore hs → k < 2 ^ levels → IsHeld hs levels 1 k
-everything_holds_all hs zero k store less = (omega arith, omega arith)
+pub everything_holds_all : (hs : List Halves) (levels k : ℕ) → IsStore hs → k < size_of levels → IsHeld hs levels 1 k
+everything_holds_all hs zero k store less = in_everything (word_of hs 1) k store.everything.2 (omega arith)
 everything_holds_all hs (suc levels) k store less =
     ⊎_elim
-    (λ (l : k < 2 ^ levels). inl (l, subst (λ n. IsHeld hs levels n k) (sym store.everything.0) (everything_holds_all hs levels k store l)))
-    (λ (l : 2 ^ levels ≤ k). inr (l, subst (λ n. IsHeld hs levels n (k - 2 ^ levels)) (sym store.everything.1) (everything_holds_all hs levels (k - 2 ^ levels) store (omega (arith, pow-suc 2 levels)))))
-    (cases_lt k (2 ^ levels))
+    (λ (l : k < size_of levels). inl (l, subst (λ n. IsHeld hs levels n k) (sym store.everything.0) (everything_holds_all hs levels k store l)))
+    (λ (l : size_of levels ≤ k). inr (l, subst (λ n. IsHeld hs levels n (k - size_of levels)) (sym store.everything.1) (everything_holds_all hs levels (k - size_of levels) store (omega (arith, pow-suc 2 levels)))))
+    (cases_lt k (size_of levels))
 
 -- a set is not nothing
 pub some_test : (set : ℕ) → IsTrue (not (eqb set 0)) ↔ (1 ≤ set)
@@ -67,16 +68,16 @@ some_test zero = (λ t. absurd (false≢true t), λ l. absurd (omega arith))
 some_test (suc set) = (λ t. omega arith, λ l. rw (eqb-suc-zero set) refl)
 
 -- a place in the lower half is held by the lower half
-pub held_low : (hs : List Halves) (levels set k : ℕ) → k < 2 ^ levels → IsHeld hs (suc levels) set k ↔ IsHeld hs levels (low_of hs set) k
+pub held_low : (hs : List Halves) (levels set k : ℕ) → k < size_of levels → IsHeld hs (suc levels) set k ↔ IsHeld hs levels (low_of hs set) k
 held_low hs levels set k less = (
-  λ h. ⊎_elim (λ (l : (k < 2 ^ levels) × IsHeld hs levels (low_of hs set) k). l.1) (λ (r : (2 ^ levels ≤ k) × IsHeld hs levels (high_of hs set) (k - 2 ^ levels)). absurd (omega (arith, r.0))) h,
+  λ h. ⊎_elim (λ (l : (k < size_of levels) × IsHeld hs levels (low_of hs set) k). l.1) (λ (r : (size_of levels ≤ k) × IsHeld hs levels (high_of hs set) (k - size_of levels)). absurd (omega (arith, r.0))) h,
   λ h. inl (less, h),
 )
 
 -- a place in the upper half is held by the upper half
-pub held_high : (hs : List Halves) (levels set k : ℕ) → 2 ^ levels ≤ k → IsHeld hs (suc levels) set k ↔ IsHeld hs levels (high_of hs set) (k - 2 ^ levels)
+pub held_high : (hs : List Halves) (levels set k : ℕ) → size_of levels ≤ k → IsHeld hs (suc levels) set k ↔ IsHeld hs levels (high_of hs set) (k - size_of levels)
 held_high hs levels set k least = (
-  λ h. ⊎_elim (λ (l : (k < 2 ^ levels) × IsHeld hs levels (low_of hs set) k). absurd (omega (arith, l.0))) (λ (r : (2 ^ levels ≤ k) × IsHeld hs levels (high_of hs set) (k - 2 ^ levels)). r.1) h,
+  λ h. ⊎_elim (λ (l : (k < size_of levels) × IsHeld hs levels (low_of hs set) k). absurd (omega (arith, l.0))) (λ (r : (size_of levels ≤ k) × IsHeld hs levels (high_of hs set) (k - size_of levels)). r.1) h,
   λ h. inr (least, h),
 )
 
@@ -87,8 +88,8 @@ store_push hs h store low high =
     let count = store.count in
     record {
       count = omega (arith, length_push hs h);
-      nothing = rw (behind 0 (omega arith), low_of, high_of) store.nothing;
-      everything = rw (behind 1 (omega arith), low_of, high_of) store.everything;
+      nothing = rw (behind 0 (omega arith), low_of, high_of, word_of) store.nothing;
+      everything = rw (behind 1 (omega arith), low_of, high_of, word_of) store.everything;
       below = λ set least less.
           ⊎_elim
           (λ (last : set ≡ length hs).

@@ -1,7 +1,8 @@
 -- Unions of sets of places, and those that are known.
-use Rattle.std.proofs.Common.{◌≡◌, ℕ, zero, suc, ◌-◌, ◌^◌, ◌<◌, ◌≤◌, ◌↔◌, Bool, true, false, cond, List, ◌⊎◌, Option, Some, None, MatchOption, length, get_or, refl, sym, ap, ◌∙◌, subst, inl, inr, ⊎_elim, arith}
+use Rattle.std.proofs.Common.{◌≡◌, ℕ, zero, suc, ◌-◌, ◌<◌, ◌≤◌, ◌↔◌, Bool, true, false, cond, List, ◌⊎◌, Option, Some, None, MatchOption, length, get_or, refl, sym, ap, ◌∙◌, subst, inl, inr, ⊎_elim, arith}
 use Rattle.std.specs.BTreeMap.{BTreeMap, get}
 use Rattle.std.specs.Ordering.{nat_cmp, ordering_then, is_eq}
+use Rattle.std.specs.Int.Bits.{bit_or}
 use Rattle.std.specs.declared.cmp.Ordering.{Ordering}
 use Rattle.std.specs.declared.cmp.Ordering.TheVariants.{Less, Equal, Greater}
 use Rattle.std.proofs.lemmas.Bool.{cases_lt, false≢true}
@@ -9,37 +10,36 @@ use Rattle.std.proofs.lemmas.Map.Lookups.{exact_unsigned}
 use Rattle.p21_graph.specs.declared.sets.Halves.{Halves}
 use Rattle.p21_graph.specs.declared.sets.Pair.{Pair}
 use Rattle.p21_graph.specs.declared.sets.Sets.{Sets}
-use Rattle.p21_graph.specs.Sets.{low_of, high_of, nothing, pair_cmp, IsPairOf, IsHeld, IsStore, IsSetOf, IsUnion, AreUnions, AreSets, Keeps}
+use Rattle.p21_graph.specs.Sets.{low_of, high_of, word_of, size_of, nothing, pair_cmp, IsPairOf, IsHeld, IsInWord, IsStore, IsSetOf, IsUnion, AreUnions, AreSets, Keeps}
 use Rattle.p21_graph.specs.RangeLaws.{↔_through}
 use Rattle.p21_graph.proofs.RangeLemmas.{↔_back}
+use Rattle.p21_graph.proofs.WordLemmas.{in_either_word}
 use Rattle.p21_graph.proofs.SetLemmas.{↔_both, held_low, held_high, held_below, nothing_holds_none, everything_holds_all, halves_below, keeps_self, keeps_halves, keeps_length, keeps_through, keeps_union}
 
 -- a set holds a place in the half in which it lies if one of the other two does
-either_half : (hs : List Halves) (levels first second set low high k : ℕ) → IsSetOf hs low high set → IsUnion hs (low_of hs first) (low_of hs second) low → IsUnion hs (high_of hs first) (high_of hs second) high
+either_half : (hs : List Halves) (levels first second set k : ℕ) (halves : Halves) → IsSetOf hs halves set → IsUnion hs (low_of hs first) (low_of hs second) halves.low → IsUnion hs (high_of hs first) (high_of hs second) halves.high
     → IsHeld hs (suc levels) set k ↔ (IsHeld hs (suc levels) first k ⊎ IsHeld hs (suc levels) second k)
-either_half hs levels first second set low high k is lows highs =
+either_half hs levels first second set k halves is lows highs =
     ⊎_elim
-    (λ (l : k < 2 ^ levels).
+    (λ (l : k < size_of levels).
     ↔_through (held_low hs levels set k l)
     (↔_through (subst (λ n. IsHeld hs levels n k ↔ (IsHeld hs levels (low_of hs first) k ⊎ IsHeld hs levels (low_of hs second) k)) (sym is.low) (lows.holds levels k))
     (↔_back (↔_both (held_low hs levels first k l) (held_low hs levels second k l)))))
-    (λ (l : 2 ^ levels ≤ k).
-    let j = k - 2 ^ levels in
+    (λ (l : size_of levels ≤ k).
+    let j = k - size_of levels in
     ↔_through (held_high hs levels set k l)
     (↔_through (subst (λ n. IsHeld hs levels n j ↔ (IsHeld hs levels (high_of hs first) j ⊎ IsHeld hs levels (high_of hs second) j)) (sym is.high) (highs.holds levels j))
     (↔_back (↔_both (held_high hs levels first k l) (held_high hs levels second k l)))))
-    (cases_lt k (2 ^ levels))
+    (cases_lt k (size_of levels))
 
--- a set is a union where its halves are
-pub union_of_halves : (hs : List Halves) (first second set low high : ℕ) → 2 ≤ first → 2 ≤ second → 1 ≤ set → IsSetOf hs low high set → IsUnion hs (low_of hs first) (low_of hs second) low → IsUnion hs (high_of hs first) (high_of hs second) high → IsUnion hs first second set
-union_of_halves hs first second set low high f s u is lows highs = record { below = is.below; holds = holds }
+-- a set is a union where its word and its halves are
+pub union_of_halves : (hs : List Halves) (first second set : ℕ) (halves : Halves) → IsSetOf hs halves set → IsUnion hs (low_of hs first) (low_of hs second) halves.low → IsUnion hs (high_of hs first) (high_of hs second) halves.high
+    → halves.word ≡ bit_or (word_of hs first) (word_of hs second) → IsUnion hs first second set
+union_of_halves hs first second set halves is lows highs word = record { below = is.below; holds = holds }
   where
     holds : (levels k : ℕ) → IsHeld hs levels set k ↔ (IsHeld hs levels first k ⊎ IsHeld hs levels second k)
-    holds zero k = (
-      λ h. inl (omega (arith, f), h.1),
-      λ h. (u, ⊎_elim (λ (a : (1 ≤ first) × (k ≡ 0)). a.1) (λ (b : (1 ≤ second) × (k ≡ 0)). b.1) h),
-    )
-    holds (suc levels) k = either_half hs levels first second set low high k is lows highs
+    holds zero k = subst (λ w. IsInWord w k ↔ (IsInWord (word_of hs first) k ⊎ IsInWord (word_of hs second) k)) (sym (is.word ∙ word)) (in_either_word (word_of hs first) (word_of hs second) k)
+    holds (suc levels) k = either_half hs levels first second set k halves is lows highs
 
 -- unions where one set holds the other
 pub union_self : (hs : List Halves) (set : ℕ) → set < length hs → IsUnion hs set set set
@@ -139,13 +139,16 @@ unions_with hs m n pair first second union are is f s of updates =
     let b = pair_below pair first second (length hs) is f s in
     unions_more hs m n pair union are b.0 b.1 ((paired hs pair first second union is).0 of) updates
 
--- a set that is made of the unions of the halves of two is the union of them
-pub made_union : (old new : Sets) (first second low high union : ℕ) → AreSets old → Keeps old new → (2 ≤ first) × (first < length old.halves.items) → (2 ≤ second) × (second < length old.halves.items)
-    → IsUnion old.halves.items (low_of old.halves.items first) (low_of old.halves.items second) low → IsUnion old.halves.items (high_of old.halves.items first) (high_of old.halves.items second) high
-    → 1 ≤ union → IsSetOf new.halves.items low high union → IsUnion new.halves.items first second union
-made_union old new first second low high union are keeps f s lows highs some is =
-    let one = halves_below old.halves.items first are.store f.1 in
-    let other = halves_below old.halves.items second are.store s.1 in
-    union_of_halves new.halves.items first second union low high f.0 s.0 some is
-    (half_united (λ h. h.low) old old new first second low (get_or old.halves.items first nothing) (get_or old.halves.items second nothing) are (keeps_self old) keeps f.1 s.1 refl refl one.0 other.0 lows)
-    (half_united (λ h. h.high) old old new first second high (get_or old.halves.items first nothing) (get_or old.halves.items second nothing) are (keeps_self old) keeps f.1 s.1 refl refl one.1 other.1 highs)
+-- a set that is made of the unions of the halves of two, and of their words, is the union of them
+pub made_union : (old new : Sets) (first second union : ℕ) (halves : Halves) → AreSets old → Keeps old new → first < length old.halves.items → second < length old.halves.items
+    → IsUnion old.halves.items (low_of old.halves.items first) (low_of old.halves.items second) halves.low → IsUnion old.halves.items (high_of old.halves.items first) (high_of old.halves.items second) halves.high
+    → halves.word ≡ bit_or (word_of old.halves.items first) (word_of old.halves.items second) → IsSetOf new.halves.items halves union → IsUnion new.halves.items first second union
+made_union old new first second union halves are keeps f s lows highs word is =
+    let one = halves_below old.halves.items first are.store f in
+    let other = halves_below old.halves.items second are.store s in
+    let words : bit_or (word_of old.halves.items first) (word_of old.halves.items second) ≡ bit_or (word_of new.halves.items first) (word_of new.halves.items second) =
+    sym (λ i. bit_or ((keeps_halves old new first keeps f i).word) ((keeps_halves old new second keeps s i).word)) in
+    union_of_halves new.halves.items first second union halves is
+    (half_united (λ h. h.low) old old new first second halves.low (get_or old.halves.items first nothing) (get_or old.halves.items second nothing) are (keeps_self old) keeps f s refl refl one.0 other.0 lows)
+    (half_united (λ h. h.high) old old new first second halves.high (get_or old.halves.items first nothing) (get_or old.halves.items second nothing) are (keeps_self old) keeps f s refl refl one.1 other.1 highs)
+    (word ∙ words)

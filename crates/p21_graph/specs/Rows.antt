@@ -1,22 +1,29 @@
 -- Rows of places: of each row what some ranges hold, and what a set holds.
-use Rattle.std.specs.Prelude.{◌<◌, ◌+◌, ◌^◌, ◌++◌, ◌∷◌, ℕ, zero, suc, List, [], length, get_or, map}
+use Rattle.std.specs.Prelude.{◌<◌, ◌+◌, ◌++◌, ◌∷◌, ℕ, zero, suc, List, [], length, get_or, map}
+use Rattle.std.specs.Int.{bit_at}
 use Rattle.p21_graph.specs.declared.ranges.Range.{Range}
 use Rattle.p21_graph.specs.declared.rows.Row.{Row}
 use Rattle.p21_graph.specs.declared.rows.Rows.{Rows}
 use Rattle.p21_graph.specs.declared.sets.Halves.{Halves}
 use Rattle.p21_graph.specs.declared.sets.Sets.{Sets}
+use Rattle.p21_graph.specs.declared.sets.TheConstants.{WORD}
 use Rattle.p21_graph.specs.Ranges.{AreInOrder}
-use Rattle.p21_graph.specs.Sets.{low_of, high_of, AreSets}
+use Rattle.p21_graph.specs.Sets.{low_of, high_of, word_of, size_of, AreSets}
 
--- of a set of a single place the place, unless the set is nothing
-abbrev pub place_of_set : ℕ → ℕ → List Range
-place_of_set first zero = []
-place_of_set first (suc set) = record { from = first; to = first + 1 } ∷ []
+-- the place of a bit as a range, where the bit is set
+abbrev pub place_of_bit : ℕ → ℕ → List Range
+place_of_bit place zero = []
+place_of_bit place (suc n) = record { from = place; to = place + 1 } ∷ []
+
+-- the places that a word holds as ranges, by so many of its bits, where the first place is this one
+unfoldable pub ranges_of_word : ℕ → ℕ → ℕ → List Range
+ranges_of_word zero first word = []
+ranges_of_word (suc bits) first word = ranges_of_word bits first word ++ place_of_bit (first + bits) (bit_at word bits)
 
 -- the places of a set as ranges, where the first place is this one
 abbrev pub ranges_of : List Halves → ℕ → ℕ → ℕ → List Range
-ranges_of hs zero first set = place_of_set first set
-ranges_of hs (suc levels) first set = ranges_of hs levels first (low_of hs set) ++ ranges_of hs levels (first + 2 ^ levels) (high_of hs set)
+ranges_of hs zero first set = ranges_of_word WORD first (word_of hs set)
+ranges_of hs (suc levels) first set = ranges_of hs levels first (low_of hs set) ++ ranges_of hs levels (first + size_of levels) (high_of hs set)
 
 -- the places of a row as ranges
 abbrev pub row_of : Sets → Row → List Range

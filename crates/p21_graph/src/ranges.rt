@@ -30,6 +30,26 @@ fn begun(ranges: &[Range], place: usize) -> usize
     ranges.partition_point(|range| range.from <= place)
 }
 
+/// Those of the ranges that begin before a place.
+pub(crate) fn before(ranges: &[Range], place: usize) -> &[Range]
+    requires { AreInOrder ranges.now }
+    ensures ranges { (r : Range) → IsIn result.now r ↔ (IsIn ranges.now r × (r.from < place)) }
+    ensures order { AreInOrder result.now }
+{
+    let count = ranges.partition_point(|range| range.from < place);
+    &ranges[..count]
+}
+
+/// Those of the ranges that end behind a place.
+pub(crate) fn behind(ranges: &[Range], place: usize) -> &[Range]
+    requires { AreInOrder ranges.now }
+    ensures ranges { (r : Range) → IsIn result.now r ↔ (IsIn ranges.now r × (place < r.to)) }
+    ensures order { AreInOrder result.now }
+{
+    let count = ranges.partition_point(|range| range.to <= place);
+    &ranges[count..]
+}
+
 /// Whether a place lies in one of the ranges: only the last that begins at the place or before it can hold it.
 pub(crate) fn covers(ranges: &[Range], place: usize) -> bool
     requires { AreInOrder ranges.now }

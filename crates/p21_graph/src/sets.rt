@@ -1,19 +1,21 @@
 //! Sets of places, of which each shares with others what it has in common with them.
 
-ghost use Rattle.std.specs.Prelude.{◌≡◌, ◌<◌, ◌≤◌, ◌+◌, ◌-◌, ◌^◌, ◌↔◌, ◌⊎◌, ℕ, List, length, IfOk, OnOk, MatchOption, IsTrue};
+ghost use Rattle.std.specs.Prelude.{◌≡◌, ◌<◌, ◌≤◌, ◌+◌, ◌^◌, ◌↔◌, ◌⊎◌, ℕ, List, length, IfOk, OnOk, MatchOption, IsTrue};
 ghost use Rattle.p21_graph.specs.declared.sets.Halves.{Halves};
-ghost use Rattle.p21_graph.specs.Ranges.{Covers, IsInRange, EndBy};
-ghost use Rattle.p21_graph.specs.Sets.{AreSets, AreUnions, IsHeld, IsPairOf, IsSetOf, IsUnion, Keeps, high_of, holds, low_of};
+ghost use Rattle.p21_graph.specs.Ranges.{AreInOrder, Covers, IsInRange, EndBy};
+ghost use Rattle.p21_graph.specs.Sets.{AreSets, AreUnions, IsHeld, IsInWord, IsPairOf, IsSetOf, IsUnion, Keeps, high_of, holds, low_of, size_of};
 
-use crate::ranges::Range;
+use crate::ranges::{Range, before, behind};
 use std::alloc::{AllocError, Global};
 use std::collections::BTreeMap;
 
-/// The set of the lower and that of the upper half of the places of a set.
-#[derive(Clone, Copy)]
+/// What a set holds: where its places are those of a word, what the word does, and where they are more, what the sets of their lower and
+/// of their upper half do.
+#[derive(Clone, Copy, PartialEq, Eq)]
 pub struct Halves {
     low: usize,
     high: usize,
+    word: u64,
 }
 
 /// Two sets.
@@ -46,12 +48,23 @@ pub(crate) const NOTHING: usize = 0;
 /// The set that holds all places.
 const EVERYTHING: usize = 1;
 
-/// How often places can be halved, and how many they are: so many or more, as far as there are numbers for them.
+/// How many places a word has: each is a bit of it.
+const WORD: usize = u64::BITS as usize;
+
+/// The halves and the word of everything. But for nothing, a set of the places of a word has these halves, and a set of more places has
+/// this word, so that what comes to hold all of its places is everything.
+const WHOLE: Halves = Halves {
+    low: EVERYTHING,
+    high: EVERYTHING,
+    word: u64::MAX,
+};
+
+/// How often places can be halved down to those of a word, and how many they are: so many or more, as far as there are numbers for them.
 fn size_for(count: usize) -> (usize, usize)
-    ensures { result.1 ≡ 2 ^ result.0 }
+    ensures { result.1 ≡ size_of result.0 }
 {
     let mut levels = 0;
-    let mut size = 1;
+    let mut size = WORD;
     while size < count && size <= usize::MAX / 2 {
         size *= 2;
         levels += 1;
@@ -59,26 +72,34 @@ fn size_for(count: usize) -> (usize, usize)
     (levels, size)
 }
 
-/// The part of a range that lies below so many places.
-fn lower(range: Range, half: usize) -> Range
-    ensures places { (k : ℕ) → IsInRange result k ↔ (IsInRange range k × (k < half)) }
-    ensures to { result.to ≤ half }
+/// Whether a word holds a place.
+fn is_in_word(word: u64, place: usize) -> bool
+    ensures { IsTrue result ↔ IsInWord word place }
 {
-    Range {
-        from: range.from,
-        to: range.to.min(half),
-    }
+    place < WORD && word >> place & 1 == 1
 }
 
-/// The part of a range that lies behind so many places, counted from there.
-fn upper(range: Range, half: usize) -> Range
-    ensures places { (k : ℕ) → IsInRange result k ↔ IsInRange range (k + half) }
-    ensures to { result.to ≡ range.to - half }
+/// The word that holds what lies of a range in its places, from a first one on.
+fn word_of_range(range: Range, first: usize) -> u64
+    ensures { (k : ℕ) → IsInWord result k ↔ ((k < WORD) × IsInRange range (first + k)) }
 {
-    Range {
-        from: range.from.saturating_sub(half),
-        to: range.to.saturating_sub(half),
+    let from = range.from.saturating_sub(first);
+    let to = range.to.saturating_sub(first).min(WORD);
+    if from >= to {
+        return 0;
     }
+    u64::MAX << from & u64::MAX >> (WORD - to)
+}
+
+/// The word that holds what lies of these ranges in its places, from a first one on.
+fn word_of_ranges(ranges: &[Range], first: usize) -> u64
+    ensures { (k : ℕ) → IsInWord result k ↔ ((k < WORD) × Covers ranges.now (first + k)) }
+{
+    let mut word = 0;
+    for range in ranges {
+        word |= word_of_range(*range, first);
+    }
+    word
 }
 
 /// The unions of two sets that were made.
@@ -106,15 +127,15 @@ impl Unions {
     }
 }
 
-/// Sets of places below a power of two. Each is a number, by which the sets of its halves are found: what is made of a set has those
-/// halves of it that are the same.
+/// Sets of places. Each is a number, by which its word and the sets of its halves are found: what is made of a set has those halves of
+/// it that are the same.
 #[derive(Drop)]
 pub struct Sets {
-    /// How often the places can be halved.
+    /// How often the places can be halved down to those of a word.
     levels: usize,
     /// How many places there are.
     size: usize,
-    /// The halves of each set.
+    /// The halves and the word of each set.
     halves: Vec<Halves>,
 }
 
@@ -128,11 +149,9 @@ impl Sets {
         halves.push(Halves {
             low: NOTHING,
             high: NOTHING,
+            word: 0,
         })?;
-        halves.push(Halves {
-            low: EVERYTHING,
-            high: EVERYTHING,
-        })?;
+        halves.push(WHOLE)?;
         Ok(Sets {
             levels,
             size,
@@ -162,7 +181,7 @@ impl Sets {
     /// Whether each range ends within the places.
     pub(crate) fn can_hold(&self, ranges: &[Range]) -> bool
         requires { AreSets self.now }
-        ensures { IsTrue result → EndBy ranges.now (2 ^ self.now.levels) }
+        ensures { IsTrue result → EndBy ranges.now (size_of self.now.levels) }
     {
         ranges.iter().all(|range| range.to <= self.size)
     }
@@ -174,7 +193,7 @@ impl Sets {
         ensures { IsTrue result ↔ holds self.now set place }
     {
         let mut size = self.size;
-        while size > 1 && set > EVERYTHING {
+        while size > WORD && set > EVERYTHING {
             size /= 2;
             let halves = self.halves[set];
             if place < size {
@@ -184,19 +203,25 @@ impl Sets {
                 place -= size;
             }
         }
-        set != NOTHING && place < size
+        if set == EVERYTHING {
+            return place < size;
+        }
+        is_in_word(self.halves[set].word, place)
     }
 
-    /// Whether a set of the places that so many levels halve holds any.
+    /// Whether a set of the places of so many levels holds any.
     fn is_some(&self, set: usize, levels: usize) -> bool
         requires sets { AreSets self.now }
         requires set { set < length self.now.halves.items }
         ensures { IsTrue result ↔ ((k : ℕ) × IsHeld self.now.halves.items levels set k) }
     {
-        if set <= EVERYTHING || levels == 0 {
+        if set <= EVERYTHING {
             return set != NOTHING;
         }
         let halves = self.halves[set];
+        if levels == 0 {
+            return halves.word != 0;
+        }
         self.is_some(halves.low, levels - 1) || self.is_some(halves.high, levels - 1)
     }
 
@@ -209,26 +234,24 @@ impl Sets {
         self.is_some(set, self.levels)
     }
 
-    /// The set of these halves, one more where it is neither everything nor the same as one of which it is made.
-    fn set_of(&mut self, low: usize, high: usize, same: usize) -> Result<usize, AllocError>
+    /// The set of these halves and this word, one more where it is neither everything nor the same as one of which it is made.
+    fn set_of(&mut self, halves: Halves, same: usize) -> Result<usize, AllocError>
         requires sets { AreSets self.old }
-        requires low { low < length self.old.halves.items }
-        requires high { high < length self.old.halves.items }
+        requires low { halves.low < length self.old.halves.items }
+        requires high { halves.high < length self.old.halves.items }
         requires same { same < length self.old.halves.items }
         ensures sets { OnOk result (AreSets self.new) }
         ensures keeps { OnOk result (Keeps self.old self.new) }
-        ensures halves { IfOk result (λ set. IsSetOf self.new.halves.items low high set) }
-        ensures some { IfOk result (λ set. 1 ≤ same → 1 ≤ set) }
+        ensures halves { IfOk result (λ set. IsSetOf self.new.halves.items halves set) }
     {
-        if low == EVERYTHING && high == EVERYTHING {
+        if halves == WHOLE {
             return Ok(EVERYTHING);
         }
-        let halves = self.halves[same];
-        if halves.low == low && halves.high == high {
+        if self.halves[same] == halves {
             return Ok(same);
         }
         let set = self.halves.len();
-        self.halves.push(Halves { low, high })?;
+        self.halves.push(halves)?;
         Ok(set)
     }
 
@@ -259,8 +282,8 @@ impl Sets {
         high: usize,
     ) -> Result<usize, AllocError>
         requires sets { AreSets self.old }
-        requires first { (2 ≤ first) × (first < length self.old.halves.items) }
-        requires second { (2 ≤ second) × (second < length self.old.halves.items) }
+        requires first { first < length self.old.halves.items }
+        requires second { second < length self.old.halves.items }
         requires low { let hs = self.old.halves.items in IsUnion hs (low_of hs first) (low_of hs second) low }
         requires high { let hs = self.old.halves.items in IsUnion hs (high_of hs first) (high_of hs second) high }
         requires unions { AreUnions self.old.halves.items unions.old.known }
@@ -269,13 +292,15 @@ impl Sets {
         ensures keeps { OnOk result (Keeps self.old self.new) }
         ensures union { IfOk result (λ set. IsUnion self.new.halves.items first second set) }
     {
+        let one = self.halves[first];
         let other = self.halves[second];
-        let same = if other.low == low && other.high == high {
-            second
-        } else {
-            first
+        let halves = Halves {
+            low,
+            high,
+            word: one.word | other.word,
         };
-        let union = self.set_of(low, high, same)?;
+        let same = if other == halves { second } else { first };
+        let union = self.set_of(halves, same)?;
         unions.remember(first, second, union)?;
         Ok(union)
     }
@@ -306,44 +331,70 @@ impl Sets {
         self.new_union(unions, first, second, low, high)
     }
 
-    /// A set of so many places, a power of two, and a range of them more.
-    fn with_range(&mut self, set: usize, size: usize, range: Range) -> Result<usize, AllocError>
+    /// A set of the places of a word from a first one on, and what lies there of these ranges more.
+    fn word_with_ranges(
+        &mut self,
+        set: usize,
+        first: usize,
+        ranges: &[Range],
+    ) -> Result<usize, AllocError>
         requires sets { AreSets self.old }
         requires set { set < length self.old.halves.items }
-        requires size { (levels : ℕ) × (size ≡ 2 ^ levels) }
-        requires range { range.to ≤ size }
         ensures sets { OnOk result (AreSets self.new) }
         ensures keeps { OnOk result (Keeps self.old self.new) }
         ensures below { IfOk result (λ with. with < length self.new.halves.items) }
-        ensures holds { IfOk result (λ with. (levels k : ℕ) → size ≡ 2 ^ levels → IsHeld self.new.halves.items levels with k ↔ (IsHeld self.old.halves.items levels set k ⊎ IsInRange range k)) }
+        ensures holds { IfOk result (λ with. (k : ℕ) → IsHeld self.new.halves.items 0 with k ↔ (IsHeld self.old.halves.items 0 set k ⊎ ((k < WORD) × Covers ranges.now (first + k)))) }
     {
-        if set == EVERYTHING || range.from >= range.to {
+        let word = self.halves[set].word | word_of_ranges(ranges, first);
+        self.set_of(Halves { word, ..WHOLE }, set)
+    }
+
+    /// A set of so many places from a first one on, and what lies there of these ranges more.
+    fn with_ranges_from(
+        &mut self,
+        set: usize,
+        first: usize,
+        size: usize,
+        ranges: &[Range],
+    ) -> Result<usize, AllocError>
+        requires sets { AreSets self.old }
+        requires set { set < length self.old.halves.items }
+        requires size { (levels : ℕ) × (size ≡ size_of levels) }
+        requires last { first + size < 2 ^ 64 }
+        requires order { AreInOrder ranges.now }
+        ensures sets { OnOk result (AreSets self.new) }
+        ensures keeps { OnOk result (Keeps self.old self.new) }
+        ensures below { IfOk result (λ with. with < length self.new.halves.items) }
+        ensures holds { IfOk result (λ with. (levels k : ℕ) → size ≡ size_of levels → IsHeld self.new.halves.items levels with k ↔ (IsHeld self.old.halves.items levels set k ⊎ ((k < size) × Covers ranges.now (first + k)))) }
+    {
+        if set == EVERYTHING || ranges.is_empty() {
             return Ok(set);
         }
-        if range.from == 0 && range.to == size {
+        if ranges[0].from <= first && first + size <= ranges[0].to {
             return Ok(EVERYTHING);
         }
+        if size <= WORD {
+            return self.word_with_ranges(set, first, ranges);
+        }
         let half = size / 2;
+        let middle = first + half;
         let halves = self.halves[set];
-        let low = self.with_range(halves.low, half, lower(range, half))?;
-        let high = self.with_range(halves.high, half, upper(range, half))?;
-        self.set_of(low, high, set)
+        let low = self.with_ranges_from(halves.low, first, half, before(ranges, middle))?;
+        let high = self.with_ranges_from(halves.high, middle, half, behind(ranges, middle))?;
+        self.set_of(Halves { low, high, ..WHOLE }, set)
     }
 
     /// A set and ranges of places more.
     pub(crate) fn with_ranges(&mut self, set: usize, ranges: &[Range]) -> Result<usize, AllocError>
         requires sets { AreSets self.old }
         requires set { set < length self.old.halves.items }
-        requires ranges { EndBy ranges.now (2 ^ self.old.levels) }
+        requires ranges { EndBy ranges.now (size_of self.old.levels) }
+        requires order { AreInOrder ranges.now }
         ensures sets { OnOk result (AreSets self.new) }
         ensures keeps { OnOk result (Keeps self.old self.new) }
         ensures below { IfOk result (λ set. set < length self.new.halves.items) }
         ensures holds { IfOk result (λ with. (k : ℕ) → holds self.new with k ↔ (holds self.old set k ⊎ Covers ranges.now k)) }
     {
-        let mut set = set;
-        for range in ranges {
-            set = self.with_range(set, self.size, *range)?;
-        }
-        Ok(set)
+        self.with_ranges_from(set, 0, self.size, ranges)
     }
 }

@@ -1,20 +1,26 @@
-use Rattle.std.proofs.Common.{◌≡◌, ◌≤◌, ◌-◌, ◌⊎◌, ◌↔◌, ℕ, suc, IsTrue, get_or, inl, inr, subst, sym, ◌∙◌, arith}
+use Rattle.std.proofs.Common.{◌≡◌, ◌<◌, ◌-◌, ◌^◌, ◌↔◌, ℕ, suc, IsTrue, not, eqb, get_or, subst, sym, ◌∙◌, arith}
 use Rattle.std.proofs.lemmas.List.{get_or_default}
 use Rattle.p21_graph.specs.declared.sets.Halves.{Halves}
 use Rattle.p21_graph.specs.RangeLaws.{↔_through}
-use Rattle.p21_graph.specs.Sets.{IsHeld, low_of, high_of, nothing}
+use Rattle.p21_graph.specs.Sets.{IsHeld, IsInWord, low_of, high_of, word_of, nothing}
 use Rattle.p21_graph.proofs.SetLemmas.{some_test}
+use Rattle.p21_graph.proofs.WordLemmas.{some_in_word}
+use Rattle.p21_graph.proofs.RangeSetLemmas.{word_is}
 use Rattle.p21_graph.proofs.RowLemmas.{some_known, some_in_halves, first_test, second_test}
-use Rattle.p21_graph.proofs.sets.Sets.+is_some.Goals.{then-set-le-EVERYTHING-via-then-set-le-EVERYTHING, then-set-le-EVERYTHING-via-else-set-le-EVERYTHING+then-levels-eq0}
 use Rattle.p21_graph.proofs.sets.Sets.+is_some.Goals as goal
 
 pub returns-then-set-le-EVERYTHING : goal.returns-then-set-le-EVERYTHING
-returns-then-set-le-EVERYTHING t c =
-    let known : (c.args.levels ≡ 0) ⊎ (c.args.set ≤ 1) = elim c.then-set-le-EVERYTHING.branch [
-      | then-set-le-EVERYTHING-via-then-set-le-EVERYTHING w ↦ inr w.if-set-le-EVERYTHING.true
-      | then-set-le-EVERYTHING-via-else-set-le-EVERYTHING+then-levels-eq0 w ↦ inl w.if-levels-eq0.true
-    ] in
-    ↔_through (some_test c.args.set) (some_known c.args.self.now.halves.items c.args.levels c.args.set c.requires.sets.store known)
+returns-then-set-le-EVERYTHING t c = ↔_through (some_test c.args.set) (some_known c.args.self.now.halves.items c.args.levels c.args.set c.requires.sets.store c.if-set-le-EVERYTHING.true)
+
+pub returns-then-levels-eq0 : goal.returns-then-levels-eq0
+returns-then-levels-eq0 t c =
+    let hs = c.args.self.now.halves.items in
+    let word = c.index-halves.result.now.word in
+    let bound : word < 2 ^ 64 = omega arith in
+    let is : word ≡ word_of hs c.args.set = word_is hs c.args.set c.index-halves.result.now c.requires.set c.index-halves.ensures in
+    let none : c.args.levels ≡ 0 = c.if-levels-eq0.true in
+    subst (λ (n : ℕ). IsTrue (not (eqb word 0)) ↔ ((k : ℕ) × IsHeld hs n c.args.set k)) (sym none)
+    (subst (λ (w : ℕ). IsTrue (not (eqb word 0)) ↔ ((k : ℕ) × IsInWord w k)) is (↔_through (some_test word) (some_in_word word bound)))
 
 pub returns-then-is_some : goal.returns-then-is_some
 returns-then-is_some t c =
