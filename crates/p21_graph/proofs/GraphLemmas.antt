@@ -1,12 +1,12 @@
 -- In a graph without cycles some vertex waits for no other.
 use Rattle.std.proofs.Common.{◌≡◌, ℕ, zero, suc, ◌+◌, ◌<◌, ◌≤◌, ◌↔◌, Bool, true, false, List, [], ◌∷◌, ◌++◌, ◌⊎◌, length, get_or, take, set, refl, sym, ◌∙◌, subst, inl, inr, ⊎_elim, arith, eqb}
 use Rattle.std.specs.List.{list_any, IsDistinct, AllByRecursion}
-use Rattle.std.proofs.lemmas.Bool.{false≢true, eqb-true, ne_eqb, or_cases, cases_Bool, cases_eq, cases_lt}
-use Rattle.std.proofs.lemmas.List.{take-append-le, take_all, get_or_append_left, get_or_past, get_or_push, length_push, get_or-set_same, get_or-set_other}
+use Rattle.std.proofs.lemmas.Bool.{false≢true, eqb-true, ne_eqb, or_cases, cases_Bool, cases_eq}
+use Rattle.std.proofs.lemmas.List.{take-append-le, take_all, get_or_append_left, get_or_push, length_push, get_or-set_same, get_or-set_other}
 use Rattle.std.proofs.lemmas.Map.Steps.{length-le_from_distinct_below}
 use Rattle.p21_graph.specs.Members.{IsIn, AreDistinct}
 use Rattle.p21_graph.specs.Graph.{Leads, one, more, HasNoCycle, HasEdge, AreEdgesBelow, IsOrder, IsPlacedIn, IsMarked, AreMarked, waiting}
-use Rattle.p21_graph.specs.MemberLaws.{in_right, in_left, front_more}
+use Rattle.p21_graph.specs.MemberLaws.{in_right, in_left}
 
 member : (xs : List ℕ) (x : ℕ) → list_any (eqb x) xs ≡ true → IsIn xs x
 member [] x h = absurd (false≢true h)
@@ -118,9 +118,6 @@ mark_cases row i v less m = ⊎_elim (λ (e : v ≡ i). inr e) (λ (ne : (v ≡ 
 pub placed_push : (row : List Bool) (order : List ℕ) (i : ℕ) → i < length row → IsPlacedIn row order → IsPlacedIn (set row i true) (order ++ i ∷ [])
 placed_push row order i less p v m = ⊎_elim (λ (k : IsMarked row v). in_left order (i ∷ []) v (p v k)) (λ (e : v ≡ i). in_right order (i ∷ []) v (inl (sym e))) (mark_cases row i v less m)
 
-pub marks_more : (row : List Bool) (vs : List ℕ) (i : ℕ) → i < length vs → AreMarked row (take i vs) → IsMarked row (get_or vs i 0) → AreMarked row (take (i + 1) vs)
-marks_more row vs i less h here v m = ⊎_elim (λ (f : IsIn (take i vs) v). h v f) (λ (e : get_or vs i 0 ≡ v). subst (λ u. IsMarked row u) e here) (front_more vs i 0 v less m)
-
 -- ---- the same edges
 
 module _ (g h : List (List ℕ)) (count : length h ≡ length g) (edges : (a b : ℕ) → HasEdge h a b ↔ HasEdge g a b) where
@@ -144,11 +141,3 @@ rows_alike g rows row n long before this k b less =
     (λ (e : k ≡ n). rw (e, get_or_push rows row [] n long) (this b))
     (λ (ne : (k ≡ n) → ⊥). let l : k < n = omega arith in rw (get_or_append_left rows (row ∷ []) [] k (omega (arith, l, long))) (before k b l))
     (cases_eq k n)
-
--- a vertex with edges is one of the rows
-pub rows_all : (g rows : List (List ℕ)) (n : ℕ) → length rows ≡ n → length g ≤ n → ((k b : ℕ) → k < n → IsIn (get_or rows k []) b ↔ HasEdge g k b) → (a b : ℕ) → HasEdge rows a b ↔ HasEdge g a b
-rows_all g rows n long past alike a b =
-    ⊎_elim
-    (λ (l : a < n). alike a b l)
-    (λ (m : n ≤ a). (λ e. absurd (subst (λ (u : List ℕ). IsIn u b) (get_or_past rows a [] (omega (arith, m, long))) e), λ e. absurd (subst (λ (u : List ℕ). IsIn u b) (get_or_past g a [] (omega (arith, m, past))) e)))
-    (cases_lt a n)

@@ -83,7 +83,7 @@ covers_behind rest old between new last range o b n k =
 pub covers_take : (rs : List Range) (i k : ℕ) (d : Range) → i < length rs → Covers (take (i + 1) rs) k ↔ (Covers (take i rs) k ⊎ IsInRange (get_or rs i d) k)
 covers_take rs i k d less = rw (take_more rs i d less) (covers_push (take i rs) (get_or rs i d) k)
 
--- those that begin before a place hold what lies before it, and those that end behind it hold what lies behind it
+-- those that begin before a place hold what lies before it, and those that end behind it hold what lies at it or behind it
 pub covers_front : (ranges front : List Range) (place k : ℕ) → ((r : Range) → IsIn front r ↔ (IsIn ranges r × (r.from < place))) → k < place → Covers front k ↔ Covers ranges k
 covers_front ranges front place k fronts less = (
   λ c. (c.0, (((fronts c.0).0 c.1.0).0, c.1.1)),

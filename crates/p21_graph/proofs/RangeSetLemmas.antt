@@ -132,7 +132,7 @@ pub twice_half : (levels size : ℕ) → size ≡ size_of levels → 64 < size �
 twice_half zero size is some = absurd (omega arith)
 twice_half (suc levels) size is some = omega (arith, pow-suc 2 levels)
 
--- those of some places that lie in both halves
+-- some places by those in the lower and those in the upper half
 pub record AreParts (half : ℕ) (places lower upper : ℕ → Type 0) : Type 0 where
   pub low : (k : ℕ) → k < half → lower k ↔ places k
   pub high : (k : ℕ) → half ≤ k → upper (k - half) ↔ places k
@@ -168,7 +168,7 @@ pub with_halves : (old new : List Halves) (size set with : ℕ) (places lower up
 with_halves old new size set with places lower upper some parts low high zero k is = absurd (omega arith)
 with_halves old new size set with places lower upper some parts low high (suc levels) k is = with_parts old new (size / 2) set with places lower upper parts low high levels k (omega (arith, pow-suc 2 levels))
 
--- a set holds places more than another, too, among sets of later and as the other was among sets of earlier
+-- what a set holds more, it holds more too than the other held before earlier sets were made, and after later sets were made
 pub more_between : (a b c d : Sets) (size set with : ℕ) (places : ℕ → Type 0) → Keeps a b → IsStore a.halves.items → set < length a.halves.items → Keeps c d → IsStore c.halves.items → with < length c.halves.items → HoldsMore b.halves.items c.halves.items size set with places → HoldsMore a.halves.items d.halves.items size set with places
 more_between a b c d size set with places ab a_store set_below cd c_store with_below more levels k is =
     ↔_through (keeps_held c d levels with k cd c_store with_below) (↔_through (more levels k is) (↔_left (keeps_held a b levels set k ab a_store set_below)))

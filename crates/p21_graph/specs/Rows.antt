@@ -15,7 +15,8 @@ abbrev pub place_of_bit : ℕ → ℕ → List Range
 place_of_bit place zero = []
 place_of_bit place (suc n) = record { from = place; to = place + 1 } ∷ []
 
--- the places that a word holds as ranges, by so many of its bits, where the first place is this one
+-- of so many first bits of a word those that are set, each as the range of its place, where that of the first bit is this one; unfolded only
+-- where a proof asks for it, since a word has many bits
 unfoldable pub ranges_of_word : ℕ → ℕ → ℕ → List Range
 ranges_of_word zero first word = []
 ranges_of_word (suc bits) first word = ranges_of_word bits first word ++ place_of_bit (first + bits) (bit_at word bits)

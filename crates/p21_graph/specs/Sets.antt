@@ -33,7 +33,8 @@ IsInWord word k = (k < WORD) × (bit_at word k ≡ 1)
 abbrev pub size_of : ℕ → ℕ
 size_of levels = WORD * 2 ^ levels
 
--- A set of the places of so many levels holds a place: with no level its word does, else the set of the half in which the place lies.
+-- A set of the places of so many levels holds a place: with no level its word does, else the set of the half in which the place
+-- lies, where it is counted from the first place of that half.
 abbrev pub IsHeld : List Halves → ℕ → ℕ → ℕ → Type 0
 IsHeld hs zero set k = IsInWord (word_of hs set) k
 IsHeld hs (suc levels) set k = ((k < size_of levels) × IsHeld hs levels (low_of hs set) k) ⊎ ((size_of levels ≤ k) × IsHeld hs levels (high_of hs set) (k - size_of levels))

@@ -1,7 +1,7 @@
 //! Some vertices in a line, each with what it and those before it hold: by halving it is found which is the first that holds a place,
 //! and by two lines, which alone does.
 
-ghost use Rattle.std.specs.Prelude.{◌≡◌, ◌<◌, ◌↔◌, ℕ, List, length, IfOk, MatchOption};
+ghost use Rattle.std.specs.Prelude.{◌<◌, ℕ, List, length, IfOk, MatchOption};
 ghost use Rattle.p21_graph.specs.declared.ranges.Range.{Range};
 ghost use Rattle.p21_graph.specs.Lines.{AreFronts, IsLine, IsFirst, AreLines, IsHeldAlone};
 ghost use Rattle.p21_graph.specs.Members.{IsIn};

@@ -1,6 +1,6 @@
 //! Places by ranges.
 
-ghost use Rattle.std.specs.Prelude.{◌≡◌, ◌<◌, ◌≤◌, ◌-◌, ◌^◌, ◌↔◌, ◌⊎◌, ℕ, [], length, get_or, IfOk, OnOk, IfSome, IfNone, IsTrue};
+ghost use Rattle.std.specs.Prelude.{◌≡◌, ◌<◌, ◌≤◌, ◌-◌, ◌^◌, ◌↔◌, ◌⊎◌, ℕ, length, IfOk, OnOk, IfSome, IfNone, IsTrue};
 ghost use Rattle.std.specs.List.Sorted.{IsPartitionPoint};
 ghost use Rattle.p21_graph.specs.Members.{IsIn};
 ghost use Rattle.p21_graph.specs.Ranges.{IsInRange, Covers, AreUpward, AreAscending, BeginBy, AreInOrder};

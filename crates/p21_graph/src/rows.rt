@@ -3,7 +3,7 @@
 ghost use Rattle.std.specs.Prelude.{◌≡◌, ◌<◌, ◌-◌, ◌^◌, ◌↔◌, ◌⊎◌, ℕ, List, [], length, get_or, map, set, IfOk, OnOk, IfSome, IsTrue};
 ghost use Rattle.p21_graph.specs.Members.{IsIn};
 ghost use Rattle.p21_graph.specs.declared.ranges.Range.{Range};
-ghost use Rattle.p21_graph.specs.Ranges.{Covers, IsInRange, SomeCovers, AreUpward, AreInOrder};
+ghost use Rattle.p21_graph.specs.Ranges.{Covers, SomeCovers, AreUpward, AreInOrder};
 ghost use Rattle.p21_graph.specs.Rows.{row_of, table_of, IsRow, AreEachRows, AreRows};
 ghost use Rattle.p21_graph.specs.Sets.{AreSets, AreUnions, Keeps, holds};
 
