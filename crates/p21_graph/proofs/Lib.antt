@@ -9,5 +9,14 @@ pub mod RowLemmas
 pub mod OrderLemmas
 pub mod WithinLemmas
 pub mod ReachLemmas
+pub mod KeptLemmas
+pub mod KnownLemmas
+pub mod InheritLemmas
 pub mod LineLemmas
 pub mod SourceLemmas
+pub mod SharedLemmas
+pub mod MakingLemmas
+pub mod SliceLemmas
+pub mod RestLemmas
+pub mod CommonLemmas
+pub mod JoinLemmas

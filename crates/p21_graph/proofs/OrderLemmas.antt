@@ -81,7 +81,7 @@ covers_last ranges place end d o parted bound c =
 -- ---- where a list is parted
 
 -- a member of the rest is a member
-in_back : {X : Type 0} (n : ℕ) (xs : List X) (x : X) → IsIn (drop n xs) x → IsIn xs x
+pub in_back : {X : Type 0} (n : ℕ) (xs : List X) (x : X) → IsIn (drop n xs) x → IsIn xs x
 in_back zero xs x h = h
 in_back (suc n) [] x h = absurd h
 in_back (suc n) (y ∷ ys) x h = inr (in_back n ys x h)

@@ -66,13 +66,9 @@ union_turned hs first second union is =
       );
     }
 
--- two pairs that the order does not tell apart are one
-same_pair : (p q : Pair) → is_eq (pair_cmp p q) ≡ true → p ≡ q
-same_pair p q e =
-    let both = equal (nat_cmp p.first q.first) (nat_cmp p.second q.second) e in
-    let first = exact_unsigned p.first q.first both.0 in
-    let second = exact_unsigned p.second q.second both.1 in
-    ap (λ (n : ℕ). let r : Pair = record { first = n; second = p.second } in r) first ∙ ap (λ (n : ℕ). let r : Pair = record { first = q.first; second = n } in r) second
+-- what the order by two numbers does not tell apart has both
+pub both_equal : (a b c d : ℕ) → is_eq (ordering_then (nat_cmp a b) (nat_cmp c d)) ≡ true → (a ≡ b) × (c ≡ d)
+both_equal a b c d e = let both = equal (nat_cmp a b) (nat_cmp c d) e in (exact_unsigned a b both.0, exact_unsigned c d both.1)
   where
     equal : (o r : Ordering) → is_eq (ordering_then o r) ≡ true → (o ≡ Equal) × (r ≡ Equal)
     equal Less r e = absurd (false≢true e)
@@ -80,6 +76,23 @@ same_pair p q e =
     equal Equal Equal e = (refl, refl)
     equal Equal Greater e = absurd (false≢true e)
     equal Greater r e = absurd (false≢true e)
+
+-- two pairs that the order does not tell apart are one
+same_pair : (p q : Pair) → is_eq (pair_cmp p q) ≡ true → p ≡ q
+same_pair p q e =
+    let both = both_equal p.first q.first p.second q.second e in
+    ap (λ (n : ℕ). let r : Pair = record { first = n; second = p.second } in r) both.0 ∙ ap (λ (n : ℕ). let r : Pair = record { first = q.first; second = n } in r) both.1
+
+-- what holds of each key of a map and its value holds of one key more
+pub more_keys : {K : Type 0} (cmp : K → K → Ordering) (P : K → ℕ → Type 0) (m n : BTreeMap K ℕ) (key : K) (value : ℕ) → ((k : K) → is_eq (cmp key k) ≡ true → key ≡ k) → P key value → ((k : K) (v : ℕ) → get cmp m k ≡ Some v → P k v)
+    → ((k : K) → get cmp n k ≡ cond (is_eq (cmp key k)) (Some value) (get cmp m k)) → (k : K) (v : ℕ) → get cmp n k ≡ Some v → P k v
+more_keys {K} cmp P m n key value same here others updates k v g = by (is_eq (cmp key k)) refl (sym (updates k) ∙ g)
+  where
+    by : (b : Bool) → is_eq (cmp key k) ≡ b → cond b (Some value) (get cmp m k) ≡ Some v → P k v
+    by true e g =
+        let u : value ≡ v = cc in
+        subst (λ (q : K). P q v) (same k e) (subst (λ (u : ℕ). P key u) u here)
+    by false e g = others k v g
 
 -- the union that was made of a half of both of two sets is still that
 pub half_united : (half : Halves → ℕ) (old between new : Sets) (first second union : ℕ) (one other : Halves) → AreSets between → Keeps old between → Keeps between new
@@ -122,15 +135,8 @@ unions_more hs m n pair union are f s is updates =
       is = λ p u g. (more p u g).2;
     }
   where
-    by : (p : Pair) (u : ℕ) (b : Bool) → is_eq (pair_cmp pair p) ≡ b → cond b (Some union) (get pair_cmp m p) ≡ Some u → (p.first < length hs) × (p.second < length hs) × IsUnion hs p.first p.second u
-    by p u true e g =
-        let here = same_pair pair p e in
-        let v : union ≡ u = cc in
-        subst (λ (q : Pair). (q.first < length hs) × (q.second < length hs) × IsUnion hs q.first q.second u) here (f, s, subst (λ x. IsUnion hs pair.first pair.second x) v is)
-    by p u false e g = let b = are.below p u g in (b.0, b.1, are.is p u g)
-
     more : (p : Pair) (u : ℕ) → get pair_cmp n p ≡ Some u → (p.first < length hs) × (p.second < length hs) × IsUnion hs p.first p.second u
-    more p u g = by p u (is_eq (pair_cmp pair p)) refl (sym (updates p) ∙ g)
+    more = more_keys pair_cmp (λ p u. (p.first < length hs) × (p.second < length hs) × IsUnion hs p.first p.second u) m n pair union (λ p e. same_pair pair p e) (f, s, is) (λ p u g. let b = are.below p u g in (b.0, b.1, are.is p u g)) updates
 
 -- one union more of two sets is known
 pub unions_with : (hs : List Halves) (m n : BTreeMap Pair ℕ) (pair : Pair) (first second union : ℕ) → AreUnions hs m → IsPairOf pair first second → first < length hs → second < length hs → IsUnion hs first second union

@@ -5,7 +5,7 @@ use Rattle.std.proofs.lemmas.List.{get_or-set_same, get_or-set_other, get_or_app
 use Rattle.std.specs.Prelude.{Vec}
 use Rattle.p21_graph.specs.Members.{IsIn, AreDistinct}
 use Rattle.p21_graph.specs.Graph.{Leads, one, more, HasNoCycle, HasEdge, AreEdgesBelow, IsMarked, AreMarked, IsWay, IsWalk, waiting, steps_left}
-use Rattle.p21_graph.specs.MemberLaws.{place_of, at_place, in_either, in_front, front_more, same_place}
+use Rattle.p21_graph.specs.MemberLaws.{place_of, at_place, in_either, in_front, front_more, same_place, distinct_push}
 use Rattle.p21_graph.proofs.GraphLemmas.{few, placed_more, placed_push, mark_stays, fewer_waiting}
 
 -- ---- a way meets no vertex twice
@@ -98,7 +98,7 @@ module _ (graph : List (List ℕ)) (row : List Bool) (looked way so_far : List �
       let short : length (take (length way - 1) way) ≡ length way - 1 = length-take-le (length way - 1) way (omega arith) in
       record {
         order = placed_more graph row so_far v h.order h.placed (h.below v (last_in way some)) ready;
-        distinct = apart_push so_far v h.distinct (λ i. false≢true (sym waits ∙ h.marked v i));
+        distinct = distinct_push so_far v h.distinct (λ i. false≢true (sym waits ∙ h.marked v i));
         placed = placed_push row so_far v v_marks h.placed;
         marked = λ a i. ⊎_elim (λ (l : IsIn so_far a). mark_stays row v a v_marks (h.marked a l)) (λ (r : IsIn (v ∷ []) a). ⊎_elim (λ (e : v ≡ a). rw (← e) (get_or-set_same row v true false v_marks)) (λ (n : ⊥). absurd n) r) (in_either so_far (v ∷ []) a i);
         marks = length-set row v true ∙ h.marks;
@@ -115,10 +115,6 @@ module _ (graph : List (List ℕ)) (row : List Bool) (looked way so_far : List �
             let l' : k + 1 < length way - 1 = subst (λ u. k + 1 < u) short l in
             rw (get_or-take (length way - 1) way k 0 (omega arith), get_or-take (length way - 1) way (k + 1) 0 l') (h.edges k (omega arith));
       }
-    where
-      apart_push : (xs : List ℕ) (x : ℕ) → AreDistinct xs → ¬ (IsIn xs x) → AreDistinct (xs ++ x ∷ [])
-      apart_push [] x h n = ((λ i. i), tt)
-      apart_push (y ∷ ys) x h n = ((λ i. ⊎_elim (λ (l : IsIn ys y). h.0 l) (λ (r : IsIn (x ∷ []) y). ⊎_elim (λ (e : x ≡ y). n (inl (sym e))) (λ (b : ⊥). b) r) (in_either ys (x ∷ []) y i)), apart_push ys x h.1 (λ i. n (inr i)))
 
 -- ---- how many steps are left
 

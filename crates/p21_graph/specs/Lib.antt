@@ -8,4 +8,7 @@ pub mod Sets
 pub mod Rows
 pub mod Reach
 pub mod Lines
+pub mod Slices
+pub mod Shared
+pub mod Lists
 pub mod Sources

@@ -4,13 +4,17 @@
 
 mod graph;
 mod lines;
+mod lists;
 mod ranges;
 mod reach;
 mod rows;
 mod sets;
+mod shared;
+mod slices;
 mod sources;
 
 pub use graph::{Graph, order, order_from_above};
+pub use lists::Lists;
 pub use ranges::Range;
 pub use reach::{Reach, each_alone, places, reached, turned};
 pub use rows::Rows;

@@ -59,6 +59,23 @@ pub(crate) fn covers(ranges: &[Range], place: usize) -> bool
     begun > 0 && holds(ranges[begun - 1], place)
 }
 
+/// Whether all of a range lies in one of the ranges, or it is empty.
+pub(crate) fn covers_all(ranges: &[Range], range: Range) -> bool
+    requires { AreInOrder ranges.now }
+    ensures { IsTrue result → (k : ℕ) → IsInRange range k → Covers ranges.now k }
+{
+    let begun = begun(ranges, range.from);
+    range.from >= range.to || begun > 0 && range.to <= ranges[begun - 1].to
+}
+
+/// Whether it is known that nothing of a range lies in the ranges.
+pub(crate) fn covers_none(ranges: &[Range], range: Range) -> bool
+    requires { AreInOrder ranges.now }
+    ensures { IsTrue result → (k : ℕ) → IsInRange range k → ¬ (Covers ranges.now k) }
+{
+    before(behind(ranges, range.from), range.to).is_empty()
+}
+
 /// The range of both, where the second begins in the first or right behind it.
 fn united(first: Range, second: Range) -> Option<Range>
     ensures places { IfSome result (λ r. (k : ℕ) → IsInRange r k ↔ (IsInRange first k ⊎ IsInRange second k)) }
@@ -130,6 +147,18 @@ pub(crate) fn alone(alloc: Global, place: usize) -> Result<Vec<Range>, AllocErro
         to: place + 1,
     })?;
     Ok(row)
+}
+
+/// A range alone, or nothing where it is empty.
+pub(crate) fn unless_empty(alloc: Global, range: Range) -> Result<Vec<Range>, AllocError>
+    ensures places { IfOk result (λ all. (k : ℕ) → Covers all.items k ↔ IsInRange range k) }
+    ensures upward { IfOk result (λ all. AreUpward all.items) }
+{
+    let mut all = Vec::new(alloc);
+    if range.from < range.to {
+        all.push(range)?;
+    }
+    Ok(all)
 }
 
 /// The same places by ranges in order, where neighboring ones meet in one.

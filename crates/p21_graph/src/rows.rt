@@ -1,13 +1,15 @@
 //! Rows of places: each by few ranges, and where there would be many, by a set that shares with others what it has in common with them.
 
-ghost use Rattle.std.specs.Prelude.{◌≡◌, ◌<◌, ◌-◌, ◌^◌, ◌↔◌, ◌⊎◌, ℕ, List, [], length, get_or, map, set, IfOk, OnOk, IfSome, IsTrue};
+ghost use Rattle.std.specs.Prelude.{◌≡◌, ◌<◌, ◌-◌, ◌≤◌, ◌^◌, ◌++◌, ◌∷◌, ◌↔◌, ◌⊎◌, ℕ, List, [], length, get_or, map, set, IfOk, OnOk, IfSome, IsTrue};
 ghost use Rattle.p21_graph.specs.Members.{IsIn};
 ghost use Rattle.p21_graph.specs.declared.ranges.Range.{Range};
-ghost use Rattle.p21_graph.specs.Ranges.{Covers, SomeCovers, AreUpward, AreInOrder};
+ghost use Rattle.p21_graph.specs.Ranges.{Covers, IsInRange, SomeCovers, AreUpward, AreInOrder};
 ghost use Rattle.p21_graph.specs.Rows.{row_of, table_of, IsRow, AreEachRows, AreRows};
 ghost use Rattle.p21_graph.specs.Sets.{AreSets, AreUnions, Keeps, holds};
 
-use crate::ranges::{Range, alone, covers, covers_some, in_order};
+use crate::ranges::{
+    Range, alone, covers, covers_all, covers_none, covers_some, in_order, unless_empty,
+};
 use crate::sets::{NOTHING, Sets, Unions};
 use std::alloc::{AllocError, Global};
 
@@ -215,6 +217,99 @@ impl Rows {
         let row = settled(alloc, &mut self.sets, ranges, set)?;
         self.rows[vertex] = row;
         Ok(())
+    }
+
+    /// No rows yet, for places below a number.
+    pub(crate) fn below(alloc: Global, count: usize) -> Result<Rows, AllocError>
+        ensures rows { IfOk result (λ rows. AreRows rows) }
+        ensures none { IfOk result (λ rows. table_of rows ≡ []) }
+    {
+        Ok(Rows {
+            rows: Vec::new(alloc),
+            sets: Sets::new(alloc, count)?,
+        })
+    }
+
+    /// A row more: the places of a range, and those of these rows.
+    pub(crate) fn push(
+        &mut self,
+        alloc: Global,
+        unions: &mut Unions,
+        range: Range,
+        of: &[usize],
+    ) -> Result<(), AllocError>
+        requires rows { AreRows self.old }
+        requires unions { AreUnions self.old.sets.halves.items unions.old.known }
+        requires range { range.from ≤ range.to }
+        requires of { (v : ℕ) → IsIn of.now v → v < length (table_of self.old) }
+        ensures rows { OnOk result (AreRows self.new) }
+        ensures unions { OnOk result (AreUnions self.new.sets.halves.items unions.new.known) }
+        ensures row { OnOk result ((row : List Range) × ((table_of self.new ≡ table_of self.old ++ row ∷ []) × ((k : ℕ) → Covers row k ↔ (IsInRange range k ⊎ SomeCovers (table_of self.old) of.now k)))) }
+    {
+        let mut all = unless_empty(alloc, range)?;
+        let set = gather(&mut self.sets, unions, &mut all, NOTHING, of, &self.rows)?;
+        let ranges = in_order(alloc, all)?;
+        let row = settled(alloc, &mut self.sets, ranges, set)?;
+        self.rows.push(row)?;
+        Ok(())
+    }
+
+    /// Whether a row is known to hold each place of another.
+    pub(crate) fn is_within(&self, one: usize, other: usize) -> bool
+        requires rows { AreRows self.now }
+        requires one { one < length (table_of self.now) }
+        requires other { other < length (table_of self.now) }
+        ensures { IsTrue result → (k : ℕ) → Covers (get_or (table_of self.now) one []) k → Covers (get_or (table_of self.now) other []) k }
+    {
+        let row = &self.rows[one];
+        for range in &row.ranges {
+            if !self.has_all(other, *range) {
+                return false;
+            }
+        }
+        self.sets.within(row.set, self.rows[other].set)
+    }
+
+    /// Whether two rows are known to hold no place both.
+    pub(crate) fn is_apart(&self, one: usize, other: usize) -> bool
+        requires rows { AreRows self.now }
+        requires one { one < length (table_of self.now) }
+        requires other { other < length (table_of self.now) }
+        ensures { IsTrue result → (k : ℕ) → Covers (get_or (table_of self.now) one []) k → ¬ (Covers (get_or (table_of self.now) other []) k) }
+    {
+        let row = &self.rows[one];
+        for range in &row.ranges {
+            if !self.has_none(other, *range) {
+                return false;
+            }
+        }
+        let other = &self.rows[other];
+        for range in &other.ranges {
+            if !self.sets.holds_none(row.set, *range) {
+                return false;
+            }
+        }
+        self.sets.apart(row.set, other.set)
+    }
+
+    /// Whether the row of a vertex is known to hold each place of a range.
+    pub(crate) fn has_all(&self, vertex: usize, range: Range) -> bool
+        requires rows { AreRows self.now }
+        requires vertex { vertex < length (table_of self.now) }
+        ensures { IsTrue result → (k : ℕ) → IsInRange range k → Covers (get_or (table_of self.now) vertex []) k }
+    {
+        let row = &self.rows[vertex];
+        covers_all(&row.ranges, range) || self.sets.holds_all(row.set, range)
+    }
+
+    /// Whether the row of a vertex is known to hold no place of a range.
+    pub(crate) fn has_none(&self, vertex: usize, range: Range) -> bool
+        requires rows { AreRows self.now }
+        requires vertex { vertex < length (table_of self.now) }
+        ensures { IsTrue result → (k : ℕ) → IsInRange range k → ¬ (Covers (get_or (table_of self.now) vertex []) k) }
+    {
+        let row = &self.rows[vertex];
+        covers_none(&row.ranges, range) && self.sets.holds_none(row.set, range)
     }
 
     /// How many rows there are.

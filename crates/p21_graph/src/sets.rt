@@ -234,6 +234,134 @@ impl Sets {
         self.is_some(set, self.levels)
     }
 
+    /// Whether two sets of the places of so many levels are known to hold no place both.
+    fn are_apart(&self, one: usize, other: usize, levels: usize) -> bool
+        requires sets { AreSets self.now }
+        requires one { one < length self.now.halves.items }
+        requires other { other < length self.now.halves.items }
+        ensures { IsTrue result → (k : ℕ) → IsHeld self.now.halves.items levels one k → ¬ (IsHeld self.now.halves.items levels other k) }
+    {
+        if one == NOTHING || other == NOTHING {
+            return true;
+        }
+        if one == other || one == EVERYTHING || other == EVERYTHING {
+            return false;
+        }
+        let one = self.halves[one];
+        let other = self.halves[other];
+        if levels == 0 {
+            return one.word & other.word == 0;
+        }
+        self.are_apart(one.low, other.low, levels - 1)
+            && self.are_apart(one.high, other.high, levels - 1)
+    }
+
+    /// Whether two sets are known to hold no place both.
+    pub(crate) fn apart(&self, one: usize, other: usize) -> bool
+        requires sets { AreSets self.now }
+        requires one { one < length self.now.halves.items }
+        requires other { other < length self.now.halves.items }
+        ensures { IsTrue result → (k : ℕ) → holds self.now one k → ¬ (holds self.now other k) }
+    {
+        self.are_apart(one, other, self.levels)
+    }
+
+    /// Whether a set of the places of so many levels is known to hold each place of another.
+    fn is_within(&self, one: usize, other: usize, levels: usize) -> bool
+        requires sets { AreSets self.now }
+        requires one { one < length self.now.halves.items }
+        requires other { other < length self.now.halves.items }
+        ensures { IsTrue result → (k : ℕ) → IsHeld self.now.halves.items levels one k → IsHeld self.now.halves.items levels other k }
+    {
+        if one == NOTHING || one == other {
+            return true;
+        }
+        if other == NOTHING {
+            return false;
+        }
+        let one = self.halves[one];
+        let other = self.halves[other];
+        if levels == 0 {
+            return one.word & !other.word == 0;
+        }
+        self.is_within(one.low, other.low, levels - 1)
+            && self.is_within(one.high, other.high, levels - 1)
+    }
+
+    /// Whether each place of a set is known to be one of another.
+    pub(crate) fn within(&self, one: usize, other: usize) -> bool
+        requires sets { AreSets self.now }
+        requires one { one < length self.now.halves.items }
+        requires other { other < length self.now.halves.items }
+        ensures { IsTrue result → (k : ℕ) → holds self.now one k → holds self.now other k }
+    {
+        self.is_within(one, other, self.levels)
+    }
+
+    /// Whether a set of so many places from a first one on is known to hold none of a range.
+    fn holds_none_from(&self, set: usize, first: usize, size: usize, range: Range) -> bool
+        requires sets { AreSets self.now }
+        requires set { set < length self.now.halves.items }
+        requires size { (levels : ℕ) × (size ≡ size_of levels) }
+        requires last { first + size < 2 ^ 64 }
+        ensures { IsTrue result → (levels k : ℕ) → size ≡ size_of levels → IsHeld self.now.halves.items levels set k → ¬ (IsInRange range (first + k)) }
+    {
+        if set == NOTHING || range.to <= first || first + size <= range.from {
+            return true;
+        }
+        if set == EVERYTHING {
+            return false;
+        }
+        let halves = self.halves[set];
+        if size <= WORD {
+            return halves.word & word_of_range(range, first) == 0;
+        }
+        let half = size / 2;
+        self.holds_none_from(halves.low, first, half, range)
+            && self.holds_none_from(halves.high, first + half, half, range)
+    }
+
+    /// Whether a set is known to hold no place of a range.
+    pub(crate) fn holds_none(&self, set: usize, range: Range) -> bool
+        requires sets { AreSets self.now }
+        requires set { set < length self.now.halves.items }
+        ensures { IsTrue result → (k : ℕ) → IsInRange range k → ¬ (holds self.now set k) }
+    {
+        self.holds_none_from(set, 0, self.size, range)
+    }
+
+    /// Whether a set of so many places from a first one on is known to hold all of a range that lie there.
+    fn holds_all_from(&self, set: usize, first: usize, size: usize, range: Range) -> bool
+        requires sets { AreSets self.now }
+        requires set { set < length self.now.halves.items }
+        requires size { (levels : ℕ) × (size ≡ size_of levels) }
+        requires last { first + size < 2 ^ 64 }
+        ensures { IsTrue result → (levels k : ℕ) → size ≡ size_of levels → k < size → IsInRange range (first + k) → IsHeld self.now.halves.items levels set k }
+    {
+        if set == EVERYTHING || range.to <= first || first + size <= range.from {
+            return true;
+        }
+        if set == NOTHING {
+            return false;
+        }
+        let halves = self.halves[set];
+        if size <= WORD {
+            return word_of_range(range, first) & !halves.word == 0;
+        }
+        let half = size / 2;
+        self.holds_all_from(halves.low, first, half, range)
+            && self.holds_all_from(halves.high, first + half, half, range)
+    }
+
+    /// Whether a set is known to hold each place of a range.
+    pub(crate) fn holds_all(&self, set: usize, range: Range) -> bool
+        requires sets { AreSets self.now }
+        requires set { set < length self.now.halves.items }
+        ensures { IsTrue result → (k : ℕ) → IsInRange range k → holds self.now set k }
+    {
+        range.to <= self.size && self.holds_all_from(set, 0, self.size, range)
+    }
+
     /// The set of these halves and this word, one more where it is neither everything nor the same as one of which it is made.
     fn set_of(&mut self, halves: Halves, same: usize) -> Result<usize, AllocError>
         requires sets { AreSets self.old }

@@ -13,7 +13,8 @@ use Rattle.p21_graph.specs.declared.ranges.Range.{Range}
 use Rattle.p21_schema.specs.Place.{no_entity, entity_name}
 use Rattle.p21_schema.specs.Ancestry.{entity_id, IsA}
 use Rattle.p21_schema.specs.Row.{own_attributes, attributes_of, no_attribute}
-use Rattle.p21_schema.specs.RowTable.{IsOwnTable, no_own}
+use Rattle.p21_schema.specs.RowTable.{IsOwnTable}
+use Rattle.p21_graph.specs.Lists.{no_own}
 use Rattle.p21_schema.specs.Declaration.{Declaration, Written, written_explicit, explicit_in, derived_in, written, is_explicit, Declares, newly, again, Chosen, none, kept, dropped, declaration, AreDeclarations, IsResolvedDeclaration, AreResolvedIn}
 use Rattle.p21_schema.specs.DeclarationTable.{AreAmong, IsDeclarationTable, IsNotOwn, IsOwnAt, HasOneOrigin, IsOriginAt, IsDeclared}
 use Rattle.p21_schema.proofs.AncestryLemmas.{distinct_entities, supertypes_known, name_at, name_count}

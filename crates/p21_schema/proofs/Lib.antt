@@ -10,10 +10,8 @@ pub mod DeclarationLemmas
 pub mod SelectLemmas
 pub mod Examples
 pub mod AdmitLemmas
-pub mod SharedLemmas
-pub mod PieceLemmas
-pub mod HeldLemmas
-pub mod OwnerRowLemmas
+pub mod OwnLemmas
+pub mod ListRowLemmas
 pub mod StepLemmas
 pub mod SpanLemmas
 pub mod BindingLemmas

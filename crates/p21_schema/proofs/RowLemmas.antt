@@ -1,5 +1,5 @@
 -- Rows of attributes.
-use Rattle.std.proofs.Common.{◌≡◌, ℕ, zero, suc, ◌+◌, ◌-◌, ◌<◌, ◌≤◌, Bool, true, false, not, cond, ◌||◌, List, [], ◌∷◌, ◌++◌, Option, Some, None, is_some, option_map, length, get_or, take, drop, replicate, map, refl, sym, ap, ◌∙◌, subst, inl, inr, ⊎_elim, arith, append_assoc, add-zero, ◌⊎◌}
+use Rattle.std.proofs.Common.{◌≡◌, ℕ, zero, suc, ◌+◌, ◌-◌, ◌<◌, ◌≤◌, Bool, true, false, not, cond, ◌||◌, List, [], ◌∷◌, ◌++◌, Option, Some, None, is_some, option_map, length, get_or, take, drop, replicate, map, refl, sym, ap, ◌∙◌, subst, inl, inr, ⊎_elim, arith, append_assoc, add-zero}
 use Rattle.std.specs.Prelude.{slice_get}
 use Rattle.std.specs.List.{list_any, filter, AllByRecursion}
 use Rattle.std.specs.Cmp.Lexicographic.{bytes_decides}
@@ -9,46 +9,17 @@ use Rattle.std.proofs.lemmas.List.{map-append, take_more, drop_more, drop_all, a
 use Rattle.std.proofs.Math.Seq.{get_or-append_seam}
 use Rattle.std.proofs.lemmas.Option.{get_or_from_slice_get}
 use Rattle.p21_express.specs.Schema.{Schema, Entity, Attribute}
-use Rattle.p21_express.specs.WellFormed.{IsIn, AreDistinct, Origin, IsWellFormed, IsSupertype, IsAncestor, new_explicit, new_derived, new_names, with_new}
-use Rattle.p21_graph.specs.Graph as way
-use Rattle.p21_graph.specs.MemberLaws.{in_either, from_map, distinct_left, same_place, place_of, at_place, in_map}
+use Rattle.p21_express.specs.WellFormed.{IsIn, AreDistinct, Origin, new_explicit, new_derived, new_names, with_new}
+use Rattle.p21_graph.specs.MemberLaws.{in_either, from_map, distinct_left, same_place, place_of, at_place}
 use Rattle.p21_schema.specs.declared.ids.AttrId.{AttrId}
 use Rattle.p21_schema.specs.declared.ids.EntityId.{EntityId}
 use Rattle.p21_schema.specs.Place.{no_entity, entity_at, entity_name, IsEntityOf}
 use Rattle.p21_schema.specs.Ancestry.{entity_id, AreNamed}
 use Rattle.p21_schema.specs.Row.{own_attributes, attributes_of, no_attribute, attribute_at, IsAttributeOf, same_origin, first_places, IsRow, AreRows, row, none, more}
-use Rattle.p21_schema.specs.Pieces.{ids_from}
-use Rattle.p21_schema.specs.RowTable.{same_id, kept, all_kept, joined, first_of, IsOwn, IsOwnTable, IsRowAt, no_own}
+use Rattle.p21_schema.specs.RowTable.{same_id, kept, all_kept, ids_from, joined, IsOwn, IsOwnTable, IsRowAt}
+use Rattle.p21_graph.specs.Lists.{no_own}
 use Rattle.p21_graph.specs.declared.ranges.Range.{Range}
 use Rattle.p21_schema.proofs.AncestryLemmas.{all_names, name_at}
-
--- ---- what is kept
-
-pub all_kept_append : (r xs ys : List AttrId) → all_kept r (xs ++ ys) ≡ all_kept (all_kept r xs) ys
-all_kept_append r [] ys = refl
-all_kept_append r (x ∷ xs) ys = all_kept_append (kept r x) xs ys
-
-pub ids_push : (i n : ℕ) → ids_from i (suc n) ≡ ids_from i n ++ record { index = i + n } ∷ []
-ids_push i zero = λ j. record { index = sym (add-zero i) j } ∷ []
-ids_push i (suc n) =
-    let ih = ids_push (suc i) n in
-    let e : suc i + n ≡ i + suc n = omega arith in
-    λ j. record { index = i } ∷ (ih ∙ ap (λ (u : ℕ). ids_from (suc i) n ++ record { index = u } ∷ []) e) j
-
-pub own_behind : (r now new : List AttrId) (from i : ℕ) → from ≤ i → now ≡ r ++ ids_from from (i - from) → new ≡ now ++ record { index = i } ∷ [] → new ≡ r ++ ids_from from (i + 1 - from)
-own_behind r now new from i le h e =
-    let a : from + (i - from) ≡ i = omega arith in
-    let b : i + 1 - from ≡ suc (i - from) = omega arith in
-    let c : ids_from from (i + 1 - from) ≡ ids_from from (i - from) ++ record { index = i } ∷ [] = ap (λ (u : ℕ). ids_from from u) b ∙ ids_push from (i - from) ∙ ap (λ (u : ℕ). ids_from from (i - from) ++ record { index = u } ∷ []) a in
-    e ∙ ap (λ (u : List AttrId). u ++ record { index = i } ∷ []) h ∙ append_assoc r (ids_from from (i - from)) (record { index = i } ∷ []) ∙ ap (λ (u : List AttrId). r ++ u) (sym c)
-
-pub joined_push : (table : ℕ → List AttrId) (es : List ℕ) (e : ℕ) → joined table (es ++ e ∷ []) ≡ joined table es ++ table e
-joined_push table [] e = append-nil (table e)
-joined_push table (x ∷ xs) e = ap (λ (u : List AttrId). table x ++ u) (joined_push table xs e) ∙ sym (append_assoc (table x) (joined table xs) (table e))
-
-pub joined_more : (r : List AttrId) (table : ℕ → List AttrId) (es : List ℕ) (i : ℕ) (d : ℕ) (now new one : List AttrId) → i < length es → table (get_or es i d) ≡ one → now ≡ all_kept r (joined table (take i es)) → new ≡ all_kept now one → new ≡ all_kept r (joined table (take (i + 1) es))
-joined_more r table es i d now new one less at h e =
-    e ∙ (λ j. all_kept (h j) (sym at j)) ∙ sym (all_kept_append r (joined table (take i es)) (table (get_or es i d))) ∙ ap (λ (u : List AttrId). all_kept r u) (sym (joined_push table (take i es) (get_or es i d)) ∙ ap (λ (u : List ℕ). joined table u) (sym (take_more es i d less)))
 
 -- ---- each at its first place
 
@@ -195,7 +166,7 @@ own_at (e ∷ es) (suc i) k d less h =
     let n : length (own_attributes e ++ attributes_of (take i es)) + k ≡ length (own_attributes e) + (length (attributes_of (take i es)) + k) = omega (arith, length-append (own_attributes e) (attributes_of (take i es))) in
     ap (λ (u : ℕ). get_or (own_attributes e ++ attributes_of es) u d) n ∙ get_or-append-add (own_attributes e) (attributes_of es) (length (attributes_of (take i es)) + k) d ∙ own_at es i k d (omega arith) h
 
-attributes_le : (es : List Entity) (i : ℕ) → i < length es → length (attributes_of (take i es)) + length (own_attributes (get_or es i no_entity)) ≤ length (attributes_of es)
+pub attributes_le : (es : List Entity) (i : ℕ) → i < length es → length (attributes_of (take i es)) + length (own_attributes (get_or es i no_entity)) ≤ length (attributes_of es)
 attributes_le [] i less = absurd (omega arith)
 attributes_le (e ∷ es) zero less = omega (arith, length-append (own_attributes e) (attributes_of es))
 attributes_le (e ∷ es) (suc i) less =
@@ -313,143 +284,6 @@ row_at s i table sups own ids distinct less is named rows e =
   where
     own_end : (s : Schema) (i : ℕ) (own : Range) → i < length s.entities → IsOwn s i own → own.from + (own.to - own.from) ≤ length (attributes_of s.entities)
     own_end s i own less is = let m = attributes_le s.entities i less in omega (arith, m, is.count, is.from)
-
--- ---- the row of an entity with one supertype
-
--- where nothing stands twice, each stands at its first place
-first_distinct : (exact : (a b : Origin) → same_origin a b ≡ true → a ≡ b) (xs : List Origin) → AreDistinct xs → first_places same_origin xs ≡ xs
-first_distinct exact [] h = refl
-first_distinct exact (x ∷ xs) h = ap (λ (u : List Origin). x ∷ filter (λ y. not (same_origin x y)) u) (first_distinct exact xs h.1) ∙ ap (λ (u : List Origin). x ∷ u) (nothing_dropped exact x xs h.0)
-  where
-    nothing_dropped : (exact : (a b : Origin) → same_origin a b ≡ true → a ≡ b) (x : Origin) (ys : List Origin) → ¬ (IsIn ys x) → filter (λ y. not (same_origin x y)) ys ≡ ys
-    nothing_dropped exact x [] n = refl
-    nothing_dropped exact x (y ∷ ys) n = ⊎_elim (λ (t : same_origin x y ≡ true). absurd (n (inl (sym (exact x y t))))) (λ (f : same_origin x y ≡ false). rw f (ap (λ (u : List Origin). y ∷ u) (nothing_dropped exact x ys (λ i. n (inr i))))) (cases_Bool (same_origin x y))
-
-filter_distinct : (p : Origin → Bool) (xs : List Origin) → AreDistinct xs → AreDistinct (filter p xs)
-filter_distinct p [] h = tt
-filter_distinct p (x ∷ xs) h = ⊎_elim (λ (t : p x ≡ true). rw t ((λ i. h.0 (in_without p xs x i)), filter_distinct p xs h.1)) (λ (f : p x ≡ false). rw f (filter_distinct p xs h.1)) (cases_Bool (p x))
-
-places_distinct : (xs : List Origin) → AreDistinct (first_places same_origin xs)
-places_distinct [] = tt
-places_distinct (x ∷ xs) = ((λ i. dropped x (first_places same_origin xs) i), filter_distinct (λ y. not (same_origin x y)) (first_places same_origin xs) (places_distinct xs))
-  where
-    dropped : (x : Origin) (ys : List Origin) → ¬ (IsIn (filter (λ y. not (same_origin x y)) ys) x)
-    dropped x [] i = i
-    dropped x (y ∷ ys) i = ⊎_elim
-        (λ (t : same_origin x y ≡ true). dropped x ys (rw t at i))
-        (λ (f : same_origin x y ≡ false). ⊎_elim (λ (e : y ≡ x). false≢true (sym f ∙ (origin_tells x y).1 (sym e))) (λ (j : IsIn (filter (λ y. not (same_origin x y)) ys) x). dropped x ys j) (rw f at i))
-        (cases_Bool (same_origin x y))
-
--- what stands in a row is an entity's own or an ancestor's
-mutual
-  pub row_origins : (s : Schema) {n : List ℕ} {all : List Origin} → IsRow s n all → (o : Origin) → IsIn all o → (o.entity ≡ n) ⊎ IsAncestor s n o.entity
-  row_origins s {n} {all} (row {above = above} e i m rows h) o j =
-      ⊎_elim
-      (λ (l : IsIn above o). let r = rows_origins s rows o l in let step : (b : List ℕ) → IsIn e.supertypes b → IsSupertype s n b = λ b k. record { entity = e; declared = i; name_is = m; named = k } in
-      ⊎_elim (λ (x : o.entity ≡ r.0). inr (way.one (subst (λ u. IsSupertype s n u) (sym x) (step r.0 r.1.0)))) (λ (x : IsAncestor s r.0 o.entity). inr (way.more (step r.0 r.1.0) x)) r.1.1)
-      (λ (r : IsIn (own_attributes e) o). inl (own_entity e o r ∙ m))
-      (in_either above (own_attributes e) o (in_first same_origin (above ++ own_attributes e) o (subst (λ (u : List Origin). IsIn u o) h j)))
-
-  rows_origins : (s : Schema) {ns : List (List ℕ)} {all : List Origin} → AreRows s ns all → (o : Origin) → IsIn all o → (n : List ℕ) × (IsIn ns n × ((o.entity ≡ n) ⊎ IsAncestor s n o.entity))
-  rows_origins s (none h) o j = absurd (subst (λ (u : List Origin). IsIn u o) h j)
-  rows_origins s (more {n = n} {one = one} {rest = rest} x y h) o j =
-      ⊎_elim
-      (λ (l : IsIn one o). (n, (inl refl, row_origins s x o l)))
-      (λ (r : IsIn rest o). let w = rows_origins s y o r in (w.0, (inr w.1.0, w.1.1)))
-      (in_either one rest o (subst (λ (u : List Origin). IsIn u o) h j))
-
-row_distinct : (s : Schema) {n : List ℕ} {all : List Origin} → IsRow s n all → AreDistinct all
-row_distinct s (row {above = above} e i m rows h) = subst (λ (u : List Origin). AreDistinct u) (sym h) (places_distinct (above ++ own_attributes e))
-
--- where an entity's own attributes are none of a supertype's row
-not_own : (s : Schema) → IsWellFormed s → (i e : ℕ) (sups : List ℕ) (up : List AttrId) → i < length s.entities → AreNamed (all_names s) sups (get_or s.entities i no_entity).supertypes → IsIn sups e → IsRowAt s e up → (o : Origin) → IsIn (map (attribute_at s) up) o → ¬ (IsIn (own_attributes (get_or s.entities i no_entity)) o)
-not_own s formed i e sups up less named there above o l r =
-    let entity = get_or s.entities i no_entity in
-    let name = entity_name s (entity_id e) in
-    let listed : IsIn entity.supertypes name = subst (λ (u : List (List ℕ)). IsIn u name) named.named (subst (λ u. IsIn (map (λ j. get_or (all_names s) j []) sups) u) (name_at s e) (in_map (λ j. get_or (all_names s) j []) sups e there)) in
-    let step : IsSupertype s entity.name name = record { entity = entity; declared = at_place s.entities i no_entity less; name_is = refl; named = listed } in
-    let mine : o.entity ≡ entity.name = own_entity entity o r in
-    ⊎_elim (λ (x : o.entity ≡ name). formed.cycles.entities entity.name (way.one (subst (λ u. IsSupertype s entity.name u) (sym x ∙ mine) step))) (λ (x : IsAncestor s name o.entity). formed.cycles.entities entity.name (way.more step (subst (λ u. IsAncestor s name u) mine x))) (row_origins s above.is o l)
-
--- ---- what is kept of rows in which nothing stands twice
-
-pub any_from : (r : List AttrId) (a : AttrId) → IsIn r a → list_any (λ b. same_id b a) r ≡ true
-any_from [] a i = absurd i
-any_from (y ∷ ys) a (inl e) = rw (eq-eqb y.index a.index (ap (λ (u : AttrId). u.index) e)) refl
-any_from (y ∷ ys) a (inr i) = ⊎_elim (λ (t : same_id y a ≡ true). rw t refl) (λ (f : same_id y a ≡ false). rw f (any_from ys a i)) (cases_Bool (same_id y a))
-
-pub any_in : (r : List AttrId) (a : AttrId) → list_any (λ b. same_id b a) r ≡ true → IsIn r a
-any_in [] a h = absurd (false≢true h)
-any_in (y ∷ ys) a h = ⊎_elim (λ (t : same_id y a ≡ true). inl (exact_id y a t)) (λ (f : same_id y a ≡ false). inr (any_in ys a (rw f at h))) (cases_Bool (same_id y a))
-
--- what is there is not kept again
-pub kept_known : (r xs : List AttrId) → ((a : AttrId) → IsIn xs a → IsIn r a) → all_kept r xs ≡ r
-kept_known r [] h = refl
-kept_known r (x ∷ xs) h = rw (any_from r x (h x (inl refl))) (kept_known r xs (λ a i. h a (inr i)))
-
--- what differs from one another and from what is there is kept
-pub kept_free : (r xs : List AttrId) → AreDistinct xs → ((a : AttrId) → IsIn xs a → ¬ (IsIn r a)) → all_kept r xs ≡ r ++ xs
-kept_free r [] d free = sym (append-nil r)
-kept_free r (x ∷ xs) d free =
-    ⊎_elim
-    (λ (t : list_any (λ b. same_id b x) r ≡ true). absurd (free x (inl refl) (any_in r x t)))
-    (λ (f : list_any (λ b. same_id b x) r ≡ false). rw f (kept_free (r ++ x ∷ []) xs d.1 later ∙ append_assoc r (x ∷ []) xs))
-    (cases_Bool (list_any (λ b. same_id b x) r))
-  where
-    later : (a : AttrId) → IsIn xs a → ¬ (IsIn (r ++ x ∷ []) a)
-    later a m i = ⊎_elim
-        (λ (l : IsIn r a). free a (inr m) l)
-        (λ (l : IsIn (x ∷ []) a). ⊎_elim (λ (e : x ≡ a). d.0 (subst (λ (u : AttrId). IsIn xs u) (sym e) m)) (λ (n : ⊥). n) l)
-        (in_either r (x ∷ []) a i)
-
-pub kept_in : (r xs : List AttrId) (a : AttrId) → IsIn (all_kept r xs) a → IsIn r a ⊎ IsIn xs a
-kept_in r [] a i = inl i
-kept_in r (x ∷ xs) a i =
-    ⊎_elim
-    (λ (l : IsIn (kept r x) a). ⊎_elim
-    (λ (t : list_any (λ b. same_id b x) r ≡ true). inl (rw t at l))
-    (λ (f : list_any (λ b. same_id b x) r ≡ false). ⊎_elim (λ (m : IsIn r a). inl m) (λ (m : IsIn (x ∷ []) a). ⊎_elim (λ (e : x ≡ a). inr (inl e)) (λ (n : ⊥). absurd n) m) (in_either r (x ∷ []) a (rw f at l)))
-    (cases_Bool (list_any (λ b. same_id b x) r)))
-    (λ (r' : IsIn xs a). inr (inr r'))
-    (kept_in (kept r x) xs a i)
-
-joined_in : (table : ℕ → List AttrId) (es : List ℕ) (a : AttrId) → IsIn (joined table es) a → (e : ℕ) × (IsIn es e × IsIn (table e) a)
-joined_in table [] a i = absurd i
-joined_in table (e ∷ es) a i = ⊎_elim (λ (l : IsIn (table e) a). (e, (inl refl, l))) (λ (r : IsIn (joined table es) a). let w = joined_in table es a r in (w.0, (inr w.1.0, w.1.1))) (in_either (table e) (joined table es) a i)
-
-pub ids_from_on : (i n : ℕ) (a : AttrId) → IsIn (ids_from i n) a → i ≤ a.index
-ids_from_on i zero a m = absurd m
-ids_from_on i (suc n) a (inl e) = let f : i ≡ a.index = ap (λ (u : AttrId). u.index) e in omega (arith, f)
-ids_from_on i (suc n) a (inr m) = let h = ids_from_on (suc i) n a m in omega (arith, h)
-
-pub ids_distinct : (i n : ℕ) → AreDistinct (ids_from i n)
-ids_distinct i zero = tt
-ids_distinct i (suc n) = ((λ m. let h : suc i ≤ i = ids_from_on (suc i) n (record { index = i }) m in absurd (omega (arith, h))), ids_distinct (suc i) n)
-
-distinct_unmap : (s : Schema) (xs : List AttrId) → AreDistinct (map (attribute_at s) xs) → AreDistinct xs
-distinct_unmap s [] h = tt
-distinct_unmap s (x ∷ xs) h = ((λ i. h.0 (in_map (attribute_at s) xs x i)), distinct_unmap s xs h.1)
-
-pub first_kept : (s : Schema) (table : ℕ → List AttrId) (sups : List ℕ) → ((e : ℕ) → IsIn sups e → IsRowAt s e (table e)) → all_kept (first_of table sups) (joined table sups) ≡ all_kept [] (joined table sups)
-first_kept s table [] rows = refl
-first_kept s table (e ∷ es) rows =
-    let one = table e in
-    let rest = joined table es in
-    let alone : all_kept [] one ≡ one = kept_free [] one (distinct_unmap s one (row_distinct s (rows e (inl refl)).is)) (λ a m i. i) in
-    all_kept_append one one rest ∙ ap (λ (u : List AttrId). all_kept u rest) (kept_known one one (λ a i. i) ∙ sym alone) ∙ sym (all_kept_append [] one rest)
-
-pub several_is : (s : Schema) → IsWellFormed s → (i : ℕ) (sups : List ℕ) (table : ℕ → List AttrId) (own : Range) → i < length s.entities → IsOwn s i own → AreNamed (all_names s) sups (get_or s.entities i no_entity).supertypes → ((e : ℕ) → IsIn sups e → IsRowAt s e (table e))
-    → all_kept (first_of table sups) (joined table sups) ++ ids_from own.from (own.to - own.from) ≡ all_kept [] (joined table sups ++ ids_from own.from (own.to - own.from))
-several_is s formed i sups table own less is named rows =
-    let entity = get_or s.entities i no_entity in
-    let ids = ids_from own.from (own.to - own.from) in
-    let above = joined table sups in
-    let n : own.to - own.from ≡ length (own_attributes entity) = omega (arith, is.count) in
-    let owns : map (attribute_at s) ids ≡ own_attributes entity = (λ j. map (attribute_at s) (ids_from (is.from j) (n j))) ∙ own_is s i less in
-    let apart : (a : AttrId) → IsIn ids a → ¬ (IsIn (all_kept [] above) a) = λ a r l.
-    ⊎_elim (λ (x : ⊥). x) (λ (m : IsIn above a). let w = joined_in table sups a m in
-    not_own s formed i w.0 sups (table w.0) less named w.1.0 (rows w.0 w.1.0) (attribute_at s a) (in_map (attribute_at s) (table w.0) a w.1.1) (subst (λ (u : List Origin). IsIn u (attribute_at s a)) owns (in_map (attribute_at s) ids a r))) (kept_in [] above a l) in
-    ap (λ (u : List AttrId). u ++ ids) (first_kept s table sups rows) ∙ sym (kept_free (all_kept [] above) ids (ids_distinct own.from (own.to - own.from)) apart) ∙ sym (all_kept_append [] above ids)
 
 -- ---- what the code knows of them
 

@@ -18,6 +18,3 @@ pub mod SelectItems
 pub mod SelectTable
 pub mod Items
 pub mod ItemTable
-pub mod Held
-pub mod Pieces
-pub mod OwnerRow

@@ -4,12 +4,10 @@
 mod ancestry;
 mod bindings;
 mod declarations;
-mod held;
 mod ids;
 mod items;
 mod names;
 mod owners;
-mod pieces;
 mod resolved;
 mod rows;
 mod rules;

@@ -139,7 +139,7 @@ impl Schema {
         let order = order(alloc, &graph)?;
         let descents = descents(alloc, &graph)?;
         let (own, lists) = own_attributes(alloc, &declarations)?;
-        let rows = Rows::new(alloc, &graph, &own, &descents, &order)?;
+        let rows = Rows::new(alloc, &graph, lists.len(), &own, &order)?;
         let supertypes = supertype_ids(alloc, &graph)?;
         let type_names = type_names(alloc, key, &declarations.types)?;
         let ends = type_ends(alloc, &type_names, &declarations.types)?;

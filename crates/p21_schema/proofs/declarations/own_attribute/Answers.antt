@@ -2,7 +2,7 @@ use Rattle.std.proofs.Common.{◌+◌, [], get_or, refl}
 use Rattle.p21_schema.specs.DeclarationTable.{known_schema}
 use Rattle.p21_express.specs.WellFormed.{new_explicit}
 use Rattle.p21_schema.specs.Place.{no_entity}
-use Rattle.p21_schema.specs.RowTable.{no_own}
+use Rattle.p21_graph.specs.Lists.{no_own}
 use Rattle.p21_schema.proofs.DeclarationLemmas.{own_is_at}
 use Rattle.p21_schema.proofs.declarations.own_attribute.Goals as goal
 

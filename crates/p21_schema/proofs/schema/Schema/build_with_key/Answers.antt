@@ -2,6 +2,9 @@ use Rattle.std.proofs.Common.{◌≡◌, length, sym, List, [], map, get_or, ap,
 use Rattle.p21_express.specs.Schema.{Entity, Defined}
 use Rattle.p21_express.specs.Plain.{plain_schema, plain_entity, plain_type}
 use Rattle.p21_graph.specs.Graph.{plain_graph, rows_of}
+use Rattle.p21_graph.specs.GraphLaws.{row_count}
+use Rattle.std.proofs.lemmas.List.{length-replicate}
+use Rattle.p21_schema.specs.Row.{attributes_of}
 use Rattle.p21_schema.specs.Rules.{with_rules}
 use Rattle.p21_schema.specs.Declaration.{written}
 use Rattle.p21_schema.specs.Ancestry.{AreSupertypesNamed, IsDescentTable}
@@ -10,7 +13,7 @@ use Rattle.p21_schema.specs.Under.{AreResolved}
 use Rattle.p21_schema.proofs.RuleLemmas.{fits_with, own_with}
 use Rattle.p21_schema.proofs.AncestryLemmas.{named_by, distinct_entities, supertypes_known, edges_below, no_cycle, supertype_table}
 use Rattle.p21_schema.specs.RowTable.{IsOwnTable}
-use Rattle.p21_schema.proofs.OwnerRowLemmas.{owners}
+use Rattle.p21_schema.proofs.OwnLemmas.{own_within, own_apart}
 use Rattle.p21_schema.proofs.BindingLemmas.{within_rows}
 use Rattle.p21_schema.proofs.DeclarationLemmas.{empty_at}
 use Rattle.p21_schema.proofs.UnderLemmas.{distinct_types, other_known, unders_known}
@@ -65,7 +68,7 @@ invariant_of-result c =
       resolved = found;
       items = rw (← c.deref-11.ensures.value) c.in_ok-items.ensures;
       own = own_with (plain_schema c.args.declarations) c.args.rules _ c.in_ok-own.ensures.own;
-      rows = c.in_ok-rows.ensures s (fits_with (plain_schema c.args.declarations) c.args.rules c.requires) h (rw c.deref-3.ensures.value (own_with (plain_schema c.args.declarations) c.args.rules _ c.in_ok-own.ensures.own)) descents;
+      rows = c.in_ok-rows.ensures s (fits_with (plain_schema c.args.declarations) c.args.rules c.requires) h (rw c.deref-3.ensures.value (own_with (plain_schema c.args.declarations) c.args.rules _ c.in_ok-own.ensures.own));
       well_formed = fits_with (plain_schema c.args.declarations) c.args.rules c.requires;
       names = names_are;
       supertypes = rw c.in_ok-supertypes.ensures (supertype_table s g h);
@@ -119,13 +122,20 @@ select_tables-requires c =
     let formed = fits_with (plain_schema c.args.declarations) c.args.rules c.requires in
     (s, (formed, (rw c.deref-10.ensures.value found, c.in_ok-descents.ensures s formed h)))
 
-pub new-requires-clause-owners : goal.new-requires-clause-owners
-new-requires-clause-owners c = rw c.deref-3.ensures.value (owners (with_rules (plain_schema c.args.declarations) c.args.rules) c.in_ok-own.own.items (own_with (plain_schema c.args.declarations) c.args.rules _ c.in_ok-own.ensures.own))
-
-pub new-requires-clause-descents : goal.new-requires-clause-descents
-new-requires-clause-descents c =
+pub new-requires-clause-own : goal.new-requires-clause-own
+new-requires-clause-own c =
     let s = with_rules (plain_schema c.args.declarations) c.args.rules in
     let h : AreSupertypesNamed (map (λ (e : Entity). e.name) s.entities) (plain_graph c.in_ok-graph.graph) s.entities = named_by plain_entity c.in_ok-entity_names.entity_names (plain_graph c.in_ok-graph.graph) c.deref.result.now c.deref-2.result.now c.args.declarations.entities.items c.in_ok-entity_names.ensures c.deref.ensures.value c.deref-2.ensures.value c.in_ok-graph.ensures in
-    let descents : IsDescentTable s c.in_ok-descents.descents = c.in_ok-descents.ensures s (fits_with (plain_schema c.args.declarations) c.args.rules c.requires) h in
     let own : IsOwnTable s c.in_ok-own.own.items = own_with (plain_schema c.args.declarations) c.args.rules _ c.in_ok-own.ensures.own in
-    (descents.graph, (descents.reaches, descents.count ∙ sym own.count ∙ ap length (sym c.deref-3.ensures.value)))
+    ap length c.deref-3.ensures.value ∙ own.count ∙ sym h.count
+
+pub new-requires-clause-within : goal.new-requires-clause-within
+new-requires-clause-within c =
+    let s = with_rules (plain_schema c.args.declarations) c.args.rules in
+    let count : c.len.result ≡ length (attributes_of s.entities) = c.len.ensures ∙ sym (row_count c.in_ok-own.lists) ∙ ap length c.in_ok-own.ensures.lists ∙ length-replicate (length (attributes_of s.entities)) [] in
+    rw (c.deref-3.ensures.value, count) (own_within s c.in_ok-own.own.items (own_with (plain_schema c.args.declarations) c.args.rules _ c.in_ok-own.ensures.own))
+
+pub new-requires-clause-apart : goal.new-requires-clause-apart
+new-requires-clause-apart c =
+    let s = with_rules (plain_schema c.args.declarations) c.args.rules in
+    rw c.deref-3.ensures.value (own_apart s c.in_ok-own.own.items (own_with (plain_schema c.args.declarations) c.args.rules _ c.in_ok-own.ensures.own))
