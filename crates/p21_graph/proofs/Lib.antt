@@ -18,5 +18,5 @@ pub mod SharedLemmas
 pub mod MakingLemmas
 pub mod SliceLemmas
 pub mod RestLemmas
-pub mod CommonLemmas
+pub mod SharedRangeLemmas
 pub mod JoinLemmas

@@ -21,13 +21,13 @@ use Rattle.p21_graph.proofs.SliceLemmas.{numbers_length, number_of_at, numbers_o
 -- ---- how a slice stands to a list
 
 -- what a slice has is in its list
-in_slice : (all : List (List ℕ)) (s : Slice) (k : ℕ) → IsIn (numbers_of all s) k → IsIn (get_or all s.list []) k
+pub in_slice : (all : List (List ℕ)) (s : Slice) (k : ℕ) → IsIn (numbers_of all s) k → IsIn (get_or all s.list []) k
 in_slice all s k h =
     let list = get_or all s.list [] in
     in_back s.range.from list k (in_front (size_of_slice s) (drop s.range.from list) k h)
 
 -- what a slice of the list of all numbers has is in its range
-in_all : (all : List (List ℕ)) (lists : List SharedList) (s : Slice) (count k : ℕ) → AreSharedLists all lists → IsSlice all count s → s.list ≡ 0 → IsIn (numbers_of all s) k → IsInRange s.range k
+pub in_all : (all : List (List ℕ)) (lists : List SharedList) (s : Slice) (count k : ℕ) → AreSharedLists all lists → IsSlice all count s → s.list ≡ 0 → IsIn (numbers_of all s) k → IsInRange s.range k
 in_all all lists s count k are is first h =
     let p = place_of (numbers_of all s) k h in
     let size = numbers_length all count s is in
@@ -203,7 +203,7 @@ module _ (all : List (List ℕ)) (other list position : ℕ) (old ss rest : List
   taken : take (size_of_slice s) (drop position (get_or all list [])) ≡ numbers_of all s
   taken = ap (λ u. take (size_of_slice s) u) (sym next) ∙ ap (λ u. take u (numbers_of all s ++ stacked all ss)) (sym long) ∙ take-append_seam (numbers_of all s) (stacked all ss)
 
-  behind : stacked all ss ≡ drop (position + size_of_slice s) (get_or all list [])
+  pub behind : stacked all ss ≡ drop (position + size_of_slice s) (get_or all list [])
   behind =
       sym (drop-append_seam (numbers_of all s) (stacked all ss))
       ∙ ap (λ u. drop u (numbers_of all s ++ stacked all ss)) long

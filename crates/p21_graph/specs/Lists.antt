@@ -55,9 +55,9 @@ pub record AreInherited (graph : List (List ℕ)) (own : List Range) (all : List
 abbrev pub HasNumber : List (List ℕ) → List ℕ → ℕ → Type 0
 HasNumber all of k = (l : ℕ) × (IsIn of l × IsIn (get_or all l []) k)
 
--- no fewer than the numbers that stand in both lists: as many as there are in a list that has each of these
-abbrev pub IsNoFewerThanCommon : List ℕ → List ℕ → ℕ → Type 0
-IsNoFewerThanCommon first second count = (numbers : List ℕ) × ((length numbers ≡ count) × ((n : ℕ) → IsIn first n → IsIn second n → IsIn numbers n))
+-- the ranges hold each number that stands in both lists
+abbrev pub AreShared : List ℕ → List ℕ → List Range → Type 0
+AreShared first second ranges = (n : ℕ) → IsIn first n → IsIn second n → Covers ranges n
 
 -- how a slice stands to a list: the list has each of its numbers, or none of them, or nothing is said
 abbrev pub StandsTo : List (List ℕ) → ℕ → Slice → Standing → Type 0

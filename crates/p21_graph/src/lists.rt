@@ -1,11 +1,11 @@
 //! For each vertex of a graph a list of numbers: those of its neighbors' lists, in their order, and then its own, each number at its first
 //! place.
 
-ghost use Rattle.std.specs.Prelude.{◌≡◌, ◌<◌, ◌≤◌, ◌+◌, ◌-◌, ◌++◌, ◌∷◌, ◌↔◌, ◌⊎◌, ℕ, List, [], Some, slice_get, length, get_or, IfOk, OnOk, IfSome, IsTrue};
+ghost use Rattle.std.specs.Prelude.{◌≡◌, ◌<◌, ◌≤◌, ◌+◌, ◌-◌, ◌++◌, ◌∷◌, ◌↔◌, ◌⊎◌, ℕ, List, [], Some, slice_get, length, get_or, IfOk, OnOk, IfSome, IsSome, IsTrue};
 ghost use Rattle.p21_graph.specs.Graph.{plain_graph, IsOrder};
-ghost use Rattle.p21_graph.specs.Lists.{HasNumber, IsNoFewerThanCommon, IsMaking, IsMixed, StandsTo, AreListsOf, AreInherited, all_kept, joined, list_in, no_own};
+ghost use Rattle.p21_graph.specs.Lists.{HasNumber, AreShared, IsMaking, IsMixed, StandsTo, AreListsOf, AreInherited, all_kept, joined, list_in, no_own};
 ghost use Rattle.p21_graph.specs.Members.{IsIn, AreDistinct};
-ghost use Rattle.p21_graph.specs.Ranges.{IsInRange};
+ghost use Rattle.p21_graph.specs.Ranges.{Covers, IsInRange};
 ghost use Rattle.p21_graph.specs.Slices.{numbers_from, numbers_of, joined_of, AreSlices, IsSlice};
 
 use crate::graph::{Graph, zeros};
@@ -138,62 +138,113 @@ impl Making {
         }
     }
 
-    /// How a slice stands to a list that may have so many of its numbers at most.
-    fn standing(&self, list: usize, slice: Slice, left: usize) -> Standing
+    /// Those ranges of a list of which another may have a number, so that they hold each number that both have; `None` where the list has a
+    /// set.
+    fn in_both(
+        &self,
+        alloc: Global,
+        first: usize,
+        second: usize,
+    ) -> Result<Option<Vec<Range>>, AllocError>
+        requires making { (all : List (List ℕ)) × IsMaking all self.now }
+        requires first { first < length self.now.lists.items }
+        requires second { second < length self.now.lists.items }
+        ensures { IfOk result (λ shared. IfSome shared (λ ranges. (all : List (List ℕ)) → IsMaking all self.now → AreShared (get_or all first []) (get_or all second []) ranges.items)) }
+    {
+        let Some(ranges) = self.rows.ranges(first) else {
+            return Ok(None);
+        };
+        let mut shared = Vec::new(alloc);
+        for range in ranges {
+            if !self.rows.has_none(second, *range) {
+                shared.push(*range)?;
+            }
+        }
+        Ok(Some(shared))
+    }
+
+    /// Whether it is known that a slice has no number of a range.
+    fn is_apart(&self, slice: Slice, range: Range) -> bool
+        requires making { (all : List (List ℕ)) × (IsMaking all self.now × IsSlice all (length all) slice) }
+        ensures { IsTrue result → (all : List (List ℕ)) → IsMaking all self.now → IsSlice all (length all) slice → (n : ℕ) → IsIn (numbers_of all slice) n → ¬ (IsInRange range n) }
+    {
+        if slice.list == ALL {
+            return range.to <= slice.range.from || slice.range.to <= range.from;
+        }
+        self.rows.has_none(slice.list, range)
+    }
+
+    /// Whether it is known that a slice has no number of these ranges.
+    fn is_apart_from_all(&self, slice: Slice, ranges: &[Range]) -> bool
+        requires making { (all : List (List ℕ)) × (IsMaking all self.now × IsSlice all (length all) slice) }
+        ensures { IsTrue result → (all : List (List ℕ)) → IsMaking all self.now → IsSlice all (length all) slice → (n : ℕ) → IsIn (numbers_of all slice) n → ¬ (Covers ranges.now n) }
+    {
+        for range in ranges {
+            if !self.is_apart(slice, *range) {
+                return false;
+            }
+        }
+        true
+    }
+
+    /// How a slice stands to a list, of whose numbers it may have those of these ranges alone, if there are any.
+    fn standing(&self, list: usize, slice: Slice, shared: &Option<Vec<Range>>) -> Standing
         requires making { (all : List (List ℕ)) × (IsMaking all self.now × IsSlice all (length all) slice) }
         requires list { list < length self.now.lists.items }
         requires some { slice.range.from < slice.range.to }
-        requires none { left ≡ 0 → (all : List (List ℕ)) → IsMaking all self.now → IsSlice all (length all) slice → (k : ℕ) → IsIn (numbers_of all slice) k → ¬ (IsIn (get_or all list []) k) }
+        requires shared { IfSome shared.now (λ ranges. (all : List (List ℕ)) → IsMaking all self.now → IsSlice all (length all) slice → AreShared (get_or all list []) (numbers_of all slice) ranges.items) }
         ensures stands { (all : List (List ℕ)) → IsMaking all self.now → IsSlice all (length all) slice → StandsTo all list slice result }
         ensures mixed { IsMixed result → slice.range.from + 1 < slice.range.to ⊎ (0 < slice.list) }
     {
-        if left == 0 {
-            return Standing::Apart;
+        match shared {
+            Some(ranges) if self.is_apart_from_all(slice, ranges) => Standing::Apart,
+            _ => self.looked_at(list, slice),
         }
-        self.looked_at(list, slice)
     }
 
-    /// How many numbers two lists have in common, if the first has few; a range of which the second may have one is counted whole else.
-    fn common(&self, first: usize, second: usize) -> usize
-        requires making { (all : List (List ℕ)) × IsMaking all self.now }
-        requires first { first < length self.now.lists.items }
-        requires second { second < length self.now.lists.items }
-        ensures { (all : List (List ℕ)) → IsMaking all self.now → IsNoFewerThanCommon (get_or all first []) (get_or all second []) result }
+    /// Whether a slice is all of its list.
+    fn is_whole(&self, slice: Slice) -> bool
+        requires making { (all : List (List ℕ)) × (IsMaking all self.now × IsSlice all (length all) slice) }
+        ensures { IsTrue result → (all : List (List ℕ)) → IsMaking all self.now → IsSlice all (length all) slice → numbers_of all slice ≡ get_or all slice.list [] }
     {
-        let list = &self.lists[first];
-        if list.numbers.len() < list.count {
-            return match self.common_by_ranges(first, second) {
-                Some(common) => common,
-                None => list.count,
-            };
+        slice.range.from == 0 && slice.range.to == self.lists[slice.list].count
+    }
+
+    /// Whether it is known that a slice has each number of a range.
+    fn holds(&self, slice: Slice, range: Range) -> bool
+        requires making { (all : List (List ℕ)) × (IsMaking all self.now × IsSlice all (length all) slice) }
+        ensures { IsTrue result → (all : List (List ℕ)) → IsMaking all self.now → IsSlice all (length all) slice → (n : ℕ) → IsInRange range n → IsIn (numbers_of all slice) n }
+    {
+        if slice.list == ALL {
+            return slice.range.from <= range.from && range.to <= slice.range.to;
         }
-        let mut common = 0;
-        for number in &list.numbers {
-            if self.rows.has(second, *number) {
-                common += 1;
+        self.is_whole(slice) && self.rows.has_all(slice.list, range)
+    }
+
+    /// Those of some ranges, if there are any, of which a slice may not have each number.
+    fn beside(
+        &self,
+        alloc: Global,
+        ranges: &Option<Vec<Range>>,
+        slice: Slice,
+    ) -> Result<Option<Vec<Range>>, AllocError>
+        requires making { (all : List (List ℕ)) × (IsMaking all self.now × IsSlice all (length all) slice) }
+        ensures { IfOk result (λ beside. IfSome beside (λ left. IfSome ranges.now (λ ranges. (all : List (List ℕ)) → IsMaking all self.now → IsSlice all (length all) slice → (n : ℕ) → Covers ranges.items n → ¬ (IsIn (numbers_of all slice) n) → Covers left.items n) × IsSome ranges.now)) }
+    {
+        let Some(ranges) = ranges else {
+            return Ok(None);
+        };
+        let mut beside = Vec::new(alloc);
+        for range in ranges {
+            if !self.holds(slice, *range) {
+                beside.push(*range)?;
             }
         }
-        common
+        Ok(Some(beside))
     }
 
-    /// How many numbers are in those ranges of the first list of which the second may have one; `None` where the first has a set.
-    fn common_by_ranges(&self, first: usize, second: usize) -> Option<usize>
-        requires making { (all : List (List ℕ)) × IsMaking all self.now }
-        requires first { first < length self.now.lists.items }
-        requires second { second < length self.now.lists.items }
-        ensures { IfSome result (λ common. (all : List (List ℕ)) → IsMaking all self.now → IsNoFewerThanCommon (get_or all first []) (get_or all second []) common) }
-    {
-        let mut common: usize = 0;
-        for range in self.rows.ranges(first)? {
-            if !self.rows.has_none(second, *range) {
-                common = common.checked_add(range.to.saturating_sub(range.from))?;
-            }
-        }
-        Some(common)
-    }
-
-    /// What a list has that another has not, by slices. A slice that does not stand to the other in one way is parted; where the numbers that
-    /// both have were passed, none is.
+    /// What a list has that another has not, by slices. A slice that does not stand to the other in one way is parted, down to those that have
+    /// a number of which it is not known yet that it was passed.
     fn rest(&self, alloc: Global, other: usize, list: usize) -> Result<Vec<Slice>, AllocError>
         requires making { (all : List (List ℕ)) × (IsMaking all self.now × (0 < length (get_or all list []))) }
         requires other { other < length self.now.lists.items }
@@ -204,16 +255,16 @@ impl Making {
         let mut rest = Vec::new(alloc);
         let mut slices = Vec::new(alloc);
         slices.push(self.whole(list))?;
-        let mut left = self.common(other, list);
+        let mut shared = self.in_both(alloc, other, list)?;
         let mut position = 0;
         while let Some(slice) = slices.pop() {
             let range = Range {
                 from: position,
                 to: position + (slice.range.to - slice.range.from),
             };
-            match self.standing(other, slice, left) {
+            match self.standing(other, slice, &shared) {
                 Standing::Within => {
-                    left = left.saturating_sub(range.to - position);
+                    shared = self.beside(alloc, &shared, slice)?;
                     position = range.to;
                 }
                 Standing::Apart => {

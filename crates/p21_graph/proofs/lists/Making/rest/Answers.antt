@@ -1,8 +1,11 @@
-use Rattle.std.proofs.Common.{◌≡◌, ◌<◌, ◌+◌, ◌∷◌, ◌++◌, [], length, get_or, Fits, w64, refl, sym, ap, ◌∙◌, subst, inl, inr, ⊎_elim, arith, rules}
+use Rattle.std.proofs.Common.{◌≡◌, ◌<◌, ◌+◌, ◌∷◌, ◌++◌, [], ℕ, List, drop, length, get_or, Fits, w64, refl, sym, ap, ◌∙◌, subst, inl, inr, ⊎_elim, arith, rules}
 use Rattle.p21_graph.specs.Shared.{AreSharedLists}
-use Rattle.p21_graph.specs.Slices.{IsSlice, numbers_of}
-use Rattle.p21_graph.proofs.CommonLemmas.{all_may_be_left, none_is_left, fewer_left, as_many_left}
-use Rattle.p21_graph.proofs.RestLemmas.{stacked, next, long, before, AreFilled, IsPushed, IsLeft, all_left, none_left, top_is, fits, passed, added, part_is, parted, top_filled, under_filled, under_lighter, parts_filled, parts_lighter, some_filled, ends_behind, filled_alone, none_of}
+use Rattle.p21_graph.specs.Slices.{IsSlice, numbers_of, size_of_slice}
+use Rattle.p21_graph.specs.Lists.{AreShared, IsMaking}
+use Rattle.p21_graph.specs.Members.{IsIn}
+use Rattle.p21_graph.specs.Ranges.{Covers}
+use Rattle.p21_graph.proofs.SharedRangeLemmas.{some_map, some_both, now_in, later_in, later_not}
+use Rattle.p21_graph.proofs.RestLemmas.{AreFilled, IsPushed, IsLeft, all_left, none_left, top_is, fits, passed, added, part_is, parted, top_filled, under_filled, under_lighter, parts_filled, parts_lighter, some_filled, ends_behind, filled_alone, none_of}
 use Rattle.p21_graph.proofs.lists.Making.rest.Goals as goal
 use Rattle.p21_graph.proofs.lists.Making.rest.Goals.{then-behind+in_ok-push-in-Mixed, else-behind}
 
@@ -14,7 +17,7 @@ loop-slice-init c =
     let first : c.push.new.self.items ≡ c.whole.result ∷ [] = c.in_ok-push.ensures.items ∙ ap (λ u. u ++ c.whole.result ∷ []) c.new-slices.ensures.items in
     record {
       filled = subst (λ u. AreFilled u) (sym first) (filled_alone c.whole.result (some_filled all c.whole.result _ whole.0 whole.1 c.requires.making.1.1));
-      few = λ every these. all_may_be_left (get_or every c.args.other []) (get_or every c.args.list []) c.common-left.result (c.common-left.ensures every these);
+      few = c.in_ok-shared.ensures;
       left = λ every these.
           let w = c.whole.ensures every these in
           subst (λ u. IsLeft every c.args.other c.args.list 0 u c.new-rest.result.items) (sym first) (subst (λ u. IsLeft every c.args.other c.args.list 0 (c.whole.result ∷ []) u) (sym c.new-rest.ensures.items) (all_left every c.args.other c.args.list c.whole.result w.0 w.1));
@@ -44,12 +47,19 @@ standing-requires-clause-making c =
 pub standing-requires-clause-some : goal.standing-requires-clause-some
 standing-requires-clause-some c = top_filled c.loop-slice.slices.items c.pop.new.self.items c.in-Some.slice c.in-Some.ensures.items c.loop-slice.invariant.filled
 
-pub standing-requires-clause-none : goal.standing-requires-clause-none
-standing-requires-clause-none c = λ none all are is.
+pub standing-requires-clause-shared : goal.standing-requires-clause-shared
+standing-requires-clause-shared c =
     let l = c.loop-slice in
-    let left = l.invariant.left all are in
-    none_is_left (get_or all c.args.other []) (get_or all c.args.list []) l.position l.left (numbers_of all c.in-Some.slice) (stacked all c.pop.new.self.items) (are.distinct c.args.list)
-    (next all c.args.other c.args.list l.position l.slices.items c.pop.new.self.items l.rest.items c.in-Some.slice c.in-Some.ensures.items left) (l.invariant.few all are) none
+    some_map l.shared (λ ranges. (all : List (List ℕ)) → IsMaking all c.args.self.now → AreShared (get_or all c.args.other []) (drop l.position (get_or all c.args.list [])) ranges.items)
+    (λ ranges. (all : List (List ℕ)) → IsMaking all c.args.self.now → IsSlice all (length all) c.in-Some.slice → AreShared (get_or all c.args.other []) (numbers_of all c.in-Some.slice) ranges.items)
+    (λ ranges h all are is n i j. h all are n i (now_in all c.args.other c.args.list l.position l.slices.items c.pop.new.self.items l.rest.items c.in-Some.slice c.in-Some.ensures.items (l.invariant.left all are) n j))
+    l.invariant.few
+
+pub beside-requires : goal.beside-requires
+beside-requires c =
+    let all = c.requires.making.0 in
+    let are = c.requires.making.1.0 in
+    record { making = (all, (are, top_is all c.args.other c.args.list c.loop-slice.position c.loop-slice.slices.items c.pop.new.self.items c.loop-slice.rest.items c.in-Some.slice c.in-Some.ensures.items (c.loop-slice.invariant.left all are))) }
 
 pub loop-slice-smaller-in-Within : goal.loop-slice-smaller-in-Within
 loop-slice-smaller-in-Within c = under_lighter c.loop-slice.slices.items c.pop.new.self.items c.in-Some.slice c.in-Some.ensures.items c.loop-slice.invariant.filled
@@ -59,13 +69,16 @@ loop-slice-preserved-in-Within c =
     let l = c.loop-slice in
     record {
       filled = under_filled l.slices.items c.pop.new.self.items c.in-Some.slice c.in-Some.ensures.items l.invariant.filled;
-      few = λ all are.
-          let left = l.invariant.left all are in
-          let is = top_is all c.args.other c.args.list l.position l.slices.items c.pop.new.self.items l.rest.items c.in-Some.slice c.in-Some.ensures.items left in
-          let size = long all c.args.other c.args.list l.position l.slices.items c.pop.new.self.items l.rest.items c.in-Some.slice c.in-Some.ensures.items left in
-          fewer_left (get_or all c.args.other []) (get_or all c.args.list []) l.position l.left (numbers_of all c.in-Some.slice) (stacked all c.pop.new.self.items) (are.distinct c.args.list)
-          (next all c.args.other c.args.list l.position l.slices.items c.pop.new.self.items l.rest.items c.in-Some.slice c.in-Some.ensures.items left) (l.invariant.few all are) _
-          (before all c.args.other c.args.list l.position l.slices.items c.pop.new.self.items l.rest.items c.in-Some.slice c.in-Some.ensures.items left) _ (let sub = c.saturating_sub-left.ensures in omega (arith, size, sub)) (c.in-Within.ensures.stands all are is);
+      few = some_both _ l.shared
+          (λ ranges left. (all : List (List ℕ)) → IsMaking all c.args.self.now → IsSlice all (length all) c.in-Some.slice → (n : ℕ) → Covers ranges.items n → ¬ (IsIn (numbers_of all c.in-Some.slice) n) → Covers left.items n)
+          (λ ranges. (all : List (List ℕ)) → IsMaking all c.args.self.now → AreShared (get_or all c.args.other []) (drop l.position (get_or all c.args.list [])) ranges.items)
+          (λ ranges. (all : List (List ℕ)) → IsMaking all c.args.self.now → AreShared (get_or all c.args.other []) (drop (l.position + size_of_slice c.in-Some.slice) (get_or all c.args.list [])) ranges.items)
+          (λ ranges left g h all are n i j.
+          let before = l.invariant.left all are in
+          let is = top_is all c.args.other c.args.list l.position l.slices.items c.pop.new.self.items l.rest.items c.in-Some.slice c.in-Some.ensures.items before in
+          g all are is n (h all are n i (later_in all c.args.other c.args.list l.position l.slices.items c.pop.new.self.items l.rest.items c.in-Some.slice c.in-Some.ensures.items before n j))
+          (later_not all c.args.other c.args.list l.position l.slices.items c.pop.new.self.items l.rest.items c.in-Some.slice c.in-Some.ensures.items before (are.distinct c.args.list) n j))
+          c.in_ok-shared-in-Within.ensures l.invariant.few;
       left = λ all are.
           let left = l.invariant.left all are in
           let is = top_is all c.args.other c.args.list l.position l.slices.items c.pop.new.self.items l.rest.items c.in-Some.slice c.in-Some.ensures.items left in
@@ -80,11 +93,10 @@ loop-slice-preserved-in-Apart c =
     let l = c.loop-slice in
     record {
       filled = under_filled l.slices.items c.pop.new.self.items c.in-Some.slice c.in-Some.ensures.items l.invariant.filled;
-      few = λ all are.
-          let left = l.invariant.left all are in
-          as_many_left (get_or all c.args.other []) (get_or all c.args.list []) l.position l.left (numbers_of all c.in-Some.slice) (stacked all c.pop.new.self.items) (are.distinct c.args.list)
-          (next all c.args.other c.args.list l.position l.slices.items c.pop.new.self.items l.rest.items c.in-Some.slice c.in-Some.ensures.items left) (l.invariant.few all are) _
-          (before all c.args.other c.args.list l.position l.slices.items c.pop.new.self.items l.rest.items c.in-Some.slice c.in-Some.ensures.items left);
+      few = some_map l.shared (λ ranges. (all : List (List ℕ)) → IsMaking all c.args.self.now → AreShared (get_or all c.args.other []) (drop l.position (get_or all c.args.list [])) ranges.items)
+          (λ ranges. (all : List (List ℕ)) → IsMaking all c.args.self.now → AreShared (get_or all c.args.other []) (drop (l.position + size_of_slice c.in-Some.slice) (get_or all c.args.list [])) ranges.items)
+          (λ ranges h all are n i j. h all are n i (later_in all c.args.other c.args.list l.position l.slices.items c.pop.new.self.items l.rest.items c.in-Some.slice c.in-Some.ensures.items (l.invariant.left all are) n j))
+          l.invariant.few;
       left = λ all are.
           let left = l.invariant.left all are in
           let is = top_is all c.args.other c.args.list l.position l.slices.items c.pop.new.self.items l.rest.items c.in-Some.slice c.in-Some.ensures.items left in
