@@ -1,5 +1,5 @@
-//! Graphs: orders of their vertices, what each vertex reaches, by rows of places in an order, and which of some vertices alone reaches
-//! another.
+//! Graphs: orders of their vertices, what each vertex reaches, by rows of places in an order, which of some vertices alone reaches another,
+//! and lists of numbers that vertices inherit.
 #![tactic(auto)]
 
 mod graph;
