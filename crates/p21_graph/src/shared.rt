@@ -23,7 +23,7 @@ pub struct SharedList {
     pub(crate) count: usize,
     /// All of it, by slices of lists before it.
     pieces: Vec<Piece>,
-    /// A part of it by a slice of a list far before it, so that a number is found in few steps.
+    /// A part of it by a slice of a list far before it, so that a number at the end of a chain is found in few steps.
     far: Option<Piece>,
     /// How many lists lie behind it, each the one of which the last has its largest piece.
     depth: usize,
@@ -180,7 +180,7 @@ fn largest(pieces: &[Piece]) -> Option<Piece>
 }
 
 /// What of a piece leads on by the far piece of its list and by that of the list behind that, where both go over as many lists. So far
-/// pieces over far pieces lead to a number in steps as many as the logarithm of the lists.
+/// pieces over far pieces lead along a chain of largest pieces in steps as many as its logarithm.
 fn twice(lists: &[SharedList], piece: Piece) -> Option<Piece>
     requires { (all : List (List ℕ)) × ((count : ℕ) × ((numbers : List ℕ) × (AreSharedLists all lists.now × ((count ≤ length lists.now) × IsPiece all count numbers piece)))) }
     ensures { IfSome result (λ far. (all : List (List ℕ)) (count : ℕ) (numbers : List ℕ) → AreSharedLists all lists.now → count ≤ length lists.now → IsPiece all count numbers piece → IsPiece all count numbers far) }
