@@ -49,7 +49,7 @@ impl<'d> Checked<'d> {
 }
 
 /// The first place in the text where something is wrong, among those that were met.
-#[derive(Clone, Copy, Debug)]
+#[derive(Clone, Copy)]
 struct First {
     /// How many words stand from there on.
     found: Option<usize>,

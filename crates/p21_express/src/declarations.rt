@@ -49,13 +49,24 @@ pub struct TypeDecl {
 }
 
 /// What stands under a TYPE.
-#[derive(Debug, Drop)]
+#[derive(Debug)]
 pub enum Under {
     /// The items of an ENUMERATION.
     Items(Vec<Vec<u8>>),
     /// The items of a SELECT.
     Select(Vec<Vec<u8>>),
     Plain(TypeExpr),
+}
+
+/// As a derive would; written out, it is one call wherever the value is let go, which a derive takes apart in each such place.
+impl Drop for Under {
+    fn drop(self) {
+        match self {
+            Under::Items(_) => {}
+            Under::Select(_) => {}
+            Under::Plain(_) => {}
+        }
+    }
 }
 
 /// A type.

@@ -60,11 +60,7 @@ fn subtype<'t, 'a>(alloc: Global, words: &'t [Word<'a>]) -> Result<(Names, &'t [
     if is_subtype {
         return name_list(alloc, word(rest, b"OF")?);
     }
-    let none = Names {
-        names: Vec::new(alloc),
-        places: Vec::new(alloc),
-    };
-    Ok((none, words))
+    Ok((Names::new(alloc), words))
 }
 
 /// What stands behind the rules of an entity and END_ENTITY.

@@ -4,7 +4,7 @@ ghost use Rattle.std.specs.Prelude.{◌≡◌};
 ghost use Rattle.p21_express.specs.Keywords.{type_word_of, under_word_of, decl_word_of, is_rules_word};
 
 /// A type that is no aggregate, by the word that it begins with.
-#[derive(Clone, Copy, Debug, PartialEq, Eq)]
+#[derive(Clone, Copy)]
 pub(crate) enum SimpleWord {
     Integer,
     Number,
@@ -18,7 +18,7 @@ pub(crate) enum SimpleWord {
 }
 
 /// An aggregate, by the word that it begins with.
-#[derive(Clone, Copy, Debug, PartialEq, Eq)]
+#[derive(Clone, Copy)]
 pub(crate) enum AggregateWord {
     Array,
     List,
@@ -27,14 +27,14 @@ pub(crate) enum AggregateWord {
 }
 
 /// What a word says where a type begins.
-#[derive(Clone, Copy, Debug, PartialEq, Eq)]
+#[derive(Clone, Copy)]
 pub(crate) enum TypeWord {
     Simple(SimpleWord),
     Aggregate(AggregateWord),
 }
 
 /// What a word says where that which stands under a TYPE begins.
-#[derive(Clone, Copy, Debug, PartialEq, Eq)]
+#[derive(Clone, Copy)]
 pub(crate) enum UnderWord {
     Enumeration,
     Select,
@@ -43,7 +43,7 @@ pub(crate) enum UnderWord {
 }
 
 /// What a word says where a declaration begins.
-#[derive(Clone, Copy, Debug, PartialEq, Eq)]
+#[derive(Clone, Copy)]
 pub(crate) enum DeclWord {
     Entity,
     Type,

@@ -8,7 +8,7 @@ ghost use Rattle.p21_express.specs.Schema.{aggregate};
 use crate::declarations::{Bounds, TypeExpr};
 use std::alloc::{AllocError, Global};
 
-#[derive(Clone, Copy, Debug)]
+#[derive(Clone, Copy)]
 pub(crate) enum Layer {
     /// Its bounds, and whether an element may be left out.
     Array(Bounds, bool),

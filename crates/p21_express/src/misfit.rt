@@ -6,7 +6,7 @@ ghost use Rattle.p21_express.specs.declared.misfit.Unfit.TheVariants.{Memory};
 use std::alloc::{AllocError, AllocFailed};
 
 /// What is wrong with declarations, in the order in which it is looked for.
-#[derive(Clone, Copy, Debug, PartialEq, Eq)]
+#[derive(Clone, Copy)]
 pub(crate) enum Misfit {
     Repeated,
     UnknownName,
@@ -17,7 +17,7 @@ pub(crate) enum Misfit {
 }
 
 /// Why declarations are refused.
-#[derive(Clone, Copy, Debug)]
+#[derive(Clone, Copy)]
 pub(crate) enum Unfit {
     /// What is wrong, and how many words stand from there on.
     Found(Misfit, usize),

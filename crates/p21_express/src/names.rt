@@ -1,23 +1,43 @@
 //! Lists of names, and the names of attributes.
 
-ghost use Rattle.std.specs.Prelude.{◌≡◌, codes, map};
+ghost use Rattle.std.specs.Prelude.{◌≡◌, [], ◌∷◌, ◌++◌, OnOk, codes, map};
 ghost use Rattle.p21_express.specs.Naming.{texts, plain_naming, plain_namings};
 ghost use Rattle.p21_express.specs.Reader.{words_of, Gives, next_name, names_inside, names_at, again_at, naming_at, next_naming, namings_at};
 
 use crate::parts::{begins_name, begins_symbol, name, symbol};
 use crate::refusal::Refusal;
 use crate::word::Word;
-use std::alloc::Global;
+use std::alloc::{AllocError, Global};
 
 /// Names, and of each how many words stand from it on.
-#[derive(Debug, Drop)]
+#[derive(Drop)]
 pub(crate) struct Names {
     pub(crate) names: Vec<Vec<u8>>,
     pub(crate) places: Vec<usize>,
 }
 
+impl Names {
+    pub(crate) fn new(alloc: Global) -> Names
+        ensures { result.names.items ≡ [] }
+    {
+        Names {
+            names: Vec::new(alloc),
+            places: Vec::new(alloc),
+        }
+    }
+
+    /// One name more, with so many words from it on.
+    fn push(&mut self, alloc: Global, name: &[u8], place: usize) -> Result<(), AllocError>
+        ensures { OnOk result (texts self.new.names.items ≡ texts self.old.names.items ++ name.now ∷ []) }
+    {
+        self.names.push(Vec::from_slice(alloc, name)?)?;
+        self.places.push(place)?;
+        Ok(())
+    }
+}
+
 /// The name of an attribute, with the entity behind SELF where it is declared again.
-#[derive(Clone, Copy, Debug)]
+#[derive(Clone, Copy)]
 pub(crate) struct AttrName<'a> {
     pub(crate) name: &'a [u8],
     pub(crate) of: Option<&'a [u8]>,
@@ -54,18 +74,15 @@ fn names_inside<'t, 'a>(
     ensures { Gives (λ x. (texts x.0.names.items, words_of x.1.now)) result (names_inside (words_of words.now)) }
 {
     let (first, mut rest) = name(words)?;
-    let mut names = Vec::new(alloc);
-    names.push(Vec::from_slice(alloc, first)?)?;
-    let mut places = Vec::new(alloc);
-    places.push(words.len())?;
+    let mut names = Names::new(alloc);
+    names.push(alloc, first, words.len())?;
     while !begins_symbol(rest, b')') {
         let (next, place, behind) = next_name(rest)?;
-        names.push(Vec::from_slice(alloc, next)?)?;
-        places.push(place)?;
+        names.push(alloc, next, place)?;
         rest = behind;
     }
     let rest = symbol(rest, b')')?;
-    Ok((Names { names, places }, rest))
+    Ok((names, rest))
 }
 
 /// The entity and the name behind SELF.

@@ -3,13 +3,13 @@
 use std::alloc::Global;
 
 /// Of an attribute: its name, or SELF where it is declared again, and the name in its type, where it has one.
-#[derive(Clone, Copy, Debug)]
+#[derive(Clone, Copy)]
 pub(crate) struct AttrPlaces {
     pub(crate) name: usize,
     pub(crate) texpr: usize,
 }
 
-#[derive(Debug, Drop)]
+#[derive(Drop)]
 pub(crate) struct EntityPlaces {
     pub(crate) name: usize,
     pub(crate) supertypes: Vec<usize>,
@@ -29,7 +29,7 @@ impl EntityPlaces {
     }
 }
 
-#[derive(Debug, Drop)]
+#[derive(Drop)]
 pub(crate) struct TypePlaces {
     pub(crate) name: usize,
     /// Of the items, or of the name in the type.

@@ -98,7 +98,7 @@ fn upper_case(alloc: Global, text: &[u8]) -> Result<Vec<u8>, AllocError>
 }
 
 /// What a text has by the grammar alone.
-#[derive(Debug, Drop)]
+#[derive(Drop)]
 struct Form {
     declarations: Declarations,
     entity_places: Vec<EntityPlaces>,

@@ -6,14 +6,14 @@ ghost use Rattle.p21_express.specs.declared.refusal.Refusal.TheVariants.{Memory}
 use std::alloc::{AllocError, AllocFailed};
 
 /// What is wrong with the form of words.
-#[derive(Clone, Copy, Debug, PartialEq, Eq)]
+#[derive(Clone, Copy)]
 pub(crate) enum Kind {
     Syntax,
     NotSupported,
 }
 
 /// Why words are refused, while they are read.
-#[derive(Clone, Copy, Debug)]
+#[derive(Clone, Copy)]
 pub(crate) enum Refusal {
     /// What is wrong, and how many words stand from there on.
     Refused(Kind, usize),

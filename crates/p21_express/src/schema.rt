@@ -16,7 +16,7 @@ use crate::word::Word;
 use std::alloc::{AllocError, Global};
 
 /// A declaration, and where its names stand.
-#[derive(Debug, Drop)]
+#[derive(Drop)]
 enum AnyDecl {
     Entity(EntityDecl, EntityPlaces),
     Type(TypeDecl, TypePlaces),
@@ -24,7 +24,7 @@ enum AnyDecl {
 }
 
 /// Declarations, and where their names stand.
-#[derive(Debug, Drop)]
+#[derive(Drop)]
 pub(crate) struct Found {
     pub(crate) entities: Vec<EntityDecl>,
     pub(crate) entity_places: Vec<EntityPlaces>,

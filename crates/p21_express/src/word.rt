@@ -8,7 +8,7 @@ ghost use Rattle.p21_express.specs.Reader.{word_of};
 use crate::whole::Whole;
 
 /// A word, in upper case.
-#[derive(Clone, Copy, Debug)]
+#[derive(Clone, Copy)]
 pub(crate) enum Word<'a> {
     /// A name, or a word of the grammar.
     Name(&'a [u8]),

@@ -201,7 +201,7 @@ fn front(text: &[u8]) -> Option<(Option<Word<'_>>, &[u8])>
 }
 
 /// The words of a text, up to the first byte where none begins.
-#[derive(Debug, Drop)]
+#[derive(Drop)]
 pub(crate) struct Scanned<'a> {
     pub(crate) words: Vec<Word<'a>>,
     /// Where each word begins, and behind them where the last one is followed by nothing: the end of the text, or the

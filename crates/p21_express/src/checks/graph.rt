@@ -48,7 +48,7 @@ fn turned(alloc: Global, graph: &Graph) -> Result<Graph, AllocError> {
 }
 
 /// How far a search came with a vertex.
-#[derive(Clone, Copy, Debug)]
+#[derive(Clone, Copy)]
 enum Mark {
     New,
     OnWay,

@@ -18,15 +18,14 @@ returns-in_err-first c =
 pub returns-in_err-next : goal.returns-in_err-next
 returns-in_err-next c =
     let p = err_from_is_err_and c.from_residual-in_err-next.result c.from_residual-in_err-next.ensures.1 in
-    rw (p.1, p.2) (fails_along c.in_err-next.field-0.0 (next_name (words_of c.loop-alloc.rest.now)) (names_inside (words_of c.args.words.now)) (λ h. names_fail (words_of c.args.words.now) (fails_from (begins_symbol 41) next_name (name_at (words_of c.args.words.now)) (words_of c.loop-alloc.rest.now) (texts c.loop-alloc.names.items) c.loop-alloc.invariant (sym c.begins_symbol.ensures ∙ c.loop-alloc-test.true) h)) c.in_err-next.ensures)
+    rw (p.1, p.2) (fails_along c.in_err-next.field-0.0 (next_name (words_of c.loop-alloc.rest.now)) (names_inside (words_of c.args.words.now)) (λ h. names_fail (words_of c.args.words.now) (fails_from (begins_symbol 41) next_name (name_at (words_of c.args.words.now)) (words_of c.loop-alloc.rest.now) (texts c.loop-alloc.names.names.items) c.loop-alloc.invariant (sym c.begins_symbol.ensures ∙ c.loop-alloc-test.true) h)) c.in_err-next.ensures)
 
 pub loop-alloc-smaller : goal.loop-alloc-smaller
 loop-alloc-smaller c = shorter c.in_ok-next.behind.now c.loop-alloc.rest.now (next_name_less (words_of c.loop-alloc.rest.now) (words_of c.in_ok-next.behind.now) c.in_ok-next.next.now c.in_ok-next.ensures)
 
 pub loop-alloc-preserved : goal.loop-alloc-preserved
 loop-alloc-preserved c =
-    let e : texts c.push-in-loop-alloc.new.self.items ≡ texts c.loop-alloc.names.items ++ c.in_ok-next.next.now ∷ [] = rw (c.in_ok-push-3.ensures.items, map_push _ c.loop-alloc.names.items c.in_ok-from_slice-2.field-0, c.in_ok-from_slice-2.ensures.items) refl in
-    rw e (goes_on_from (begins_symbol 41) next_name (name_at (words_of c.args.words.now)) (words_of c.loop-alloc.rest.now) (words_of c.in_ok-next.behind.now) (texts c.loop-alloc.names.items) c.in_ok-next.next.now c.loop-alloc.invariant (next_name_less (words_of c.loop-alloc.rest.now) (words_of c.in_ok-next.behind.now) c.in_ok-next.next.now c.in_ok-next.ensures) (sym c.begins_symbol.ensures ∙ c.loop-alloc-test.true) c.in_ok-next.ensures)
+    rw c.in_ok-push-2.ensures (goes_on_from (begins_symbol 41) next_name (name_at (words_of c.args.words.now)) (words_of c.loop-alloc.rest.now) (words_of c.in_ok-next.behind.now) (texts c.loop-alloc.names.names.items) c.in_ok-next.next.now c.loop-alloc.invariant (next_name_less (words_of c.loop-alloc.rest.now) (words_of c.in_ok-next.behind.now) c.in_ok-next.next.now c.in_ok-next.ensures) (sym c.begins_symbol.ensures ∙ c.loop-alloc-test.true) c.in_ok-next.ensures)
 
 pub returns : goal.returns
-returns c = names_end (words_of c.args.words.now) (words_of c.loop-alloc.rest.now) (words_of c.in_ok-rest.rest.now) (texts c.loop-alloc.names.items) (is_done_from (begins_symbol 41) next_name (name_at (words_of c.args.words.now)) (words_of c.loop-alloc.rest.now) (texts c.loop-alloc.names.items) c.loop-alloc.invariant (sym c.begins_symbol.ensures ∙ c.loop-alloc-test.false)) c.in_ok-rest.ensures
+returns c = names_end (words_of c.args.words.now) (words_of c.loop-alloc.rest.now) (words_of c.in_ok-rest.rest.now) (texts c.loop-alloc.names.names.items) (is_done_from (begins_symbol 41) next_name (name_at (words_of c.args.words.now)) (words_of c.loop-alloc.rest.now) (texts c.loop-alloc.names.names.items) c.loop-alloc.invariant (sym c.begins_symbol.ensures ∙ c.loop-alloc-test.false)) c.in_ok-rest.ensures
