@@ -1,6 +1,6 @@
 //! Which rule a complex instance breaks.
 
-use crate::said::{Part, say};
+use crate::said::{Part, say, say_words};
 use crate::types::entity_named;
 use p21_express::{Declarations, EntityDecl};
 use std::alloc::AllocError;
@@ -39,10 +39,7 @@ pub(crate) fn say_broken_rule(
             return Ok(rec as u64);
         }
     }
-    say(
-        said,
-        &[Part::Words("its records do not make one instance.")],
-    )?;
+    say_words(said, "its records do not make one instance.")?;
     Ok(0)
 }
 
@@ -65,7 +62,7 @@ fn say_rule(
     if other.is_empty() {
         return Ok(());
     }
-    say(said, &[Part::Words(".")])
+    say_words(said, ".")
 }
 
 /// The first keyword that stands before itself.

@@ -9,7 +9,7 @@ use crate::faults::say_instance_fault;
 use crate::grammar::{say_bad_token, say_too_deep, say_truncated, say_unexpected};
 use crate::header::{say_header_entities, say_wrong_schema};
 use crate::instances::piece_at;
-use crate::said::{Part, say};
+use crate::said::say_words;
 use crate::subject::Subject;
 use p21_schema::Schema;
 use p21_tree::{Fault, FaultKind};
@@ -86,10 +86,7 @@ fn say_of_instance(
             Ok((piece.at as usize).saturating_add(inside))
         }
         None => {
-            say(
-                said,
-                &[Part::Words("An instance is at fault that does not stand here.")],
-            )?;
+            say_words(said, "An instance is at fault that does not stand here.")?;
             Ok(at)
         }
     }

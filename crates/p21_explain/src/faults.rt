@@ -10,7 +10,7 @@ use crate::names::say_nearest;
 use crate::records::{is_complex, keyword, keywords};
 use crate::redeclared::{Kinds, say_declared};
 use crate::references::{say_instance, say_kind, say_named};
-use crate::said::{Part, article, say, say_front};
+use crate::said::{Part, article, say, say_front, say_words};
 use crate::spots::{Spot, integer_in, parameter_count, reference_at, repeated_in, token_at};
 use crate::subject::Subject;
 use crate::types::{is_of_reals, is_select, type_named};
@@ -41,9 +41,9 @@ pub(crate) fn say_instance_fault(
         FaultKind::BadAttribute { rec, attr } => {
             say_attribute(said, subject, piece, rec, attr)?;
             let at = place_in(bytes, Spot::Parameter { rec, attr });
-            say(said, &[Part::Words(". In its place stands ")])?;
+            say_words(said, ". In its place stands ")?;
             say_value(said, bytes, at)?;
-            say(said, &[Part::Words(".")])?;
+            say_words(said, ".")?;
             say_advice(said, subject, bytes, rec, attr)?;
             Ok(at)
         }
@@ -54,19 +54,19 @@ pub(crate) fn say_instance_fault(
         FaultKind::MissingReference { rec, attr, name } => {
             say_attribute(said, subject, piece, rec, attr)?;
             say_name(said, ". It names #", name)?;
-            say(said, &[Part::Words(", and no instance has that name.")])?;
+            say_words(said, ", and no instance has that name.")?;
             Ok(place_of_reference(bytes, rec, attr, name))
         }
         FaultKind::WrongReference { rec, attr, name } => {
             say_attribute(said, subject, piece, rec, attr)?;
             say_name(said, ". It names #", name)?;
-            say(said, &[Part::Words(", which is ")])?;
+            say_words(said, ", which is ")?;
             say_named(alloc, said, subject.file, name)?;
-            say(said, &[Part::Words(", and not of such an entity.")])?;
+            say_words(said, ", and not of such an entity.")?;
             Ok(place_of_reference(bytes, rec, attr, name))
         }
         _ => {
-            say(said, &[Part::Words("This instance is at fault.")])?;
+            say_words(said, "This instance is at fault.")?;
             Ok(0)
         }
     }
@@ -84,18 +84,15 @@ fn say_repeated(
     rec: u64,
     attr: u64,
 ) -> Result<usize, AllocError> {
-    say(
-        said,
-        &[Part::Words(". In its place a SET or a LIST OF UNIQUE names ")],
-    )?;
+    say_words(said, ". In its place a SET or a LIST OF UNIQUE names ")?;
     match repeated_in(bytes, rec, attr) {
         Some((name, at)) => {
             say_name(said, "#", name)?;
-            say(said, &[Part::Words(" twice.")])?;
+            say_words(said, " twice.")?;
             Ok(at)
         }
         None => {
-            say(said, &[Part::Words("one instance twice.")])?;
+            say_words(said, "one instance twice.")?;
             Ok(place_in(bytes, Spot::Parameter { rec, attr }))
         }
     }
@@ -113,23 +110,15 @@ fn say_advice(
         return Ok(());
     };
     match lexed.token {
-        Token::Dollar => say(
-            said,
-            &[Part::Words(" `$` may stand where the attribute is OPTIONAL.")],
-        ),
-        Token::Star => say(
-            said,
-            &[Part::Words(" `*` may stand where the attribute is derived.")],
-        ),
+        Token::Dollar => say_words(said, " `$` may stand where the attribute is OPTIONAL."),
+        Token::Star => say_words(said, " `*` may stand where the attribute is derived."),
         Token::Int(_) | Token::LParen if is_of_reals_in(subject, bytes, rec, attr) => {
             say_point(said, integer_in(bytes, rec, attr))
         }
         Token::LParen | Token::Name(_) | Token::Keyword(_) | Token::UserKeyword(_) => Ok(()),
-        _ if is_of_select(subject, bytes, rec, attr) => say(
+        _ if is_of_select(subject, bytes, rec, attr) => say_words(
             said,
-            &[Part::Words(
-                " In a SELECT a value stands in the parentheses of its type, as LABEL('x').",
-            )],
+            " In a SELECT a value stands in the parentheses of its type, as LABEL('x').",
         ),
         _ => Ok(()),
     }
@@ -140,12 +129,9 @@ fn say_point(said: &mut Vec<u8>, integer: Option<&[u8]>) -> Result<(), AllocErro
     let Some(digits) = integer else {
         return Ok(());
     };
-    say(
-        said,
-        &[Part::Words(" A REAL is written with a point, as `")],
-    )?;
+    say_words(said, " A REAL is written with a point, as `")?;
     say_front(said, digits)?;
-    say(said, &[Part::Words(".`: without it, it is an INTEGER.")])
+    say_words(said, ".`: without it, it is an INTEGER.")
 }
 
 /// Whether the attribute of a place is a REAL, or an aggregate of it.
@@ -180,7 +166,7 @@ fn attribute_in<'a>(
 fn say_subject(said: &mut Vec<u8>, piece: &Piece<'_>) -> Result<(), AllocError> {
     match name_of(piece) {
         Some(name) => say_name(said, "#", name),
-        None => say(said, &[Part::Words("The instance")]),
+        None => say_words(said, "The instance"),
     }
 }
 
@@ -210,17 +196,14 @@ fn say_duplicate(
     piece: &Piece<'_>,
 ) -> Result<usize, AllocError> {
     say_subject(said, piece)?;
-    say(
-        said,
-        &[Part::Words(" is the name of an earlier instance too")],
-    )?;
+    say_words(said, " is the name of an earlier instance too")?;
     if let Some(name) = name_of(piece) {
         if let Some(earlier) = find(subject.file, name, piece.at as usize) {
-            say(said, &[Part::Words(", of ")])?;
+            say_words(said, ", of ")?;
             say_instance(alloc, said, subject.file, &earlier)?;
         }
     }
-    say(said, &[Part::Words(".")])?;
+    say_words(said, ".")?;
     Ok(0)
 }
 
@@ -260,16 +243,13 @@ fn say_no_entity(
         ],
     )?;
     if keyword.starts_with(b"!") {
-        return say(
+        return say_words(
             said,
-            &[Part::Words(" A keyword with `!` is user-defined, and in no schema.")],
+            " A keyword with `!` is user-defined, and in no schema.",
         );
     }
     if type_named(declared, keyword).is_some() {
-        return say(
-            said,
-            &[Part::Words(" It has a TYPE of that name, which has no instances.")],
-        );
+        return say_words(said, " It has a TYPE of that name, which has no instances.");
     }
     say_nearest(alloc, said, &declared.entities, keyword)
 }
@@ -302,7 +282,7 @@ fn say_abstract(
             count += 1;
         }
     }
-    say(said, &[Part::Words(".")])?;
+    say_words(said, ".")?;
     Ok(place_in(piece.bytes, Spot::Keyword { rec: 0 }))
 }
 
@@ -315,9 +295,9 @@ fn say_complex(
 ) -> Result<usize, AllocError> {
     let keywords = keywords(alloc, piece.bytes)?;
     say_subject(said, piece)?;
-    say(said, &[Part::Words(" is ")])?;
+    say_words(said, " is ")?;
     say_kind(alloc, said, piece.bytes)?;
-    say(said, &[Part::Words(": ")])?;
+    say_words(said, ": ")?;
     let rec = say_broken_rule(said, subject.schema.declared(), &keywords)?;
     Ok(place_in(piece.bytes, Spot::Keyword { rec }))
 }
@@ -342,7 +322,7 @@ fn say_count(
         }
     }
     say_number(said, "; it is given ", found, " value")?;
-    say(said, &[Part::Words(".")])?;
+    say_words(said, ".")?;
     if found < wanted {
         Ok(place_in(bytes, Spot::Close { rec }))
     } else {
@@ -407,7 +387,7 @@ fn say_attribute(
     attr: u64,
 ) -> Result<(), AllocError> {
     say_record(said, piece, rec)?;
-    say(said, &[Part::Words("; its attribute ")])?;
+    say_words(said, "; its attribute ")?;
     let found = attribute_in(subject, piece.bytes, rec, attr);
     let (Some(keyword), Some(found)) = (keyword(piece.bytes, rec), found) else {
         return say(said, &[Part::Number(attr)]);

@@ -4,7 +4,7 @@ ghost use Rattle.std.specs.Prelude.{◌≤◌, length};
 
 use crate::instances::last_before;
 use crate::place::place_of;
-use crate::said::{Part, say, say_front};
+use crate::said::{Part, say, say_front, say_words};
 use crate::walk::Walk;
 use memchr::{memchr, memchr_iter};
 use p21_text::{Token, next_token};
@@ -31,10 +31,7 @@ pub(crate) fn say_bad_token(said: &mut Vec<u8>, file: &[u8], at: usize) -> Resul
     };
     let wanted = wanted(file, at);
     if byte == b'\'' && is_never_closed(&file[at..]) {
-        say(
-            said,
-            &[Part::Words("A string begins here, and no quote closes it")],
-        )?;
+        say_words(said, "A string begins here, and no quote closes it")?;
     } else if matches!(wanted.behind, Token::Str(_)) {
         say_behind(said, wanted.behind)?;
         say_byte(said, "the byte ", byte)?;
@@ -119,13 +116,13 @@ pub(crate) fn say_unexpected(
     if let Some(name) = wanted.unfinished {
         say_unfinished(said, file, lexed.start, name)?;
         say_front(said, stands)?;
-        say(said, &[Part::Words("`.")])?;
+        say_words(said, "`.")?;
         return Ok(wanted.to);
     }
     say_behind(said, wanted.behind)?;
-    say(said, &[Part::Words("`")])?;
+    say_words(said, "`")?;
     say_front(said, stands)?;
-    say(said, &[Part::Words("`")])?;
+    say_words(said, "`")?;
     say_wanted(said, &wanted)?;
     say_beginning(said, file, &wanted)?;
     Ok(at)
@@ -144,23 +141,23 @@ fn say_unfinished(said: &mut Vec<u8>, file: &[u8], at: usize, name: u64) -> Resu
         ],
     )?;
     say_place(said, file, at)?;
-    say(said, &[Part::Words(" stands `")])
+    say_words(said, " stands `")
 }
 
 /// Adds that something stands behind a token.
 fn say_behind(said: &mut Vec<u8>, token: Token<'_>) -> Result<(), AllocError> {
     match token {
         Token::Str(body) => {
-            say(said, &[Part::Words("Behind the string '")])?;
+            say_words(said, "Behind the string '")?;
             say_front(said, body)?;
-            say(said, &[Part::Words("' stands ")])
+            say_words(said, "' stands ")
         }
         Token::Keyword(word) | Token::UserKeyword(word) => {
-            say(said, &[Part::Words("Behind the word ")])?;
+            say_words(said, "Behind the word ")?;
             say_front(said, word)?;
-            say(said, &[Part::Words(" stands ")])
+            say_words(said, " stands ")
         }
-        _ => say(said, &[Part::Words("Here stands ")]),
+        _ => say_words(said, "Here stands "),
     }
 }
 
@@ -184,12 +181,9 @@ fn say_beginning(
 ) -> Result<(), AllocError> {
     match wanted.behind {
         Token::Str(body) if memchr(b'\n', body).is_some() => {
-            say(said, &[Part::Words(" The string before it begins ")])?;
+            say_words(said, " The string before it begins ")?;
             say_place(said, file, wanted.from.min(file.len()))?;
-            say(
-                said,
-                &[Part::Words(", and no quote in that line closes it.")],
-            )
+            say_words(said, ", and no quote in that line closes it.")
         }
         _ => Ok(()),
     }
@@ -227,9 +221,9 @@ pub(crate) fn say_truncated(said: &mut Vec<u8>, file: &[u8], at: usize) -> Resul
 
 /// Adds that a parenthesis is one too many.
 pub(crate) fn say_too_deep(said: &mut Vec<u8>) -> Result<(), AllocError> {
-    say(
+    say_words(
         said,
-        &[Part::Words("This parenthesis is the 65th that is open at once; 64 may be.")],
+        "This parenthesis is the 65th that is open at once; 64 may be.",
     )
 }
 

@@ -9,7 +9,7 @@ use crate::excerpt::push_line;
 use crate::explained::in_text;
 use crate::instances::piece_at;
 use crate::records::{is_complex, keyword};
-use crate::said::{Part, say, say_front};
+use crate::said::{Part, say, say_front, say_words};
 use crate::shown::new_text;
 use p21_schema::Schema;
 use p21_tree::{Fault, FaultKind};
@@ -67,7 +67,7 @@ fn push_group(alloc: Global, text: &mut String, group: &Group<'_>) -> Result<(),
     say_times(&mut line, group.count)?;
     say(&mut line, &[Part::Words(" "), Part::Words(group.words)])?;
     if !group.keyword.is_empty() {
-        say(&mut line, &[Part::Words(": ")])?;
+        say_words(&mut line, ": ")?;
         say_front(&mut line, group.keyword)?;
     }
     if let Some(attr) = group.attr {
@@ -88,7 +88,7 @@ fn push_group(alloc: Global, text: &mut String, group: &Group<'_>) -> Result<(),
 /// Adds how often there is something.
 fn say_times(said: &mut Vec<u8>, count: u64) -> Result<(), AllocError> {
     if count == 1 {
-        say(said, &[Part::Words("once")])
+        say_words(said, "once")
     } else {
         say(said, &[Part::Number(count), Part::Words(" times")])
     }

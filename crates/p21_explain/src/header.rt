@@ -2,7 +2,7 @@
 
 ghost use Rattle.std.specs.Prelude.{◌≤◌, length, IfSome};
 
-use crate::said::{Part, say, say_front};
+use crate::said::{Part, say, say_front, say_words};
 use crate::subject::Subject;
 use crate::walk::Walk;
 use p21_text::Token;
@@ -44,11 +44,9 @@ pub(crate) fn say_header_entities(
             });
         }
     }
-    say(
+    say_words(
         said,
-        &[Part::Words(
-            "FILE_SCHEMA is to have one parameter, a list of one string, the schema's name: FILE_SCHEMA(('NAME'));",
-        )],
+        "FILE_SCHEMA is to have one parameter, a list of one string, the schema's name: FILE_SCHEMA(('NAME'));",
     )?;
     Ok(match entity(file, at, 2) {
         Some(entity) => entity.at,
@@ -76,11 +74,11 @@ fn say_wanted_entity(
         ],
     )?;
     if keyword.is_empty() {
-        say(said, &[Part::Words("nothing")])?;
+        say_words(said, "nothing")?;
     } else {
         say_front(said, keyword)?;
     }
-    say(said, &[Part::Words(" stands there.")])
+    say_words(said, " stands there.")
 }
 
 /// Adds which schema the file names and which one was given; answers the place of the name. `HEADER` stands at `at`.
@@ -96,7 +94,7 @@ pub(crate) fn say_wrong_schema(
         Some(entity) => (entity.string, entity.string_at),
         None => (None, at),
     };
-    say(said, &[Part::Words("The file names the schema '")])?;
+    say_words(said, "The file names the schema '")?;
     if let Some(name) = name {
         say_front(said, name)?;
     }

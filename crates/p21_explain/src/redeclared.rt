@@ -2,7 +2,7 @@
 
 use crate::attributes::Attribute;
 use crate::records::has_keyword;
-use crate::said::{Part, say};
+use crate::said::{Part, say, say_words};
 use crate::types::{article_of, say_meaning, say_type};
 use p21_express::{AttrDecl, EntityDecl};
 use p21_schema::Schema;
@@ -24,7 +24,7 @@ pub(crate) fn say_declared(
     attribute: Attribute<'_>,
     kinds: Kinds<'_>,
 ) -> Result<(), AllocError> {
-    say(said, &[Part::Words(" is ")])?;
+    say_words(said, " is ")?;
     say_form(said, schema, attribute.declared)?;
     for entity in &schema.declared().entities {
         if is_of(schema, kinds, &entity.name) {
@@ -41,7 +41,7 @@ fn say_form(said: &mut Vec<u8>, schema: &Schema, declared: &AttrDecl) -> Result<
     } else {
         article_of(&declared.texpr)
     };
-    say(said, &[Part::Words(before)])?;
+    say_words(said, before)?;
     say_type(said, &declared.texpr)?;
     say_meaning(said, schema.declared(), &declared.texpr)
 }

@@ -3,7 +3,7 @@
 use crate::instances::find;
 use crate::place::place_of;
 use crate::records::{is_complex, keywords};
-use crate::said::{Part, article, say};
+use crate::said::{Part, article, say, say_words};
 use p21_tree::Piece;
 use std::alloc::{AllocError, Global};
 
@@ -16,7 +16,7 @@ pub(crate) fn say_named(
 ) -> Result<(), AllocError> {
     match find(file, name, file.len()) {
         Some(piece) => say_instance(alloc, said, file, &piece),
-        None => say(said, &[Part::Words("no instance")]),
+        None => say_words(said, "no instance"),
     }
 }
 
@@ -42,13 +42,13 @@ pub(crate) fn say_instance(
 pub(crate) fn say_kind(alloc: Global, said: &mut Vec<u8>, bytes: &[u8]) -> Result<(), AllocError> {
     let keywords = keywords(alloc, bytes)?;
     if is_complex(bytes) {
-        say(said, &[Part::Words("a complex instance of ")])?;
+        say_words(said, "a complex instance of ")?;
     } else if let Some(keyword) = keywords.first() {
-        say(said, &[Part::Words(article(keyword))])?;
+        say_words(said, article(keyword))?;
     }
     for (position, keyword) in keywords.iter().enumerate() {
         if position > 0 {
-            say(said, &[Part::Words(", ")])?;
+            say_words(said, ", ")?;
         }
         say(said, &[Part::Bytes(keyword)])?;
     }

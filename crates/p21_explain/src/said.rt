@@ -22,6 +22,11 @@ const MOST: usize = 60;
 /// The most names of a list that a sentence gives.
 const MOST_NAMES: usize = 24;
 
+/// Adds words.
+pub(crate) fn say_words(said: &mut Vec<u8>, words: &str) -> Result<(), AllocError> {
+    said.extend_from_slice(words.as_bytes())
+}
+
 /// Adds some parts, one behind the other.
 pub(crate) fn say(said: &mut Vec<u8>, parts: &[Part<'_>]) -> Result<(), AllocError> {
     for part in parts {
@@ -33,7 +38,7 @@ pub(crate) fn say(said: &mut Vec<u8>, parts: &[Part<'_>]) -> Result<(), AllocErr
 /// Adds a part.
 fn say_one(said: &mut Vec<u8>, part: Part<'_>) -> Result<(), AllocError> {
     match part {
-        Part::Words(words) => said.extend_from_slice(words.as_bytes()),
+        Part::Words(words) => say_words(said, words),
         Part::Bytes(bytes) => said.extend_from_slice(bytes),
         Part::Number(number) => said.extend_from_slice(Buffer::new().format(number).as_bytes()),
         Part::Signed(number) => said.extend_from_slice(Buffer::new().format(number).as_bytes()),
@@ -54,10 +59,10 @@ pub(crate) fn say_front(said: &mut Vec<u8>, bytes: &[u8]) -> Result<(), AllocErr
 pub(crate) fn say_names(said: &mut Vec<u8>, names: &[Vec<u8>]) -> Result<(), AllocError> {
     for (position, name) in names.iter().enumerate() {
         if position == MOST_NAMES {
-            return say(said, &[Part::Words(", ...")]);
+            return say_words(said, ", ...");
         }
         if position > 0 {
-            say(said, &[Part::Words(", ")])?;
+            say_words(said, ", ")?;
         }
         say(said, &[Part::Bytes(name)])?;
     }

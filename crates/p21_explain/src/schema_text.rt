@@ -6,7 +6,7 @@ ghost use Rattle.p21_explain.specs.Printed.{IsPrinted};
 
 use crate::excerpt::paragraph;
 use crate::explained::in_text;
-use crate::said::{Part, say, say_front};
+use crate::said::{say_front, say_words};
 use p21_express::SchemaError;
 use std::alloc::{AllocError, Global};
 
@@ -50,10 +50,7 @@ enum Rule {
 /// Adds which rule is broken by a word.
 fn say_rule(said: &mut Vec<u8>, word: &[u8], rule: Rule) -> Result<(), AllocError> {
     if word.is_empty() {
-        return say(
-            said,
-            &[Part::Words("The schema ends here, before END_SCHEMA and its `;`.")],
-        );
+        return say_words(said, "The schema ends here, before END_SCHEMA and its `;`.");
     }
     let (before, behind) = match rule {
         Rule::Syntax if matches!(word, b"(" | b"'" | b"\"") => (
@@ -70,9 +67,9 @@ fn say_rule(said: &mut Vec<u8>, word: &[u8], rule: Rule) -> Result<(), AllocErro
             "` declares an attribute again that is not exactly one of an ancestor, or that is derived there, or was declared again before.",
         ),
     };
-    say(said, &[Part::Words(before)])?;
+    say_words(said, before)?;
     say_front(said, word)?;
-    say(said, &[Part::Words(behind)])
+    say_words(said, behind)
 }
 
 /// The word or the symbol that stands at a place; nothing at the end.

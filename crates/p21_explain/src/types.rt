@@ -1,6 +1,6 @@
 //! Types in EXPRESS.
 
-use crate::said::{Part, article, say, say_names};
+use crate::said::{Part, article, say, say_names, say_words};
 use p21_express::{Declarations, EntityDecl, TypeDecl, TypeExpr, Under};
 use p21_schema::{Bounds, Width};
 use std::alloc::AllocError;
@@ -8,11 +8,11 @@ use std::alloc::AllocError;
 /// Adds a type as EXPRESS writes it.
 pub(crate) fn say_type(said: &mut Vec<u8>, texpr: &TypeExpr) -> Result<(), AllocError> {
     match texpr {
-        TypeExpr::Integer => say(said, &[Part::Words("INTEGER")]),
-        TypeExpr::Number => say(said, &[Part::Words("NUMBER")]),
-        TypeExpr::Boolean => say(said, &[Part::Words("BOOLEAN")]),
-        TypeExpr::Logical => say(said, &[Part::Words("LOGICAL")]),
-        TypeExpr::Real => say(said, &[Part::Words("REAL")]),
+        TypeExpr::Integer => say_words(said, "INTEGER"),
+        TypeExpr::Number => say_words(said, "NUMBER"),
+        TypeExpr::Boolean => say_words(said, "BOOLEAN"),
+        TypeExpr::Logical => say_words(said, "LOGICAL"),
+        TypeExpr::Real => say_words(said, "REAL"),
         TypeExpr::Text(width) => say_width(said, "STRING", *width),
         TypeExpr::Binary(width) => say_width(said, "BINARY", *width),
         TypeExpr::Array {
@@ -47,7 +47,7 @@ pub(crate) fn say_type(said: &mut Vec<u8>, texpr: &TypeExpr) -> Result<(), Alloc
 
 /// Adds a STRING or a BINARY of a width.
 fn say_width(said: &mut Vec<u8>, word: &str, width: Width) -> Result<(), AllocError> {
-    say(said, &[Part::Words(word)])?;
+    say_words(said, word)?;
     let Some(count) = width.count else {
         return Ok(());
     };
@@ -130,9 +130,9 @@ fn say_listed(
     words: &'static str,
     items: &[Vec<u8>],
 ) -> Result<(), AllocError> {
-    say(said, &[Part::Words(words)])?;
+    say_words(said, words)?;
     say_names(said, items)?;
-    say(said, &[Part::Words(")")])
+    say_words(said, ")")
 }
 
 /// Adds which type another one is.

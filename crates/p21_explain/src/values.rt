@@ -2,7 +2,7 @@
 
 ghost use Rattle.std.specs.Prelude.{◌≤◌, length};
 
-use crate::said::{Part, say, say_front};
+use crate::said::{Part, say, say_front, say_words};
 use crate::walk::Walk;
 use p21_text::{Lexed, Token, binary_bits, next_token, string_len};
 use std::alloc::AllocError;
@@ -20,8 +20,8 @@ pub(crate) fn say_value(said: &mut Vec<u8>, text: &[u8], at: usize) -> Result<()
             said,
             &[Part::Words("the instance name #"), Part::Number(name)],
         ),
-        Token::Dollar => say(said, &[Part::Words("`$`, which is no value")]),
-        Token::Star => say(said, &[Part::Words("`*`")]),
+        Token::Dollar => say_words(said, "`$`, which is no value"),
+        Token::Star => say_words(said, "`*`"),
         Token::Str(body) => {
             let characters = string_len(body);
             say_scalar(said, "the string '", body, "'")?;
@@ -35,16 +35,16 @@ pub(crate) fn say_value(said: &mut Vec<u8>, text: &[u8], at: usize) -> Result<()
         Token::Keyword(keyword) | Token::UserKeyword(keyword) => {
             say_scalar(said, "a value of the type ", keyword, "")
         }
-        _ => say(said, &[Part::Words("no value")]),
+        _ => say_words(said, "no value"),
     }
 }
 
 /// Adds a list of so many elements.
 fn say_list(said: &mut Vec<u8>, count: u64) -> Result<(), AllocError> {
     if count == 0 {
-        return say(said, &[Part::Words("an empty list")]);
+        return say_words(said, "an empty list");
     }
-    say(said, &[Part::Words("a list")])?;
+    say_words(said, "a list")?;
     say_count(said, count, " of one element", " elements")
 }
 
@@ -55,15 +55,15 @@ fn say_scalar(
     value: &[u8],
     behind: &str,
 ) -> Result<(), AllocError> {
-    say(said, &[Part::Words(before)])?;
+    say_words(said, before)?;
     say_front(said, value)?;
-    say(said, &[Part::Words(behind)])
+    say_words(said, behind)
 }
 
 /// Adds of how many things a value is.
 fn say_count(said: &mut Vec<u8>, count: u64, one: &str, several: &str) -> Result<(), AllocError> {
     if count == 1 {
-        say(said, &[Part::Words(one)])
+        say_words(said, one)
     } else {
         say(
             said,
