@@ -55,7 +55,7 @@ impl Judge for LocalReader<'_> {
 }
 
 /// What a piece is by itself, and the entity of its instance.
-#[derive(Debug, Drop)]
+#[derive(Drop)]
 pub(crate) struct Judgement<'a> {
     pub(crate) judged: Judged<'a>,
     /// The entity of the instance; none of a complex one, nor where its keyword names none.
