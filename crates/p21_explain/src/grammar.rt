@@ -11,7 +11,7 @@ use p21_text::{Token, next_token};
 use std::alloc::AllocError;
 
 /// The part of a file in which a token stands.
-#[derive(Clone, Copy, PartialEq, Eq)]
+#[derive(Clone, Copy)]
 enum Section {
     /// Up to `DATA;`.
     Header,

@@ -1,6 +1,5 @@
-use Rattle.std.proofs.Common.{◌≡◌, ◌++◌, ◌∷◌, [], refl, sym, ◌∙◌}
+use Rattle.std.proofs.Common.{sym, ◌∙◌}
 use Rattle.std.proofs.lemmas.Result.{err_from_is_err_and}
-use Rattle.std.proofs.lemmas.List.{map_push}
 use Rattle.p21_express.specs.Word.{begins_symbol}
 use Rattle.p21_express.specs.Naming.{texts}
 use Rattle.p21_express.specs.Reader.{words_of, name_at, next_name, names_inside}
