@@ -15,7 +15,7 @@ use p21_hash::HashKey;
 use std::alloc::{AllocError, Global};
 
 /// An entity that newly declares an attribute.
-#[derive(Clone, Copy, Debug)]
+#[derive(Clone, Copy)]
 pub(crate) struct Owner {
     pub(crate) entity: usize,
     /// The position among the explicit attributes that the entity newly declares, or `None` where it declares this one in DERIVE.

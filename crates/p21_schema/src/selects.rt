@@ -41,7 +41,7 @@ pub(crate) struct Selects {
 }
 
 /// What an item of a SELECT is.
-#[derive(Clone, Copy, Debug, PartialEq, Eq)]
+#[derive(Clone, Copy, PartialEq, Eq)]
 pub(crate) enum Item {
     Entity,
     Select,

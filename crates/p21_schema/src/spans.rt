@@ -10,7 +10,7 @@ use std::alloc::{AllocError, Global};
 
 /// The places, among the descents of entities, of the entity that a declaration stands in and of its descendants. In the order of
 /// spans those in DERIVE stand first, and the others by their ends.
-#[derive(Clone, Copy, Debug, PartialEq, Eq, PartialOrd, Ord)]
+#[derive(Clone, Copy, PartialEq, Eq, PartialOrd, Ord)]
 pub(crate) struct Span {
     /// Whether the declaration is explicit.
     pub(crate) explicit: bool,

@@ -8,7 +8,7 @@ use crate::spans::Span;
 use std::alloc::{AllocError, Global};
 
 /// What holds from a place on, up to the place of the next step.
-#[derive(Clone, Copy, Debug)]
+#[derive(Clone, Copy)]
 pub(crate) struct Step {
     from: usize,
     /// The position of the first span that holds the places, if there is one.
