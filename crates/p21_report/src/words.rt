@@ -92,58 +92,80 @@ fn refused(alloc: Global, kind: ErrorKind, cause: &str) -> Result<ProgramError, 
     Ok(ProgramError::from(error))
 }
 
+/// The words that the program takes.
 fn command<'a>(alloc: Global) -> Result<Command<'a>, ProgramError> {
-    let schema = Arg::new(alloc, "SCHEMA")
+    let command = Command::new(alloc, "p21check")
+        .version(VERSION)
+        .about("Reads a STEP file (ISO 10303-21) and checks it against an EXPRESS schema")
+        .arg(schema(alloc))?
+        .arg(file(alloc))?
+        .arg(lanes(alloc))?
+        .arg(capacity(alloc))?
+        .arg(all(alloc))?
+        .arg(distinct(alloc))?
+        .arg(explain(alloc))?
+        .arg(progress(alloc))?
+        .after_help(STATUSES);
+    Ok(command)
+}
+
+fn schema<'a>(alloc: Global) -> Arg<'a> {
+    Arg::new(alloc, "SCHEMA")
         .required(true)
-        .help("the EXPRESS schema to check against");
-    let file = Arg::new(alloc, "FILE")
+        .help("the EXPRESS schema to check against")
+}
+
+fn file<'a>(alloc: Global) -> Arg<'a> {
+    Arg::new(alloc, "FILE")
         .required(true)
-        .help("the exchange structure to read; - is standard input");
-    let lanes = Arg::new(alloc, "lanes")
-        .long("lanes")
-        .value_name("N")
+        .help("the exchange structure to read; - is standard input")
+}
+
+fn lanes<'a>(alloc: Global) -> Arg<'a> {
+    number(alloc, "lanes")
         .default_value("4")
         .value_parser(value_parser!(u32).range(1..=64))
-        .help("how many threads read the file beside the one that deals it, 1 to 64");
-    let capacity = Arg::new(alloc, "capacity")
-        .long("capacity")
-        .value_name("N")
+        .help("how many threads read the file beside the one that deals it, 1 to 64")
+}
+
+fn capacity<'a>(alloc: Global) -> Arg<'a> {
+    number(alloc, "capacity")
         .default_value("256")
         .value_parser(value_parser!(u32).range(1..=4096))
-        .help("how many instances may be out with one of them, 1 to 4096");
-    let all = Arg::new(alloc, "all")
-        .long("all")
-        .action(ArgAction::SetTrue)
-        .help("tell all faults of the file, a line each, and not the first alone");
-    let distinct = Arg::new(alloc, "distinct")
-        .long("distinct")
-        .action(ArgAction::SetTrue)
-        .help("tell where a SET or a LIST OF UNIQUE names one instance twice");
-    let explain = Arg::new(alloc, "explain")
-        .long("explain")
-        .value_name("N")
+        .help("how many instances may be out with one of them, 1 to 4096")
+}
+
+fn all<'a>(alloc: Global) -> Arg<'a> {
+    flag(alloc, "all").help("tell all faults of the file, a line each, and not the first alone")
+}
+
+fn distinct<'a>(alloc: Global) -> Arg<'a> {
+    flag(alloc, "distinct").help("tell where a SET or a LIST OF UNIQUE names one instance twice")
+}
+
+fn explain<'a>(alloc: Global) -> Arg<'a> {
+    number(alloc, "explain")
         .num_args(0..=1)
         .require_equals(true)
         .default_missing_value("20")
         .value_parser(value_parser!(u32).range(1..=4294967295))
         .help(
             "tell at most N faults, or 20, in the words of the file and of the schema, on standard error",
-        );
-    let progress = Arg::new(alloc, "progress")
-        .long("progress")
-        .action(ArgAction::SetTrue)
-        .help("tell on standard error how far it is, also where that is no terminal");
-    let command = Command::new(alloc, "p21check")
-        .version(VERSION)
-        .about("Reads a STEP file (ISO 10303-21) and checks it against an EXPRESS schema")
-        .arg(schema)?
-        .arg(file)?
-        .arg(lanes)?
-        .arg(capacity)?
-        .arg(all)?
-        .arg(distinct)?
-        .arg(explain)?
-        .arg(progress)?
-        .after_help(STATUSES);
-    Ok(command)
+        )
+}
+
+fn progress<'a>(alloc: Global) -> Arg<'a> {
+    flag(alloc, "progress").help(
+        "tell on standard error how far it is, also where that is no terminal",
+    )
+}
+
+/// A word that is there or not.
+fn flag<'a>(alloc: Global, name: &'a str) -> Arg<'a> {
+    Arg::new(alloc, name).long(name).action(ArgAction::SetTrue)
+}
+
+/// A word that a number follows.
+fn number<'a>(alloc: Global, name: &'a str) -> Arg<'a> {
+    Arg::new(alloc, name).long(name).value_name("N")
 }
