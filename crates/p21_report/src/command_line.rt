@@ -146,24 +146,44 @@ where
 {
     let wanted = what_is_wanted(alloc, words)?;
     let progress = Progress::new(told.clock, told.out, told.is_terminal || wanted.progress);
+    status_of(run_told(rt, alloc, &wanted, &progress, input, output, said))
+}
+
+/// Runs over the schema and the file, tells how far it is, and keeps what is to be said.
+fn run_told<R, I, O, C, P>(
+    rt: &R,
+    alloc: Global,
+    wanted: &Wanted<'_>,
+    progress: &Progress<C, P>,
+    input: &mut I,
+    output: &mut O,
+    said: &mut String,
+) -> Outcome
+where
+    R: Files + Threads + Wait + Sync,
+    I: Read,
+    O: Write,
+    C: Clock + Sync + Drop,
+    P: Write + Send + Drop,
+{
     progress.tell(Stage::Schema);
     let mut schema = Opened::new(rt, wanted.schema);
     let mut out = Stream::new(output);
     let key = drawn_key(rt);
     let mut explainer = Explainer::new(
         alloc,
-        &progress,
+        progress,
         wanted.schema,
         wanted.file,
         wanted.explained,
     );
     let (outcome, error) = if wanted.file == "-" {
-        let mut file = Watched::new(Stream::new(input), &progress);
+        let mut file = Watched::new(Stream::new(input), progress);
         let outcome = run_wanted(
             rt,
             alloc,
-            &wanted,
-            &progress,
+            wanted,
+            progress,
             &mut schema,
             &mut file,
             &mut out,
@@ -172,12 +192,12 @@ where
         );
         (outcome, file.source().error())
     } else {
-        let mut file = Watched::new(Opened::new(rt, wanted.file), &progress);
+        let mut file = Watched::new(Opened::new(rt, wanted.file), progress);
         let outcome = run_wanted(
             rt,
             alloc,
-            &wanted,
-            &progress,
+            wanted,
+            progress,
             &mut schema,
             &mut file,
             &mut out,
@@ -189,7 +209,7 @@ where
     progress.remove();
     explainer.hear_end(outcome, [schema.error(), error, out.error()]);
     *said = explainer.into_said();
-    status_of(outcome)
+    outcome
 }
 
 /// Runs over the schema and the file as it is wanted.

@@ -2,11 +2,11 @@
 
 use crate::program_error::ProgramError;
 use clap::error::ErrorKind;
-use clap::{Arg, ArgAction, Command, value_parser};
+use clap::{Arg, ArgAction, ArgMatches, Command, value_parser};
 use p21_desk::LaneCount;
 use p21_lanes::Capacity;
 use p21_schema::Rules;
-use std::alloc::Global;
+use std::alloc::{AllocError, Global};
 
 /// What the words ask for.
 #[derive(Clone, Copy, Debug)]
@@ -45,68 +45,73 @@ pub(crate) fn what_is_wanted<'a>(
     words: &'a [String],
 ) -> Result<Wanted<'a>, ProgramError> {
     let matches = command(alloc)?.try_get_matches_from(words)?;
-    let paths = (matches.get_str("SCHEMA"), matches.get_str("FILE"));
-    let lanes = matches.get_one("lanes").and_then(LaneCount::new);
-    let capacity = matches.get_one("capacity").and_then(Capacity::new);
-    let all = matches.get_flag("all");
-    let rules = Rules {
-        distinct: matches.get_flag("distinct"),
-    };
-    let progress = matches.get_flag("progress");
-    let explained = matches.get_one::<u32>("explain").unwrap_or(0) as usize;
-    match (paths, lanes, capacity) {
-        ((Some(schema), Some(file)), Some(lanes), Some(capacity)) => Ok(Wanted {
-            schema,
-            file,
-            lanes,
-            capacity,
-            all,
-            rules,
-            explained,
-            progress,
-        }),
-        _ => Err(refused(
+    match wanted_by(&matches) {
+        Some(wanted) => Ok(wanted),
+        None => Err(refused(
             alloc,
             ErrorKind::MissingRequiredArgument,
             "no SCHEMA or no FILE is given",
-        )?),
+        )),
     }
+}
+
+/// What is asked for, if both paths and the numbers are there.
+fn wanted_by<'a>(matches: &ArgMatches<'a>) -> Option<Wanted<'a>> {
+    Some(Wanted {
+        schema: matches.get_str("SCHEMA")?,
+        file: matches.get_str("FILE")?,
+        lanes: matches.get_one("lanes").and_then(LaneCount::new)?,
+        capacity: matches.get_one("capacity").and_then(Capacity::new)?,
+        all: matches.get_flag("all"),
+        rules: Rules {
+            distinct: matches.get_flag("distinct"),
+        },
+        explained: matches.get_one::<u32>("explain").unwrap_or(0) as usize,
+        progress: matches.get_flag("progress"),
+    })
 }
 
 /// What is told of words that are no text.
 pub(crate) fn not_text(alloc: Global) -> ProgramError {
-    let error = refused(
+    refused(
         alloc,
         ErrorKind::InvalidValue,
         "invalid UTF-8 was detected in one or more arguments",
-    );
-    match error {
-        Ok(error) => error,
-        Err(error) => error,
-    }
+    )
 }
 
 /// The error of words that are refused for a cause.
-fn refused(alloc: Global, kind: ErrorKind, cause: &str) -> Result<ProgramError, ProgramError> {
-    let error = command(alloc)?.error(kind, cause)?;
-    Ok(ProgramError::from(error))
+fn refused(alloc: Global, kind: ErrorKind, cause: &str) -> ProgramError {
+    match words_error(alloc, kind, cause) {
+        Ok(error) => ProgramError::from(error),
+        Err(error) => ProgramError::from(error),
+    }
+}
+
+fn words_error(alloc: Global, kind: ErrorKind, cause: &str) -> Result<clap::Error, AllocError> {
+    command(alloc)?.error(kind, cause)
 }
 
 /// The words that the program takes.
-fn command<'a>(alloc: Global) -> Result<Command<'a>, ProgramError> {
+fn command<'a>(alloc: Global) -> Result<Command<'a>, AllocError> {
     let command = Command::new(alloc, "p21check")
         .version(VERSION)
         .about("Reads a STEP file (ISO 10303-21) and checks it against an EXPRESS schema")
+        .after_help(STATUSES)
         .arg(schema(alloc))?
-        .arg(file(alloc))?
+        .arg(file(alloc))?;
+    with_options(alloc, command)
+}
+
+/// Adds the words that may be left out.
+fn with_options<'a>(alloc: Global, command: Command<'a>) -> Result<Command<'a>, AllocError> {
+    command
         .arg(lanes(alloc))?
         .arg(capacity(alloc))?
         .arg(all(alloc))?
         .arg(distinct(alloc))?
         .arg(explain(alloc))?
-        .arg(progress(alloc))?
-        .after_help(STATUSES);
-    Ok(command)
+        .arg(progress(alloc))
 }
 
 fn schema<'a>(alloc: Global) -> Arg<'a> {
