@@ -6,13 +6,12 @@ ghost use Rattle.p21_report.specs.declared.program_error.ProgramError.TheVariant
 
 use crate::drawn_key::drawn_key;
 use crate::explainer::Explainer;
-use crate::opened::Opened;
+use crate::opened::{LastError, Opened};
 use crate::program_error::ProgramError;
 use crate::progress::{NoClock, Progress, Stage};
 use crate::watched::Watched;
 use crate::words::{Wanted, not_text, what_is_wanted};
-use p21_hash::HashKey;
-use p21_run::{Outcome, Sink, Source, Stream, run_heard};
+use p21_run::{Outcome, Source, Stream, run_heard};
 use std::alloc::{AllocError, Global};
 use std::fs::Files;
 use std::io::{self, Read, Write};
@@ -167,9 +166,6 @@ where
     P: Write + Send + Drop,
 {
     progress.tell(Stage::Schema);
-    let mut schema = Opened::new(rt, wanted.schema);
-    let mut out = Stream::new(output);
-    let key = drawn_key(rt);
     let mut explainer = Explainer::new(
         alloc,
         progress,
@@ -177,75 +173,57 @@ where
         wanted.file,
         wanted.explained,
     );
-    let (outcome, error) = if wanted.file == "-" {
-        let mut file = Watched::new(Stream::new(input), progress);
-        let outcome = run_wanted(
-            rt,
-            alloc,
-            wanted,
-            progress,
-            &mut schema,
-            &mut file,
-            &mut out,
-            key,
-            &mut explainer,
-        );
-        (outcome, file.source().error())
+    let outcome = if wanted.file == "-" {
+        let file = Stream::new(input);
+        run_over(rt, alloc, wanted, progress, file, output, &mut explainer)
     } else {
-        let mut file = Watched::new(Opened::new(rt, wanted.file), progress);
-        let outcome = run_wanted(
-            rt,
-            alloc,
-            wanted,
-            progress,
-            &mut schema,
-            &mut file,
-            &mut out,
-            key,
-            &mut explainer,
-        );
-        (outcome, file.source().error())
+        let file = Opened::new(rt, wanted.file);
+        run_over(rt, alloc, wanted, progress, file, output, &mut explainer)
     };
-    progress.remove();
-    explainer.hear_end(outcome, [schema.error(), error, out.error()]);
     *said = explainer.into_said();
     outcome
 }
 
-/// Runs over the schema and the file as it is wanted.
-fn run_wanted<R, S, F, K, C, P>(
+/// Runs over the schema and the file as it is wanted, and has the explainer hear the end.
+fn run_over<R, F, O, C, P>(
     rt: &R,
     alloc: Global,
     wanted: &Wanted<'_>,
     progress: &Progress<C, P>,
-    schema: &mut S,
-    file: &mut F,
-    out: &mut K,
-    key: HashKey,
+    file: F,
+    output: &mut O,
     explainer: &mut Explainer<'_, C, P>,
 ) -> Outcome
 where
-    R: Threads + Wait + Sync,
-    S: Source,
-    F: Source,
-    K: Sink,
+    R: Files + Threads + Wait + Sync,
+    F: Source + LastError + Drop,
+    O: Write,
     C: Clock + Sync + Drop,
     P: Write + Send + Drop,
 {
-    run_heard(
+    let mut schema = Opened::new(rt, wanted.schema);
+    let mut file = Watched::new(file, progress);
+    let mut out = Stream::new(output);
+    let outcome = run_heard(
         rt,
         alloc,
         progress,
-        schema,
-        file,
-        out,
+        &mut schema,
+        &mut file,
+        &mut out,
         wanted.lanes,
         wanted.capacity,
         wanted.all,
         wanted.rules,
-        key,
+        drawn_key(rt),
         explainer,
-    )
+    );
+    progress.remove();
+    explainer.hear_end(
+        outcome,
+        [schema.error(), file.source().error(), out.error()],
+    );
+    outcome
 }
 
 /// The status of a run that wrote its report.

@@ -7,6 +7,18 @@ use p21_run::{IoFault, Source, Stream};
 use std::fs::{File, Files};
 use std::io;
 
+/// What keeps the last error that it had.
+pub(crate) trait LastError {
+    /// The last error.
+    fn error(&self) -> Option<io::Error>;
+}
+
+impl<T> LastError for Stream<T> {
+    fn error(&self) -> Option<io::Error> {
+        Stream::error(self)
+    }
+}
+
 /// A file that is opened at its first read. One that cannot be opened, from whatever cause, failed.
 #[derive(Drop)]
 pub(crate) struct Opened<'a, R: Files> {
@@ -37,14 +49,6 @@ impl<'a, R: Files> Opened<'a, R> {
         }
     }
 
-    /// The last error of opening or reading it.
-    pub(crate) fn error(&self) -> Option<io::Error> {
-        match &self.file {
-            Some(file) => file.error(),
-            None => self.refusal,
-        }
-    }
-
     fn read_file(&mut self, into: &mut [u8]) -> Result<usize, IoFault>
         ensures bound { ReadsAtMost result into.new }
         ensures mark { mark_of_opened self.new ≡ mark_of_opened self.old }
@@ -59,6 +63,16 @@ impl<'a, R: Files> Opened<'a, R> {
         match &mut self.file {
             Some(file) => file.read(into),
             None => Err(IoFault::Failed),
+        }
+    }
+}
+
+impl<R: Files> LastError for Opened<'_, R> {
+    /// The last error of opening or reading it.
+    fn error(&self) -> Option<io::Error> {
+        match &self.file {
+            Some(file) => file.error(),
+            None => self.refusal,
         }
     }
 }

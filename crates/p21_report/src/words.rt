@@ -105,13 +105,22 @@ fn command<'a>(alloc: Global) -> Result<Command<'a>, AllocError> {
 
 /// Adds the words that may be left out.
 fn with_options<'a>(alloc: Global, command: Command<'a>) -> Result<Command<'a>, AllocError> {
+    let command = with_lanes(alloc, command)?;
+    let command = with_faults(alloc, command)?;
+    command.arg(progress(alloc))
+}
+
+/// Adds the words that say how the file is read.
+fn with_lanes<'a>(alloc: Global, command: Command<'a>) -> Result<Command<'a>, AllocError> {
+    command.arg(lanes(alloc))?.arg(capacity(alloc))
+}
+
+/// Adds the words that say which faults are told, and how.
+fn with_faults<'a>(alloc: Global, command: Command<'a>) -> Result<Command<'a>, AllocError> {
     command
-        .arg(lanes(alloc))?
-        .arg(capacity(alloc))?
         .arg(all(alloc))?
         .arg(distinct(alloc))?
-        .arg(explain(alloc))?
-        .arg(progress(alloc))
+        .arg(explain(alloc))
 }
 
 fn schema<'a>(alloc: Global) -> Arg<'a> {
