@@ -16,7 +16,7 @@ use Rattle.std.proofs.lemmas.Map.Entries.{place_from_lookup, hash_map_get_place}
 use Rattle.std.proofs.lemmas.List.Kept.{IsStrictlySortedBy-dedup}
 use Rattle.p21_tree.specs.Sentence.{Instance}
 use Rattle.p21_render.specs.Counts.{capped, complex_count, count_line, keyword_count, keywords_of, record_references, reference_count, AreIncreasing, IsCounts}
-use Rattle.p21_render.specs.Tally.{CountsOf, IsTallyOf, entry_lines, kept, key_cmp, key_eq}
+use Rattle.p21_render.specs.Tally.{CountsOf, IsTallyOf, entry_lines, kept, key_cmp, key_eq, tally_lines}
 use Rattle.p21_render.specs.declared.tally.Tally.{Tally}
 use Rattle.p21_render.proofs.TallyLemmas.{IsEntryOf, entries_are, key_equiv, some_count}
 
@@ -169,7 +169,7 @@ each_word m ks counts unique k = (forth, back) where
 
 -- the report text of what is counted
 pub report_text : (t : Tally) (is : List Instance) (n : ℕ) (text : List ℕ) → IsTallyOf t is → IsSorted key_cmp (keys t.keywords) → IsUnique key_eq t.keywords → n ≡ length is
-    → text ≡ ((count_line (codes "instances") n ++ count_line (codes "complex") t.complex) ++ count_line (codes "references") t.references) ++ entry_lines t.keywords.entries → IsCounts is text
+    → text ≡ tally_lines n t → IsCounts is text
 report_text t is n text h sorted unique e spelled =
     let ks = keywords_of is in
     let a = count_line (codes "instances") n in

@@ -1,5 +1,5 @@
 -- What the code keeps of the records that it has counted.
-use Rattle.std.specs.Prelude.{◌≡◌, ℕ, ◌+◌, zero, suc, Bool, List, [], ◌∷◌, ◌++◌, Option, None, Some, nat_eq, if◌then◌else◌}
+use Rattle.std.specs.Prelude.{◌≡◌, ℕ, ◌+◌, zero, suc, Bool, List, [], ◌∷◌, ◌++◌, Option, None, Some, nat_eq, if◌then◌else◌, codes}
 use Rattle.std.specs.Borrow.{Bor}
 use Rattle.indexmap.specs.IndexMap.{IndexMap, get}
 use Rattle.std.specs.Option.{option_map_or}
@@ -41,3 +41,7 @@ pub record IsTallyOf (t : Tally) (is : List Instance) : Type 0 where
 abbrev pub entry_lines : List (Bor (List ℕ) × ℕ) → List ℕ
 entry_lines [] = []
 entry_lines (e ∷ es) = count_line e.0.now e.1 ++ entry_lines es
+
+-- the lines of what is counted of so many instances
+abbrev pub tally_lines : ℕ → Tally → List ℕ
+tally_lines n t = ((count_line (codes "instances") n ++ count_line (codes "complex") t.complex) ++ count_line (codes "references") t.references) ++ entry_lines t.keywords.entries

@@ -2,7 +2,7 @@
 
 ghost use Rattle.std.specs.Prelude.{◌≡◌, ◌++◌, map, IfOk, OnOk};
 ghost use Rattle.p21_render.specs.Counts.{IsCounts, count_line};
-ghost use Rattle.p21_render.specs.Tally.{IsTallyOf, entry_lines, key_cmp, key_eq};
+ghost use Rattle.p21_render.specs.Tally.{IsTallyOf, entry_lines, key_cmp, key_eq, tally_lines};
 ghost use Rattle.indexmap.specs.IndexMap.{keys, IsUnique};
 ghost use Rattle.p21_tree.specs.Views.{plain_instance};
 
@@ -31,8 +31,8 @@ pub fn counts_with_key(
 ) -> Result<Vec<u8>, AllocError>
     ensures { IfOk result (λ text. IsCounts (map plain_instance instances.now) text.items) }
 {
-    let tally = tally_of(alloc, instances, key)?;
-    tally_text(alloc, instances, tally)
+    let mut tally = tally_of(alloc, instances, key)?;
+    tally_text(alloc, instances, &mut tally)
 }
 
 /// The same, where many instances are counted by several threads: as many as the machine has processors for. A thread that cannot be
@@ -45,26 +45,34 @@ pub fn counts_by_threads<R: Threads + Sync>(
 ) -> Result<Vec<u8>, AllocError>
     ensures { IfOk result (λ text. IsCounts (map plain_instance instances.now) text.items) }
 {
-    let tally = tally_by_threads(rt, alloc, instances, key)?;
-    tally_text(alloc, instances, tally)
+    let mut tally = tally_by_threads(rt, alloc, instances, key)?;
+    tally_text(alloc, instances, &mut tally)
 }
 
-/// The lines of what is counted of some instances.
+/// The lines of what is counted of some instances. The keywords are put in order.
 fn tally_text(
     alloc: Global,
     instances: &[RawInstance<'_>],
-    mut tally: Tally<'_>,
+    tally: &mut Tally<'_>,
 ) -> Result<Vec<u8>, AllocError>
-    requires { IsTallyOf tally (map plain_instance instances.now) }
+    requires { IsTallyOf tally.old (map plain_instance instances.now) }
     ensures { IfOk result (λ text. IsCounts (map plain_instance instances.now) text.items) }
 {
     tally.keywords.sort_keys()?;
     let mut text = Vec::new(alloc);
-    push_count(&mut text, b"instances", instances.len() as u64)?;
-    push_count(&mut text, b"complex", tally.complex)?;
-    push_count(&mut text, b"references", tally.references)?;
-    push_keywords(&mut text, &tally.keywords)?;
+    push_tally(&mut text, instances.len() as u64, tally)?;
     Ok(text)
+}
+
+/// Adds the lines of what is counted of so many instances.
+fn push_tally(text: &mut Vec<u8>, instances: u64, tally: &Tally<'_>) -> Result<(), AllocError>
+    ensures lines { OnOk result (text.new.items ≡ text.old.items ++ tally_lines instances tally.now) }
+    ensures unique { OnOk result (IsUnique key_eq tally.now.keywords) }
+{
+    push_count(text, b"instances", instances)?;
+    push_count(text, b"complex", tally.complex)?;
+    push_count(text, b"references", tally.references)?;
+    push_keywords(text, &tally.keywords)
 }
 
 /// Adds the lines of the keywords.

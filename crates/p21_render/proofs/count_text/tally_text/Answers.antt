@@ -1,9 +1,7 @@
 use Rattle.std.proofs.Common.{◌++◌, map, length, ap, sym, ◌∙◌}
 use Rattle.std.proofs.lemmas.List.{length-map}
-use Rattle.std.specs.Prelude.{codes}
 use Rattle.p21_tree.specs.Views.{plain_instance}
-use Rattle.p21_render.specs.Counts.{count_line}
-use Rattle.p21_render.specs.Tally.{IsTallyOf, entry_lines}
+use Rattle.p21_render.specs.Tally.{IsTallyOf, tally_lines}
 use Rattle.p21_render.specs.declared.tally.Tally.{Tally}
 use Rattle.p21_render.proofs.ReportLemmas.{report_text}
 use Rattle.p21_render.proofs.count_text.tally_text.Goals as goal
@@ -13,11 +11,7 @@ returns c =
     let is = map plain_instance c.args.instances.now in
     let before = c.requires in
     let keywords = c.sort_keys.new.self in
-    let t : Tally = record { complex = c.args.tally.complex; references = c.args.tally.references; keywords = keywords } in
+    let t : Tally = record { complex = c.args.tally.now.complex; references = c.args.tally.now.references; keywords = keywords } in
     let counted : IsTallyOf t is = record { complex = before.complex; references = before.references; keywords = λ k. c.sort_keys.ensures.reordered.2 k ∙ before.keywords k } in
-    let a = count_line (codes "instances") (length c.args.instances.now) in
-    let b = count_line (codes "complex") t.complex in
-    let r = count_line (codes "references") t.references in
-    report_text t is (length c.args.instances.now) c.push_keywords.new.text.items counted c.in_ok-sort_keys.ensures.sorted c.in_ok-push_keywords.ensures.unique (sym (length-map c.args.instances.now plain_instance))
-    (c.in_ok-push_keywords.ensures.lines ∙ ap (λ l. l ++ entry_lines t.keywords.entries)
-    (c.in_ok-push_count-3.ensures ∙ ap (λ l. l ++ r) (c.in_ok-push_count-2.ensures ∙ ap (λ l. l ++ b) (c.in_ok-push_count.ensures ∙ ap (λ l. l ++ a) c.new-text.ensures.items))))
+    report_text t is (length c.args.instances.now) c.push_tally.new.text.items counted c.in_ok-sort_keys.ensures.sorted c.in_ok-push_tally.ensures.unique (sym (length-map c.args.instances.now plain_instance))
+    (c.in_ok-push_tally.ensures.lines ∙ ap (λ l. l ++ tally_lines (length c.args.instances.now) t) c.new-text.ensures.items)
