@@ -1,6 +1,7 @@
 pub mod GraphLemmas
 pub mod WalkLemmas
 pub mod RangeLemmas
+pub mod PartLemmas
 pub mod WordLemmas
 pub mod SetLemmas
 pub mod UnionLemmas

@@ -9,7 +9,7 @@ ghost use Rattle.p21_graph.specs.Ranges.{Covers, IsInRange};
 ghost use Rattle.p21_graph.specs.Slices.{numbers_from, numbers_of, joined_of, AreSlices, IsSlice};
 
 use crate::graph::{Graph, zeros};
-use crate::ranges::Range;
+use crate::ranges::{Range, common, without, without_all};
 use crate::rows::Rows;
 use crate::sets::Unions;
 use crate::shared::{ALL, SharedList, list_of, number, push_resolved, split};
@@ -138,8 +138,23 @@ impl Making {
         }
     }
 
-    /// Those ranges of a list of which another may have a number, so that they hold each number that both have; `None` where the list has a
-    /// set.
+    /// Those ranges of a list of which another may have a number.
+    fn met(&self, alloc: Global, ranges: &[Range], second: usize) -> Result<Vec<Range>, AllocError>
+        requires making { (all : List (List ℕ)) × IsMaking all self.now }
+        requires second { second < length self.now.lists.items }
+        ensures { IfOk result (λ met. (all : List (List ℕ)) → IsMaking all self.now → (n : ℕ) → Covers ranges.now n → IsIn (get_or all second []) n → Covers met.items n) }
+    {
+        let mut met = Vec::new(alloc);
+        for range in ranges {
+            if !self.rows.has_none(second, *range) {
+                met.push(*range)?;
+            }
+        }
+        Ok(met)
+    }
+
+    /// Ranges that hold each number that two lists both have: what their ranges both hold, or where one has a set, those ranges of the other of
+    /// which it may have a number; `None` where both have a set.
     fn in_both(
         &self,
         alloc: Global,
@@ -151,15 +166,12 @@ impl Making {
         requires second { second < length self.now.lists.items }
         ensures { IfOk result (λ shared. IfSome shared (λ ranges. (all : List (List ℕ)) → IsMaking all self.now → AreShared (get_or all first []) (get_or all second []) ranges.items)) }
     {
-        let Some(ranges) = self.rows.ranges(first) else {
-            return Ok(None);
+        let shared = match (self.rows.ranges(first), self.rows.ranges(second)) {
+            (Some(ranges), Some(others)) => common(alloc, ranges, others)?,
+            (Some(ranges), None) => self.met(alloc, ranges, second)?,
+            (None, Some(others)) => self.met(alloc, others, first)?,
+            (None, None) => return Ok(None),
         };
-        let mut shared = Vec::new(alloc);
-        for range in ranges {
-            if !self.rows.has_none(second, *range) {
-                shared.push(*range)?;
-            }
-        }
         Ok(Some(shared))
     }
 
@@ -221,7 +233,45 @@ impl Making {
         self.is_whole(slice) && self.rows.has_all(slice.list, range)
     }
 
-    /// Those of some ranges, if there are any, of which a slice may not have each number.
+    /// Those of some ranges of which a slice may not have each number.
+    fn not_held(
+        &self,
+        alloc: Global,
+        ranges: &[Range],
+        slice: Slice,
+    ) -> Result<Vec<Range>, AllocError>
+        requires making { (all : List (List ℕ)) × (IsMaking all self.now × IsSlice all (length all) slice) }
+        ensures { IfOk result (λ left. (all : List (List ℕ)) → IsMaking all self.now → IsSlice all (length all) slice → (n : ℕ) → Covers ranges.now n → ¬ (IsIn (numbers_of all slice) n) → Covers left.items n) }
+    {
+        let mut left = Vec::new(alloc);
+        for range in ranges {
+            if !self.holds(slice, *range) {
+                left.push(*range)?;
+            }
+        }
+        Ok(left)
+    }
+
+    /// Ranges without what a slice is known by ranges to have: of the list of all numbers its range, of a whole list those of the list.
+    fn without_known(
+        &self,
+        alloc: Global,
+        ranges: Vec<Range>,
+        slice: Slice,
+    ) -> Result<Vec<Range>, AllocError>
+        requires making { (all : List (List ℕ)) × (IsMaking all self.now × IsSlice all (length all) slice) }
+        ensures { IfOk result (λ left. (all : List (List ℕ)) → IsMaking all self.now → IsSlice all (length all) slice → (n : ℕ) → Covers ranges.items n → ¬ (IsIn (numbers_of all slice) n) → Covers left.items n) }
+    {
+        if slice.list == ALL {
+            return without(alloc, ranges, slice.range);
+        }
+        match self.rows.ranges(slice.list) {
+            Some(passed) if self.is_whole(slice) => without_all(alloc, ranges, passed),
+            _ => Ok(ranges),
+        }
+    }
+
+    /// What of some ranges, if there are any, a slice may not have.
     fn beside(
         &self,
         alloc: Global,
@@ -234,13 +284,9 @@ impl Making {
         let Some(ranges) = ranges else {
             return Ok(None);
         };
-        let mut beside = Vec::new(alloc);
-        for range in ranges {
-            if !self.holds(slice, *range) {
-                beside.push(*range)?;
-            }
-        }
-        Ok(Some(beside))
+        let left = self.not_held(alloc, ranges, slice)?;
+        let left = self.without_known(alloc, left, slice)?;
+        Ok(Some(left))
     }
 
     /// What a list has that another has not, by slices. A slice that does not stand to the other in one way is parted, down to those that have

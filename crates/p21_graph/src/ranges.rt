@@ -135,6 +135,119 @@ fn joined(alloc: Global, ranges: &[Range]) -> Result<Vec<Range>, AllocError>
     Ok(all)
 }
 
+/// What of a range lies before a place.
+fn up_to(range: Range, place: usize) -> Range
+    ensures { (k : ℕ) → IsInRange result k ↔ (IsInRange range k × (k < place)) }
+{
+    Range {
+        from: range.from,
+        to: range.to.min(place),
+    }
+}
+
+/// What of a range lies at a place or behind it.
+fn onward(range: Range, place: usize) -> Range
+    ensures { (k : ℕ) → IsInRange result k ↔ (IsInRange range k × (place ≤ k)) }
+{
+    Range {
+        from: range.from.max(place),
+        to: range.to,
+    }
+}
+
+/// One range more, unless it is empty.
+fn push_some(ranges: &mut Vec<Range>, range: Range) -> Result<(), AllocError>
+    ensures { OnOk result ((k : ℕ) → Covers ranges.new.items k ↔ (Covers ranges.old.items k ⊎ IsInRange range k)) }
+{
+    if range.from >= range.to {
+        return Ok(());
+    }
+    ranges.push(range)?;
+    Ok(())
+}
+
+/// The parts of a range that lie in others, behind further ranges.
+fn push_parts(ranges: &mut Vec<Range>, range: Range, others: &[Range]) -> Result<(), AllocError>
+    ensures { OnOk result ((k : ℕ) → Covers ranges.new.items k ↔ (Covers ranges.old.items k ⊎ (IsInRange range k × Covers others.now k))) }
+{
+    for other in others {
+        push_some(ranges, up_to(onward(range, other.from), other.to))?;
+    }
+    Ok(())
+}
+
+/// What some ranges and others both hold.
+pub(crate) fn common(
+    alloc: Global,
+    ranges: &[Range],
+    others: &[Range],
+) -> Result<Vec<Range>, AllocError>
+    ensures { IfOk result (λ both. (k : ℕ) → Covers both.items k ↔ (Covers ranges.now k × Covers others.now k)) }
+{
+    let mut both = Vec::new(alloc);
+    for range in ranges {
+        push_parts(&mut both, *range, others)?;
+    }
+    Ok(both)
+}
+
+/// From so many ranges on none is parted in two: each of them is looked at in every step, so that more would cost more than they spare.
+const MANY: usize = 4;
+
+/// Whether a range is taken out of others: where it meets one, and parts none in two of so many. No contract speaks of this choice.
+fn is_taken_out(ranges: &[Range], other: Range) -> bool {
+    for range in ranges {
+        if range.from < other.to && other.from < range.to {
+            return ranges.len() < MANY || other.from <= range.from || range.to <= other.to;
+        }
+    }
+    false
+}
+
+/// What of some ranges lies outside another one.
+fn outside(alloc: Global, ranges: &[Range], other: Range) -> Result<Vec<Range>, AllocError>
+    ensures { IfOk result (λ left. (k : ℕ) → Covers left.items k ↔ (Covers ranges.now k × ¬ (IsInRange other k))) }
+{
+    let mut left = Vec::new(alloc);
+    for range in ranges {
+        push_some(&mut left, up_to(*range, other.from))?;
+        push_some(&mut left, onward(*range, other.to))?;
+    }
+    Ok(left)
+}
+
+/// Ranges without another one, or as they are, where it is not taken out.
+pub(crate) fn without(
+    alloc: Global,
+    ranges: Vec<Range>,
+    other: Range,
+) -> Result<Vec<Range>, AllocError>
+    ensures outside { IfOk result (λ left. (k : ℕ) → Covers ranges.items k → ¬ (IsInRange other k) → Covers left.items k) }
+    ensures within { IfOk result (λ left. (k : ℕ) → Covers left.items k → Covers ranges.items k) }
+{
+    if is_taken_out(&ranges, other) {
+        outside(alloc, &ranges, other)
+    } else {
+        Ok(ranges)
+    }
+}
+
+/// Ranges without others, as far as these are taken out.
+pub(crate) fn without_all(
+    alloc: Global,
+    ranges: Vec<Range>,
+    others: &[Range],
+) -> Result<Vec<Range>, AllocError>
+    ensures outside { IfOk result (λ left. (k : ℕ) → Covers ranges.items k → ¬ (Covers others.now k) → Covers left.items k) }
+    ensures within { IfOk result (λ left. (k : ℕ) → Covers left.items k → Covers ranges.items k) }
+{
+    let mut left = ranges;
+    for other in others {
+        left = without(alloc, left, *other)?;
+    }
+    Ok(left)
+}
+
 /// The place alone.
 pub(crate) fn alone(alloc: Global, place: usize) -> Result<Vec<Range>, AllocError>
     requires { place < 2 ^ 64 - 1 }

@@ -1,10 +1,10 @@
-use Rattle.std.proofs.Common.{◌≡◌, List, get_or, take, refl, sym, ap, ◌∙◌, subst, ⊎_elim}
+use Rattle.std.proofs.Common.{◌≡◌, List, get_or, take, sym, ap, ◌∙◌, subst, ⊎_elim}
 use Rattle.std.proofs.lemmas.List.{take_all}
 use Rattle.p21_graph.specs.Ranges.{Covers, IsInRange}
 use Rattle.p21_graph.specs.declared.ranges.Range.{Range}
 use Rattle.p21_graph.proofs.SharedRangeLemmas.{covers_last, covers_old, covers_new}
-use Rattle.p21_graph.proofs.lists.Making.beside.Goals as goal
-use Rattle.p21_graph.proofs.lists.Making.beside.Goals.{then-not-holds+in_ok-push, else-not-holds}
+use Rattle.p21_graph.proofs.lists.Making.not_held.Goals as goal
+use Rattle.p21_graph.proofs.lists.Making.not_held.Goals.{then-not-holds+in_ok-push, else-not-holds}
 
 pub loop-range-init : goal.loop-range-init
 loop-range-init c = λ all are is n h k. absurd h.1.0
@@ -12,20 +12,20 @@ loop-range-init c = λ all are is n h k. absurd h.1.0
 pub loop-range-preserved : goal.loop-range-preserved
 loop-range-preserved c = λ all are is n h k.
     let l = c.loop-range in
-    let ranges = c.deref-range-items.result.now in
+    let ranges = c.args.ranges.now in
     let none : Range = record { from = 0; to = 0 } in
     let r = get_or ranges l.range-index none in
     let either = covers_last ranges l.range-index none c.loop-range-test.true n h in
     elim c.if-not-holds.branch [
-      | then-not-holds+in_ok-push w ↦ subst (λ (u : List Range). Covers u n) (sym (ap (λ u. u.items) w.beside-is ∙ w.in_ok-push.ensures.items))
-          (⊎_elim (λ (q : Covers (take l.range-index ranges) n). covers_old l.beside.items r n (l.invariant all are is n q k)) (λ (q : IsInRange r n). covers_new l.beside.items r n q) either)
-      | else-not-holds w ↦ subst (λ u. Covers u.items n) (sym w.beside-is)
+      | then-not-holds+in_ok-push w ↦ subst (λ (u : List Range). Covers u n) (sym (ap (λ u. u.items) w.left-is ∙ w.in_ok-push.ensures.items))
+          (⊎_elim (λ (q : Covers (take l.range-index ranges) n). covers_old l.left.items r n (l.invariant all are is n q k)) (λ (q : IsInRange r n). covers_new l.left.items r n q) either)
+      | else-not-holds w ↦ subst (λ u. Covers u.items n) (sym w.left-is)
           (⊎_elim (λ (q : Covers (take l.range-index ranges) n). l.invariant all are is n q k) (λ (q : IsInRange r n). absurd (k (c.holds.ensures w.if-not-holds.false all are is n q))) either)
     ]
 
 pub returns : goal.returns
-returns c =
+returns c = λ all are is n h k.
     let l = c.loop-range in
-    let ranges = c.deref-range-items.result.now in
+    let ranges = c.args.ranges.now in
     let last : take l.range-index ranges ≡ ranges = take_all l.range-index ranges c.loop-range-test.false in
-    rw c.in-Some.is ((λ all are is n h k. l.invariant all are is n (subst (λ (u : List Range). Covers u n) (sym (last ∙ c.deref-range-items.ensures.value)) h) k), refl)
+    l.invariant all are is n (subst (λ (u : List Range). Covers u n) (sym last) h) k
