@@ -6,10 +6,11 @@ ghost use Rattle.p21_graph.specs.Graph.{plain_graph, IsOrder};
 ghost use Rattle.p21_graph.specs.Lists.{HasNumber, AreShared, IsMaking, IsMixed, StandsTo, AreListsOf, AreInherited, all_kept, joined, list_in, no_own};
 ghost use Rattle.p21_graph.specs.Members.{IsIn, AreDistinct};
 ghost use Rattle.p21_graph.specs.Ranges.{Covers, IsInRange};
+ghost use Rattle.p21_graph.specs.Rows.{table_of, AreRows};
 ghost use Rattle.p21_graph.specs.Slices.{numbers_from, numbers_of, joined_of, AreSlices, IsSlice};
 
 use crate::graph::{Graph, zeros};
-use crate::ranges::{Range, common, without, without_all};
+use crate::ranges::{Range, add, common, without, without_all};
 use crate::rows::Rows;
 use crate::sets::Unions;
 use crate::shared::{ALL, SharedList, list_of, number, push_resolved, split};
@@ -36,6 +37,10 @@ struct Two {
 
 /// The list without numbers.
 const NONE: usize = 1;
+
+/// How many ranges are sought at most where two lists have sets: each is looked at in every step, and where there are more, what they have in
+/// common lies here and there.
+const MOST: usize = 32;
 
 /// Lists while they are made.
 #[derive(Drop)]
@@ -153,8 +158,71 @@ impl Making {
         Ok(met)
     }
 
+    /// Ranges behind others that hold each number of a range that two lists both have, found by halves; whether these are all, since no more
+    /// are sought where there are too many.
+    fn push_common(
+        &self,
+        common: &mut Vec<Range>,
+        first: usize,
+        second: usize,
+        range: Range,
+    ) -> Result<bool, AllocError>
+        requires rows { AreRows self.now.rows }
+        requires first { first < length (table_of self.now.rows) }
+        requires second { second < length (table_of self.now.rows) }
+        requires upward { range.from ≤ range.to }
+        ensures kept { IfOk result (λ are_all. IsTrue are_all → (n : ℕ) → Covers common.old.items n → Covers common.new.items n) }
+        ensures common { IfOk result (λ are_all. IsTrue are_all → (n : ℕ) → IsInRange range n → Covers (get_or (table_of self.now.rows) first []) n → Covers (get_or (table_of self.now.rows) second []) n → Covers common.new.items n) }
+    {
+        if self.rows.are_apart_in(first, second, range) {
+            return Ok(true);
+        }
+        let count = range.to - range.from;
+        if count <= 1 || self.rows.has_all(first, range) && self.rows.has_all(second, range) {
+            add(common, range)?;
+            return Ok(common.len() <= MOST);
+        }
+        let middle = range.from + count / 2;
+        let front = Range {
+            from: range.from,
+            to: middle,
+        };
+        if !self.push_common(common, first, second, front)? {
+            return Ok(false);
+        }
+        let behind = Range {
+            from: middle,
+            to: range.to,
+        };
+        self.push_common(common, first, second, behind)
+    }
+
+    /// Ranges that hold each number that two lists both have, sought among all numbers; `None` where there are too many.
+    fn sought_in_both(
+        &self,
+        alloc: Global,
+        first: usize,
+        second: usize,
+    ) -> Result<Option<Vec<Range>>, AllocError>
+        requires making { (all : List (List ℕ)) × IsMaking all self.now }
+        requires first { first < length self.now.lists.items }
+        requires second { second < length self.now.lists.items }
+        ensures { IfOk result (λ shared. IfSome shared (λ ranges. (all : List (List ℕ)) → IsMaking all self.now → AreShared (get_or all first []) (get_or all second []) ranges.items)) }
+    {
+        let mut ranges = Vec::new(alloc);
+        let range = Range {
+            from: 0,
+            to: self.lists[ALL].count,
+        };
+        if self.push_common(&mut ranges, first, second, range)? {
+            Ok(Some(ranges))
+        } else {
+            Ok(None)
+        }
+    }
+
     /// Ranges that hold each number that two lists both have: what their ranges both hold, or where one has a set, those ranges of the other of
-    /// which it may have a number; `None` where both have a set.
+    /// which it may have a number; where both have a set, what is sought, and `None` where that is too much.
     fn in_both(
         &self,
         alloc: Global,
@@ -170,7 +238,7 @@ impl Making {
             (Some(ranges), Some(others)) => common(alloc, ranges, others)?,
             (Some(ranges), None) => self.met(alloc, ranges, second)?,
             (None, Some(others)) => self.met(alloc, others, first)?,
-            (None, None) => return Ok(None),
+            (None, None) => return self.sought_in_both(alloc, first, second),
         };
         Ok(Some(shared))
     }
@@ -199,7 +267,16 @@ impl Making {
         true
     }
 
-    /// How a slice stands to a list, of whose numbers it may have those of these ranges alone, if there are any.
+    /// Whether a slice is a part of a list other than that of all numbers, which takes nothing out of ranges.
+    fn is_part(&self, slice: Slice) -> bool
+        requires making { (all : List (List ℕ)) × (IsMaking all self.now × IsSlice all (length all) slice) }
+        ensures { IsTrue result → 0 < slice.list }
+    {
+        slice.list != ALL && !self.is_whole(slice)
+    }
+
+    /// How a slice is taken to stand to a list, of whose numbers it may have those of these ranges alone, if there are any. A part of a list
+    /// is parted further, so that what is passed of it is taken out of the ranges.
     fn standing(&self, list: usize, slice: Slice, shared: &Option<Vec<Range>>) -> Standing
         requires making { (all : List (List ℕ)) × (IsMaking all self.now × IsSlice all (length all) slice) }
         requires list { list < length self.now.lists.items }
@@ -210,7 +287,11 @@ impl Making {
     {
         match shared {
             Some(ranges) if self.is_apart_from_all(slice, ranges) => Standing::Apart,
-            _ => self.looked_at(list, slice),
+            Some(_) => match self.looked_at(list, slice) {
+                Standing::Within if self.is_part(slice) => Standing::Mixed,
+                standing => standing,
+            },
+            None => self.looked_at(list, slice),
         }
     }
 

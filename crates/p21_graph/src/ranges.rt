@@ -98,14 +98,12 @@ fn united(first: Range, second: Range) -> Option<Range>
     }
 }
 
-/// One range more, which begins behind where the others begin, united with the last where they meet.
-fn add(ranges: &mut Vec<Range>, range: Range) -> Result<(), AllocError>
-    requires order { AreInOrder ranges.old.items }
-    requires upward { range.from ≤ range.to }
-    requires begin { BeginBy ranges.old.items range.from }
+/// One range more, united with the last where it begins in that or right behind it. What was in order stays so, where it begins behind
+/// where the others begin.
+pub(crate) fn add(ranges: &mut Vec<Range>, range: Range) -> Result<(), AllocError>
     ensures places { OnOk result ((k : ℕ) → Covers ranges.new.items k ↔ (Covers ranges.old.items k ⊎ IsInRange range k)) }
-    ensures order { OnOk result (AreInOrder ranges.new.items) }
-    ensures begin { OnOk result (BeginBy ranges.new.items range.from) }
+    ensures order { OnOk result (AreInOrder ranges.old.items → range.from ≤ range.to → BeginBy ranges.old.items range.from → AreInOrder ranges.new.items) }
+    ensures begin { OnOk result (BeginBy ranges.old.items range.from → BeginBy ranges.new.items range.from) }
 {
     let Some(last) = ranges.pop() else {
         ranges.push(range)?;

@@ -292,6 +292,16 @@ impl Rows {
         self.sets.apart(row.set, other.set)
     }
 
+    /// Whether two rows are known to hold no place of a range both.
+    pub(crate) fn are_apart_in(&self, one: usize, other: usize, range: Range) -> bool
+        requires rows { AreRows self.now }
+        requires one { one < length (table_of self.now) }
+        requires other { other < length (table_of self.now) }
+        ensures { IsTrue result → (k : ℕ) → IsInRange range k → Covers (get_or (table_of self.now) one []) k → ¬ (Covers (get_or (table_of self.now) other []) k) }
+    {
+        self.has_none(one, range) || self.has_none(other, range)
+    }
+
     /// Whether the row of a vertex is known to hold each place of a range.
     pub(crate) fn has_all(&self, vertex: usize, range: Range) -> bool
         requires rows { AreRows self.now }
