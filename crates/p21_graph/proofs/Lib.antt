@@ -12,6 +12,7 @@ pub mod WithinLemmas
 pub mod ReachLemmas
 pub mod KeptLemmas
 pub mod KnownLemmas
+pub mod ApartLemmas
 pub mod InheritLemmas
 pub mod LineLemmas
 pub mod SourceLemmas

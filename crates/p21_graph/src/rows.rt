@@ -8,7 +8,8 @@ ghost use Rattle.p21_graph.specs.Rows.{row_of, table_of, IsRow, AreEachRows, Are
 ghost use Rattle.p21_graph.specs.Sets.{AreSets, AreUnions, Keeps, holds};
 
 use crate::ranges::{
-    Range, alone, covers, covers_all, covers_none, covers_some, in_order, unless_empty,
+    Range, alone, before, behind, covers, covers_all, covers_none, covers_some, in_order,
+    unless_empty,
 };
 use crate::sets::{NOTHING, Sets, Unions};
 use std::alloc::{AllocError, Global};
@@ -31,6 +32,16 @@ pub struct Rows {
 
 /// How many ranges a row has at most, unless their places are too large for a set: where there would be more, a set takes them.
 const FEW: usize = 32;
+
+/// The range of what lies in both of two ranges.
+fn both(one: Range, other: Range) -> Range
+    ensures { (k : ℕ) → IsInRange result k ↔ (IsInRange one k × IsInRange other k) }
+{
+    Range {
+        from: one.from.max(other.from),
+        to: one.to.min(other.to),
+    }
+}
 
 /// The places of rows behind others: those of their ranges behind these, and with this set those of their sets.
 fn gather(
@@ -292,6 +303,21 @@ impl Rows {
         self.sets.apart(row.set, other.set)
     }
 
+    /// Whether the row of a vertex is known to hold nothing of what some ranges hold of a range.
+    fn has_none_of(&self, vertex: usize, ranges: &[Range], range: Range) -> bool
+        requires rows { AreRows self.now }
+        requires vertex { vertex < length (table_of self.now) }
+        requires order { AreInOrder ranges.now }
+        ensures { IsTrue result → (k : ℕ) → IsInRange range k → Covers ranges.now k → ¬ (Covers (get_or (table_of self.now) vertex []) k) }
+    {
+        for held in before(behind(ranges, range.from), range.to) {
+            if !self.has_none(vertex, both(*held, range)) {
+                return false;
+            }
+        }
+        true
+    }
+
     /// Whether two rows are known to hold no place of a range both.
     pub(crate) fn are_apart_in(&self, one: usize, other: usize, range: Range) -> bool
         requires rows { AreRows self.now }
@@ -299,7 +325,14 @@ impl Rows {
         requires other { other < length (table_of self.now) }
         ensures { IsTrue result → (k : ℕ) → IsInRange range k → Covers (get_or (table_of self.now) one []) k → ¬ (Covers (get_or (table_of self.now) other []) k) }
     {
-        self.has_none(one, range) || self.has_none(other, range)
+        if self.has_none(one, range) || self.has_none(other, range) {
+            return true;
+        }
+        let row = &self.rows[one];
+        let with = &self.rows[other];
+        self.has_none_of(other, &row.ranges, range)
+            && self.has_none_of(one, &with.ranges, range)
+            && self.sets.apart_in(row.set, with.set, range)
     }
 
     /// Whether the row of a vertex is known to hold each place of a range.

@@ -330,6 +330,51 @@ impl Sets {
         self.holds_none_from(set, 0, self.size, range)
     }
 
+    /// Whether two sets of so many places from a first one on are known to hold nothing of a range both.
+    fn are_apart_from(
+        &self,
+        one: usize,
+        other: usize,
+        first: usize,
+        size: usize,
+        range: Range,
+    ) -> bool
+        requires sets { AreSets self.now }
+        requires one { one < length self.now.halves.items }
+        requires other { other < length self.now.halves.items }
+        requires size { (levels : ℕ) × (size ≡ size_of levels) }
+        requires last { first + size < 2 ^ 64 }
+        ensures { IsTrue result → (levels k : ℕ) → size ≡ size_of levels → IsHeld self.now.halves.items levels one k → IsHeld self.now.halves.items levels other k → ¬ (IsInRange range (first + k)) }
+    {
+        if one == NOTHING || other == NOTHING || range.to <= first || first + size <= range.from {
+            return true;
+        }
+        if one == EVERYTHING || one == other {
+            return self.holds_none_from(other, first, size, range);
+        }
+        if other == EVERYTHING {
+            return self.holds_none_from(one, first, size, range);
+        }
+        let one = self.halves[one];
+        let other = self.halves[other];
+        if size <= WORD {
+            return one.word & other.word & word_of_range(range, first) == 0;
+        }
+        let half = size / 2;
+        self.are_apart_from(one.low, other.low, first, half, range)
+            && self.are_apart_from(one.high, other.high, first + half, half, range)
+    }
+
+    /// Whether two sets are known to hold nothing of a range both.
+    pub(crate) fn apart_in(&self, one: usize, other: usize, range: Range) -> bool
+        requires sets { AreSets self.now }
+        requires one { one < length self.now.halves.items }
+        requires other { other < length self.now.halves.items }
+        ensures { IsTrue result → (k : ℕ) → IsInRange range k → holds self.now one k → ¬ (holds self.now other k) }
+    {
+        self.are_apart_from(one, other, 0, self.size, range)
+    }
+
     /// Whether a set of so many places from a first one on is known to hold all of a range that lie there.
     fn holds_all_from(&self, set: usize, first: usize, size: usize, range: Range) -> bool
         requires sets { AreSets self.now }
