@@ -5,25 +5,6 @@ use Rattle.p21_graph.specs.declared.ranges.Range.{Range}
 use Rattle.p21_graph.specs.Ranges.{IsInRange, Covers}
 use Rattle.p21_graph.proofs.RangeLemmas.{covers_take}
 
--- one more range, of which what lies in another range is taken
-pub parts_more : (A B D : Type 0) (range onward part : Range) (others : List Range) (i k : ℕ) (d : Range) → i < length others
-    → (IsInRange onward k ↔ (IsInRange range k × ((get_or others i d).from ≤ k))) → (IsInRange part k ↔ (IsInRange onward k × (k < (get_or others i d).to)))
-    → (A ↔ (D ⊎ (IsInRange range k × Covers (take i others) k))) → (B ↔ (A ⊎ IsInRange part k)) → B ↔ (D ⊎ (IsInRange range k × Covers (take (i + 1) others) k))
-parts_more A B D range onward part others i k d less from to before more =
-    let t = covers_take others i k d less in (
-      λ b. ⊎_elim
-          (λ (a : A). ⊎_elim (λ (h : D). inl h) (λ (h : IsInRange range k × Covers (take i others) k). inr (h.0, t.1 (inl h.1))) (before.0 a))
-          (λ (p : IsInRange part k). let upto = to.0 p in let in-range = from.0 upto.0 in inr (in-range.0, t.1 (inr (in-range.1, upto.1))))
-          (more.0 b),
-      λ s. ⊎_elim
-          (λ (h : D). more.1 (inl (before.1 (inl h))))
-          (λ (h : IsInRange range k × Covers (take (i + 1) others) k). ⊎_elim
-          (λ (q : Covers (take i others) k). more.1 (inl (before.1 (inr (h.0, q)))))
-          (λ (q : IsInRange (get_or others i d) k). more.1 (inr (to.1 (from.1 (h.0, q.0), q.1))))
-          (t.0 h.1))
-          s,
-    )
-
 -- one more range, of which all is taken that lies in others
 pub both_more : (A B D : Type 0) (ranges : List Range) (i k : ℕ) (d : Range) → i < length ranges → (A ↔ (Covers (take i ranges) k × D)) → (B ↔ (A ⊎ (IsInRange (get_or ranges i d) k × D))) → B ↔ (Covers (take (i + 1) ranges) k × D)
 both_more A B D ranges i k d less before more =

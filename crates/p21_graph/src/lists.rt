@@ -10,7 +10,7 @@ ghost use Rattle.p21_graph.specs.Rows.{table_of, AreRows};
 ghost use Rattle.p21_graph.specs.Slices.{numbers_from, numbers_of, joined_of, AreSlices, IsSlice};
 
 use crate::graph::{Graph, zeros};
-use crate::ranges::{Range, add, common, without, without_all};
+use crate::ranges::{MANY, Range, add, without, without_all};
 use crate::rows::Rows;
 use crate::sets::Unions;
 use crate::shared::{ALL, SharedList, list_of, number, push_resolved, split};
@@ -37,10 +37,6 @@ struct Two {
 
 /// The list without numbers.
 const NONE: usize = 1;
-
-/// How many ranges are sought at most where two lists have sets: each is looked at in every step, and where there are more, what they have in
-/// common lies here and there.
-const MOST: usize = 32;
 
 /// Lists while they are made.
 #[derive(Drop)]
@@ -143,21 +139,6 @@ impl Making {
         }
     }
 
-    /// Those ranges of a list of which another may have a number.
-    fn met(&self, alloc: Global, ranges: &[Range], second: usize) -> Result<Vec<Range>, AllocError>
-        requires making { (all : List (List ℕ)) × IsMaking all self.now }
-        requires second { second < length self.now.lists.items }
-        ensures { IfOk result (λ met. (all : List (List ℕ)) → IsMaking all self.now → (n : ℕ) → Covers ranges.now n → IsIn (get_or all second []) n → Covers met.items n) }
-    {
-        let mut met = Vec::new(alloc);
-        for range in ranges {
-            if !self.rows.has_none(second, *range) {
-                met.push(*range)?;
-            }
-        }
-        Ok(met)
-    }
-
     /// Ranges behind others that hold each number of a range that two lists both have, found by halves; whether these are all, since no more
     /// are sought where there are too many.
     fn push_common(
@@ -180,7 +161,7 @@ impl Making {
         let count = range.to - range.from;
         if count <= 1 || self.rows.has_all(first, range) && self.rows.has_all(second, range) {
             add(common, range)?;
-            return Ok(common.len() <= MOST);
+            return Ok(common.len() <= MANY);
         }
         let middle = range.from + count / 2;
         let front = Range {
@@ -197,8 +178,8 @@ impl Making {
         self.push_common(common, first, second, behind)
     }
 
-    /// Ranges that hold each number that two lists both have, sought among all numbers; `None` where there are too many.
-    fn sought_in_both(
+    /// Ranges that hold each number that two lists both have; `None` where these would be many.
+    fn in_both(
         &self,
         alloc: Global,
         first: usize,
@@ -219,28 +200,6 @@ impl Making {
         } else {
             Ok(None)
         }
-    }
-
-    /// Ranges that hold each number that two lists both have: what their ranges both hold, or where one has a set, those ranges of the other of
-    /// which it may have a number; where both have a set, what is sought, and `None` where that is too much.
-    fn in_both(
-        &self,
-        alloc: Global,
-        first: usize,
-        second: usize,
-    ) -> Result<Option<Vec<Range>>, AllocError>
-        requires making { (all : List (List ℕ)) × IsMaking all self.now }
-        requires first { first < length self.now.lists.items }
-        requires second { second < length self.now.lists.items }
-        ensures { IfOk result (λ shared. IfSome shared (λ ranges. (all : List (List ℕ)) → IsMaking all self.now → AreShared (get_or all first []) (get_or all second []) ranges.items)) }
-    {
-        let shared = match (self.rows.ranges(first), self.rows.ranges(second)) {
-            (Some(ranges), Some(others)) => common(alloc, ranges, others)?,
-            (Some(ranges), None) => self.met(alloc, ranges, second)?,
-            (None, Some(others)) => self.met(alloc, others, first)?,
-            (None, None) => return self.sought_in_both(alloc, first, second),
-        };
-        Ok(Some(shared))
     }
 
     /// Whether it is known that a slice has no number of a range.

@@ -164,33 +164,8 @@ fn push_some(ranges: &mut Vec<Range>, range: Range) -> Result<(), AllocError>
     Ok(())
 }
 
-/// The parts of a range that lie in others, behind further ranges.
-fn push_parts(ranges: &mut Vec<Range>, range: Range, others: &[Range]) -> Result<(), AllocError>
-    ensures { OnOk result ((k : ℕ) → Covers ranges.new.items k ↔ (Covers ranges.old.items k ⊎ (IsInRange range k × Covers others.now k))) }
-{
-    for other in others {
-        push_some(ranges, up_to(onward(range, other.from), other.to))?;
-    }
-    Ok(())
-}
-
-/// What some ranges and others both hold.
-pub(crate) fn common(
-    alloc: Global,
-    ranges: &[Range],
-    others: &[Range],
-) -> Result<Vec<Range>, AllocError>
-    ensures { IfOk result (λ both. (k : ℕ) → Covers both.items k ↔ (Covers ranges.now k × Covers others.now k)) }
-{
-    let mut both = Vec::new(alloc);
-    for range in ranges {
-        push_parts(&mut both, *range, others)?;
-    }
-    Ok(both)
-}
-
-/// From so many ranges on none is parted in two: each of them is looked at in every step, so that more would cost more than they spare.
-const MANY: usize = 4;
+/// How many ranges are sought or made by parting at most, of those that two lists may have in common: each is looked at in every step.
+pub(crate) const MANY: usize = 64;
 
 /// Whether a range is taken out of others: where it meets one, and parts none in two of so many. No contract speaks of this choice.
 fn is_taken_out(ranges: &[Range], other: Range) -> bool {
