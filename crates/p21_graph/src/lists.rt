@@ -139,6 +139,31 @@ impl Making {
         }
     }
 
+    /// Those ranges of a list of which another may have a number, so that they hold each number that both have; `None` where the list has a
+    /// set.
+    fn met(
+        &self,
+        alloc: Global,
+        first: usize,
+        second: usize,
+    ) -> Result<Option<Vec<Range>>, AllocError>
+        requires making { (all : List (List ℕ)) × IsMaking all self.now }
+        requires first { first < length self.now.lists.items }
+        requires second { second < length self.now.lists.items }
+        ensures { IfOk result (λ shared. IfSome shared (λ ranges. (all : List (List ℕ)) → IsMaking all self.now → AreShared (get_or all first []) (get_or all second []) ranges.items)) }
+    {
+        let Some(ranges) = self.rows.ranges(first) else {
+            return Ok(None);
+        };
+        let mut shared = Vec::new(alloc);
+        for range in ranges {
+            if !self.rows.has_none(second, *range) {
+                shared.push(*range)?;
+            }
+        }
+        Ok(Some(shared))
+    }
+
     /// Ranges behind others that hold each number of a range that two lists both have, found by halves; whether these are all, since no more
     /// are sought where there are too many.
     fn push_common(
@@ -178,7 +203,8 @@ impl Making {
         self.push_common(common, first, second, behind)
     }
 
-    /// Ranges that hold each number that two lists both have; `None` where these would be many.
+    /// Ranges that hold each number that two lists both have: where these would be many, those of the first of which the second may have a
+    /// number, if that has no set.
     fn in_both(
         &self,
         alloc: Global,
@@ -198,7 +224,7 @@ impl Making {
         if self.push_common(&mut ranges, first, second, range)? {
             Ok(Some(ranges))
         } else {
-            Ok(None)
+            self.met(alloc, first, second)
         }
     }
 
@@ -235,8 +261,14 @@ impl Making {
     }
 
     /// How a slice is taken to stand to a list, of whose numbers it may have those of these ranges alone, if there are any. A part of a list
-    /// is parted further, so that what is passed of it is taken out of the ranges.
-    fn standing(&self, list: usize, slice: Slice, shared: &Option<Vec<Range>>) -> Standing
+    /// is parted further, so that what is passed of it is taken out of the ranges, but no more than so many times.
+    fn standing(
+        &self,
+        list: usize,
+        slice: Slice,
+        shared: &Option<Vec<Range>>,
+        times: &mut usize,
+    ) -> Standing
         requires making { (all : List (List ℕ)) × (IsMaking all self.now × IsSlice all (length all) slice) }
         requires list { list < length self.now.lists.items }
         requires some { slice.range.from < slice.range.to }
@@ -247,7 +279,10 @@ impl Making {
         match shared {
             Some(ranges) if self.is_apart_from_all(slice, ranges) => Standing::Apart,
             Some(_) => match self.looked_at(list, slice) {
-                Standing::Within if self.is_part(slice) => Standing::Mixed,
+                Standing::Within if *times > 0 && self.is_part(slice) => {
+                    *times -= 1;
+                    Standing::Mixed
+                }
                 standing => standing,
             },
             None => self.looked_at(list, slice),
@@ -342,13 +377,14 @@ impl Making {
         let mut slices = Vec::new(alloc);
         slices.push(self.whole(list))?;
         let mut shared = self.in_both(alloc, other, list)?;
+        let mut times = MANY;
         let mut position = 0;
         while let Some(slice) = slices.pop() {
             let range = Range {
                 from: position,
                 to: position + (slice.range.to - slice.range.from),
             };
-            match self.standing(other, slice, &shared) {
+            match self.standing(other, slice, &shared, &mut times) {
                 Standing::Within => {
                     shared = self.beside(alloc, &shared, slice)?;
                     position = range.to;
