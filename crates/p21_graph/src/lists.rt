@@ -346,7 +346,7 @@ impl Making {
         }
     }
 
-    /// What of some ranges, if there are any, a slice may not have.
+    /// What of some ranges, if there are any, a slice may not have; `None` where these would be many.
     fn beside(
         &self,
         alloc: Global,
@@ -361,6 +361,9 @@ impl Making {
         };
         let left = self.not_held(alloc, ranges, slice)?;
         let left = self.without_known(alloc, left, slice)?;
+        if left.len() > MANY {
+            return Ok(None);
+        }
         Ok(Some(left))
     }
 

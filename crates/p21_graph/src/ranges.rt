@@ -164,14 +164,14 @@ fn push_some(ranges: &mut Vec<Range>, range: Range) -> Result<(), AllocError>
     Ok(())
 }
 
-/// How many ranges are sought or made by parting at most, of those that two lists may have in common: each is looked at in every step.
+/// How many ranges of what two lists may have in common are kept at most: each is looked at in every step.
 pub(crate) const MANY: usize = 64;
 
-/// Whether a range is taken out of others: where it meets one, and parts none in two of so many. No contract speaks of this choice.
-fn is_taken_out(ranges: &[Range], other: Range) -> bool {
+/// Whether a range meets one of others. No contract speaks of it: it spares a copy where there is nothing to take out.
+fn meets(ranges: &[Range], other: Range) -> bool {
     for range in ranges {
         if range.from < other.to && other.from < range.to {
-            return ranges.len() < MANY || other.from <= range.from || range.to <= other.to;
+            return true;
         }
     }
     false
@@ -189,7 +189,7 @@ fn outside(alloc: Global, ranges: &[Range], other: Range) -> Result<Vec<Range>, 
     Ok(left)
 }
 
-/// Ranges without another one, or as they are, where it is not taken out.
+/// Ranges without another one: as they are, where it meets none of them.
 pub(crate) fn without(
     alloc: Global,
     ranges: Vec<Range>,
@@ -198,14 +198,14 @@ pub(crate) fn without(
     ensures outside { IfOk result (λ left. (k : ℕ) → Covers ranges.items k → ¬ (IsInRange other k) → Covers left.items k) }
     ensures within { IfOk result (λ left. (k : ℕ) → Covers left.items k → Covers ranges.items k) }
 {
-    if is_taken_out(&ranges, other) {
+    if meets(&ranges, other) {
         outside(alloc, &ranges, other)
     } else {
         Ok(ranges)
     }
 }
 
-/// Ranges without others, as far as these are taken out.
+/// Ranges without others.
 pub(crate) fn without_all(
     alloc: Global,
     ranges: Vec<Range>,
