@@ -1,5 +1,6 @@
-"""What the scripts of this folder have in common: the program, the small schema, and runs that must end in time."""
+"""What the scripts of this folder have in common: the program, the small schema, runs that must end in time, and what is reported of them."""
 
+import os
 import pathlib
 import subprocess
 import tempfile
@@ -8,15 +9,11 @@ TOP = pathlib.Path(__file__).resolve().parent.parent
 TESTS = TOP / 'tests'
 ROWS = TESTS / 'rows'
 SCHEMA = ROWS / 'toy.exp'
-PROGRAM = TOP / 'crates' / 'p21check' / 'out' / 'p21check'
+# The program that the launcher runs, which it unpacks or builds first where there is none of the sources as they stand.
+PROGRAM = pathlib.Path(subprocess.run([TOP / 'p21check'], env={**os.environ, 'P21CHECK_WHICH': '1'}, stdout=subprocess.PIPE, text=True, check=True).stdout[:-1])
 DEVICE = b'p21check: input or output failed\n'
 MEMORY = b'p21check: out of memory\n'
 SECONDS = 10
-
-
-def build():
-    """A use of the launcher builds the program, where the gate has not left it of the sources as they stand."""
-    subprocess.run([TOP / 'p21check', '--help'], stdout=subprocess.DEVNULL, check=True)
 
 
 def run(words, program=(PROGRAM,), seconds=SECONDS, **more):
@@ -49,26 +46,51 @@ def preloaded(name, folder):
     return library
 
 
+def refuse_in_turn(report, name, library, command, is_right, folder):
+    """Runs a command with its first request for memory refused, its second, and so on until no request is; each run is a case."""
+    count, was_refused = 0, True
+    marks = pathlib.Path(folder) / 'marks'
+    while was_refused:
+        count += 1
+        with open(marks, 'wb') as told:
+            words = ['sh', '-c', 'exec "$@" 9>&%d' % told.fileno(), 'sh', 'env', 'REFUSE=%d' % count, 'LD_PRELOAD=%s' % library]
+            ran = run(command, program=words, cwd=folder, pass_fds=[told.fileno()])
+        was_refused = marks.stat().st_size > 0
+        report.expect(is_right(ran), '%s: a wrong answer at request %d: %s' % (name, count, ran))
+
+
 def scratch():
     """A folder that lasts as long as the `with` that it is made for."""
     return tempfile.TemporaryDirectory()
 
 
 class Report:
-    """What a script says of its runs, and the status that it ends with."""
+    """What a script reports of its cases, and the status that it ends with."""
 
     def __init__(self, name):
         self.name = name
-        self.faults = 0
+        self.passed = 0
+        self.failed = 0
+
+    def case(self, faults):
+        """Counts a case, and prints what is wrong with it, a line each."""
+        if faults:
+            self.failed += 1
+        else:
+            self.passed += 1
+        for fault in faults:
+            print('%s: %s' % (self.name, fault), flush=True)
 
     def expect(self, right, what):
-        """Tells what is wrong, where it is not right."""
-        if not right:
-            self.faults += 1
-            print('%s: %s' % (self.name, what), flush=True)
+        """Counts a case, and prints what is wrong with it, where it is not right."""
+        self.case([] if right else [what])
 
-    def end(self, what):
-        """Tells what was done, where all was right."""
-        if not self.faults:
-            print('%s: %s' % (self.name, what))
-        return 1 if self.faults else 0
+    def end(self):
+        """Prints how many cases there were."""
+        print('%s: %d passed, %d failed' % (self.name, self.passed, self.failed))
+        return 1 if self.failed or not self.passed else 0
+
+    def skip(self, why):
+        """Prints why nothing was run."""
+        print('%s: 0 passed, 0 failed, not run: %s' % (self.name, why))
+        return 0
