@@ -1,9 +1,8 @@
 -- Tables of bits.
-use Rattle.std.specs.Prelude.{◌≡◌, ◌<◌, ◌+◌, ◌*◌, ◌/◌, ◌%◌, ℕ, List, get_or}
+use Rattle.std.specs.Prelude.{◌≡◌, ◌<◌, ◌+◌, ◌*◌, ◌/◌, ◌%◌, ℕ, get_or}
 use Rattle.std.specs.Int.{bit_at}
 use Rattle.p21_graph.specs.declared.bits.Bits.{Bits}
 use Rattle.p21_graph.specs.declared.bits.TheConstants.{BITS}
-use Rattle.p21_graph.specs.Members.{IsIn}
 
 -- the word of a row at a place
 abbrev pub word_at : Bits → ℕ → ℕ → ℕ
@@ -19,9 +18,3 @@ pub record IsLike (old new : Bits) : Type 0 where
   pub rows : new.rows ≡ old.rows
   pub columns : new.columns ≡ old.columns
   pub width : new.width ≡ old.width
-
--- a row holds one of these columns, and no other of them
-pub record IsSole (t : Bits) (row : ℕ) (columns : List ℕ) (column : ℕ) : Type 0 where
-  pub among : IsIn columns column
-  pub held : Holds t row column
-  pub only : (other : ℕ) → IsIn columns other → Holds t row other → other ≡ column

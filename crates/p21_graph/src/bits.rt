@@ -24,10 +24,9 @@ pub struct Bits {
 }
 
 impl Bits {
-    ghost use Rattle.std.specs.Prelude.{◌<◌, ◌/◌, ◌%◌, ◌↔◌, ◌⊎◌, ℕ, IfOk, IsTrue, MatchOption};
+    ghost use Rattle.std.specs.Prelude.{◌<◌, ◌/◌, ◌%◌, ◌↔◌, ◌⊎◌, ℕ, IfOk, IsTrue};
     ghost use Rattle.std.specs.Int.{bit_at};
-    ghost use Rattle.p21_graph.specs.Bits.{Holds, IsLike, IsSole, word_at};
-    ghost use Rattle.p21_graph.specs.Members.{IsIn};
+    ghost use Rattle.p21_graph.specs.Bits.{Holds, IsLike, word_at};
 
     /// A table in which no row holds a column.
     pub fn new(alloc: Global, rows: usize, columns: usize) -> Result<Bits, AllocError>
@@ -117,47 +116,5 @@ impl Bits {
         ensures { IsTrue result ↔ ((c : ℕ) × Holds self.now row c) }
     {
         self.meets(row, self, row)
-    }
-
-    /// The first of these columns that a row holds.
-    fn first_held(&self, row: usize, columns: &[usize]) -> Option<usize>
-        requires row { row < self.now.rows }
-        requires columns { (c : ℕ) → IsIn columns.now c → c < self.now.columns }
-        ensures { MatchOption result ((c : ℕ) → IsIn columns.now c → ¬ (Holds self.now row c)) (λ c. IsIn columns.now c × Holds self.now row c) }
-    {
-        for column in columns {
-            if self.has(row, *column) {
-                return Some(*column);
-            }
-        }
-        None
-    }
-
-    /// Whether a row holds none of these columns but this one.
-    fn holds_no_other(&self, row: usize, columns: &[usize], column: usize) -> bool
-        requires row { row < self.now.rows }
-        requires columns { (c : ℕ) → IsIn columns.now c → c < self.now.columns }
-        ensures { IsTrue result ↔ ((c : ℕ) → IsIn columns.now c → Holds self.now row c → c ≡ column) }
-    {
-        for other in columns {
-            if *other != column && self.has(row, *other) {
-                return false;
-            }
-        }
-        true
-    }
-
-    /// The one of these columns that a row holds, if it holds exactly one of them.
-    pub fn sole(&self, row: usize, columns: &[usize]) -> Option<usize>
-        requires row { row < self.now.rows }
-        requires columns { (c : ℕ) → IsIn columns.now c → c < self.now.columns }
-        ensures { MatchOption result ((c : ℕ) → ¬ (IsSole self.now row columns.now c)) (λ c. IsSole self.now row columns.now c) }
-    {
-        let column = self.first_held(row, columns)?;
-        if self.holds_no_other(row, columns, column) {
-            Some(column)
-        } else {
-            None
-        }
     }
 }
