@@ -1,5 +1,5 @@
 -- Attributes that are declared again.
-use Rattle.std.proofs.Common.{◌≡◌, ℕ, ◌+◌, ◌<◌, List, [], ◌∷◌, ◌++◌, length, get_or, map, take, drop, Bool, true, false, Option, Some, None, slice_get, refl, sym, ap, ◌∙◌, subst, append_assoc}
+use Rattle.std.proofs.Common.{◌≡◌, ℕ, ◌+◌, ◌<◌, List, [], ◌∷◌, ◌++◌, length, get_or, map, take, drop, Bool, true, false, Option, Some, None, slice_get, refl, sym, ap, ◌∙◌, subst, append_assoc, ⊎_elim}
 use Rattle.std.specs.Bool.{MatchBool}
 use Rattle.std.proofs.lemmas.Grind.{take_at_read}
 use Rattle.std.proofs.lemmas.List.{map-append, take-append-drop}
@@ -8,10 +8,11 @@ use Rattle.p21_express.specs.declared.declarations.AttrDecl.{AttrDecl}
 use Rattle.p21_express.specs.declared.declarations.DeriveDecl.{DeriveDecl}
 use Rattle.std.specs.Option.{option_to_list, is_some}
 use Rattle.std.specs.Prelude.{option_map}
-use Rattle.p21_express.specs.Again.{IsDerivedAt}
+use Rattle.p21_express.specs.Again.{IsDerivedAt, IsNewAt}
 use Rattle.p21_express.specs.Plain.{plain_attribute, plain_derived}
 use Rattle.p21_express.specs.Schema.{Schema, Entity, Attribute, Derived}
-use Rattle.p21_express.specs.WellFormed.{IsIn, new_derived, new_explicit, with_new, with_again, again_explicit, again_derived, Redeclaration}
+use Rattle.p21_express.specs.WellFormed.{IsIn, new_derived, new_explicit, new_names, with_new, with_again, again_explicit, again_derived, Redeclaration}
+use Rattle.p21_graph.specs.MemberLaws.{in_either}
 use Rattle.p21_express.proofs.GraphLemmas.{in_front, in_back}
 
 -- ---- what is told of each of a list, one after the other
@@ -26,6 +27,10 @@ module _ {X Y : Type 0} (F : List X → List Y) (joins : (xs ys : List X) → F 
       let k : IsIn (F (take (i + 1) xs)) y = rw e (in_back (F (take i xs)) (F (x ∷ [])) y h) in
       let all : F (take (i + 1) xs) ++ F (drop (i + 1) xs) ≡ F xs = sym (joins (take (i + 1) xs) (drop (i + 1) xs)) ∙ ap F (take-append-drop (i + 1) xs) in
       rw all at (in_front (F (take (i + 1) xs)) (F (drop (i + 1) xs)) y k)
+
+  -- a name that one more does not have either
+  pub not_in_more : (xs : List X) (i : ℕ) (x : X) (y : Y) → i < length xs → x ≡ get_or xs i x → ¬ (IsIn (F (take i xs)) y) → ¬ (IsIn (F (x ∷ [])) y) → ¬ (IsIn (F (take (i + 1) xs)) y)
+  not_in_more xs i x y lt is before this h = ⊎_elim (λ (k : IsIn (F (take i xs)) y). before k) (λ (k : IsIn (F (x ∷ [])) y). this k) (in_either (F (take i xs)) (F (x ∷ [])) y (subst (λ (zs : List Y). IsIn zs y) (one_step xs i x lt is) h))
 
 with_again_front : (o : Option (List ℕ)) (n : List ℕ) (b : Bool) (xs : List Redeclaration) → with_again o n b xs ≡ with_again o n b [] ++ xs
 with_again_front None n b xs = refl
@@ -101,3 +106,6 @@ same_entity s i e f h k = let a : Some e ≡ Some f = sym h ∙ k in cc
 
 pub derived_at : (s : Schema) (n : List ℕ) (i : ℕ) (e : Entity) (b : Bool) → slice_get s.entities i ≡ Some e → MatchBool b (IsIn (new_derived e.derived) n) (¬ (IsIn (new_derived e.derived) n)) → MatchBool b (IsDerivedAt s n i) (¬ (IsDerivedAt s n i))
 derived_at s n i e b there h = test_same b (IsIn (new_derived e.derived) n) (IsDerivedAt s n i) (λ k. record { entity = e; there = there; newly = k }) (λ k. subst (λ (x : Entity). IsIn (new_derived x.derived) n) (same_entity s i k.entity e k.there there) k.newly) h
+
+pub new_at : (s : Schema) (n : List ℕ) (i : ℕ) (e : Entity) (b : Bool) → slice_get s.entities i ≡ Some e → MatchBool b (IsIn (new_names e) n) (¬ (IsIn (new_names e) n)) → MatchBool b (IsNewAt s n i) (¬ (IsNewAt s n i))
+new_at s n i e b there h = test_same b (IsIn (new_names e) n) (IsNewAt s n i) (λ k. record { entity = e; there = there; newly = k }) (λ k. subst (λ (x : Entity). IsIn (new_names x) n) (same_entity s i k.entity e k.there there) k.newly) h

@@ -18,8 +18,6 @@ pub mod ReadingLemmas
 pub mod BasedOnLemmas
 pub mod Examples
 pub mod GraphLemmas
-pub mod OwnerLemmas
-pub mod DescentLemmas
 pub mod SearchLemmas
 pub mod ChecksLemmas
 pub mod IndexLemmas

@@ -1,65 +1,25 @@
--- The names that entities newly declare in DERIVE, and attributes that were declared again.
-use Rattle.std.proofs.Common.{◌≡◌, ℕ, zero, suc, ◌+◌, ◌<◌, Bool, true, false, cond, List, [], ◌∷◌, ◌++◌, length, map, take, get_or, Option, Some, None, MatchOption, refl, sym, ap, subst, ◌∙◌, Bor, inl, ⊎_elim, arith}
-use Rattle.std.specs.Prelude.{slice_get}
+-- Attributes that were declared again.
+use Rattle.std.proofs.Common.{◌≡◌, ℕ, Bool, true, false, cond, List, [], ◌∷◌, ◌++◌, Option, Some, None, MatchOption, refl, sym, ap, subst, Bor, inl, ⊎_elim, arith}
 use Rattle.std.specs.Bool.{MatchBool}
 use Rattle.std.specs.BTreeMap.{BTreeMap, get}
-use Rattle.std.specs.List.{AllZip}
-use Rattle.std.specs.Option.{is_some, option_copied}
+use Rattle.std.specs.Option.{is_some}
 use Rattle.std.specs.Ordering.{is_eq, ordering_then, nat_cmp}
 use Rattle.std.specs.Cmp.Lexicographic.{slice_cmp}
 use Rattle.std.specs.declared.cmp.Ordering.{Ordering}
 use Rattle.std.specs.declared.cmp.Ordering.TheVariants as order
 use Rattle.std.proofs.lemmas.Bool.Decides.{nat_tests}
-use Rattle.std.proofs.lemmas.List.{map_more}
-use Rattle.p21_express.specs.Again.{HasDerivedNames, HasOrigins, IsDerivedAt, origin_cmp, origin_in}
-use Rattle.p21_express.specs.Checks.{HasNames}
+use Rattle.p21_express.specs.Again.{HasOrigins, origin_cmp, origin_in}
 use Rattle.p21_express.specs.Index.{IsEntityAt}
 use Rattle.p21_express.specs.Schema.{Schema}
-use Rattle.p21_express.specs.WellFormed.{IsIn, AreDistinct, Origin, declared_names, new_derived}
-use Rattle.p21_express.proofs.AgainLemmas.{derived_at}
+use Rattle.p21_express.specs.WellFormed.{IsIn, AreDistinct, Origin, declared_names}
 use Rattle.p21_express.proofs.CycleLemmas.{one_entity_name, one_entity_place}
 use Rattle.p21_express.proofs.IndexLemmas.{Compared, same, apart, compared, is_in_push}
 use Rattle.p21_express.proofs.GraphLemmas.{in_front, in_back}
-use Rattle.p21_express.proofs.PositionLemmas.{zip_push}
-
--- what is found in a map is there
-pub is_there : (o : Option (Bor ℕ)) (b : Bool) (P : Type 0) → b ≡ is_some o → MatchOption (option_copied o) (¬ P) (λ x. P) → MatchBool b P (¬ P)
-is_there None b P e h = rw e h
-is_there (Some x) b P e h = rw e h
 
 -- what was in a map is there, and else it is put there
 pub is_met : (o : Option Bool) (b : Bool) (P Q : Type 0) → b ≡ is_some o → MatchOption o (¬ P) (λ x. P) → Q → MatchBool b P (¬ P × Q)
 is_met None b P Q e h q = rw e (h, q)
 is_met (Some x) b P Q e h q = rw e h
-
--- one more of a list of things, each for another
-pub zip_more : {X Y Z : Type 0} (R : Y → Z → Type 0) (f : X → Y) (xs : List X) (i : ℕ) (x : X) (zs : List Z) (z : Z) → i < length xs → x ≡ get_or xs i x → AllZip R (map f (take i xs)) zs → R (f x) z → AllZip R (map f (take (i + 1) xs)) (zs ++ z ∷ [])
-zip_more {X} R f xs i x zs z lt is before this =
-    let e : map f (take (i + 1) xs) ≡ map f (take i xs) ++ f x ∷ [] = map_more f xs i x lt ∙ ap (λ (y : X). map f (take i xs) ++ f y ∷ []) (sym is) in
-    rw e (zip_push R (map f (take i xs)) zs (f x) z before this)
-
-zip_other : {X Y : Type 0} (R : X → Y → Type 0) (xs : List X) (ys : List Y) (i : ℕ) (y : Y) → AllZip R xs ys → slice_get ys i ≡ Some y → (x : X) × (slice_get xs i ≡ Some x) × R x y
-zip_other R [] [] i y h e = absurd cc
-zip_other R [] (b ∷ ys) i y h e = absurd h
-zip_other R (a ∷ xs) [] i y h e = absurd h
-zip_other R (a ∷ xs) (b ∷ ys) zero y h e = let k : b ≡ y = cc in (a, refl, subst (R a) k h.0)
-zip_other R (a ∷ xs) (b ∷ ys) (suc i) y h e = zip_other R xs ys i y h.1 e
-
-zip_none : {X Y : Type 0} (R : X → Y → Type 0) (xs : List X) (ys : List Y) (i : ℕ) (x : X) → AllZip R xs ys → slice_get ys i ≡ None → slice_get xs i ≡ Some x → ⊥
-zip_none R [] ys i x h e k = absurd cc
-zip_none R (a ∷ xs) [] i x h e k = absurd h
-zip_none R (a ∷ xs) (b ∷ ys) zero x h e k = absurd cc
-zip_none R (a ∷ xs) (b ∷ ys) (suc i) x h e k = zip_none R xs ys i x h.1 e k
-
-pub derived_at_place : (s : Schema) (tables : List (BTreeMap (Bor (List ℕ)) ℕ)) (n : List ℕ) (i : ℕ) (t : BTreeMap (Bor (List ℕ)) ℕ) (b : Bool) → AllZip HasDerivedNames s.entities tables → slice_get tables i ≡ Some t → ((ns : List (List ℕ)) → HasNames t ns → MatchBool b (IsIn ns n) (¬ (IsIn ns n))) → MatchBool b (IsDerivedAt s n i) (¬ (IsDerivedAt s n i))
-derived_at_place s tables n i t b zips there test =
-    let x = zip_other HasDerivedNames s.entities tables i t zips there in
-    derived_at s n i x.0 b x.1 (test (new_derived x.0.derived) x.2)
-
-pub not_derived_at : (s : Schema) (tables : List (BTreeMap (Bor (List ℕ)) ℕ)) (n : List ℕ) (i : ℕ) → AllZip HasDerivedNames s.entities tables → slice_get tables i ≡ None → ¬ (IsDerivedAt s n i)
-not_derived_at s tables n i zips none h = zip_none HasDerivedNames s.entities tables i h.entity zips none h.there
-
--- ---- attributes that were declared again
 
 -- two things are one, or the order tells them apart
 data Told {X : Type 0} (a b : X) : Bool → Type 0 where

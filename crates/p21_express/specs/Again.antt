@@ -5,7 +5,6 @@ use Rattle.std.specs.BTreeMap.{BTreeMap, get}
 use Rattle.std.specs.Ordering.{ordering_then, nat_cmp}
 use Rattle.std.specs.declared.cmp.Ordering.{Ordering}
 use Rattle.p21_express.specs.declared.checks.redeclared.Again as source
-use Rattle.p21_express.specs.Checks.{HasNames}
 use Rattle.p21_express.specs.Index.{IsEntityAt, key_cmp}
 use Rattle.p21_express.specs.Schema.{Schema, Entity}
 use Rattle.p21_express.specs.WellFormed.{IsIn, Redeclaration, Origin, AreDistinct, DeclareAgain, DeclaresAgain, new_names, new_derived}
@@ -39,10 +38,6 @@ pub record IsAgainAt (s : Schema) (entity : List ℕ) (r : Redeclaration) (i : �
 pub record Origins (s : Schema) (entity : List ℕ) (rs : List Redeclaration) (os : List Origin) : Type 0 where
   pub declare : DeclareAgain s entity rs os
   pub distinct : AreDistinct os
-
--- the map has the names that an entity newly declares in DERIVE
-abbrev pub HasDerivedNames : Entity → BTreeMap (Bor (List ℕ)) ℕ → Type 0
-HasDerivedNames e names = HasNames names (new_derived e.derived)
 
 -- the order of attributes, by the position of the entity and the name of the attribute
 abbrev pub origin_cmp : ℕ × Bor (List ℕ) → ℕ × Bor (List ℕ) → Ordering

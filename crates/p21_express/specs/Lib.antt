@@ -21,4 +21,3 @@ pub mod Index
 pub mod Positions
 pub mod Again
 pub mod Owners
-pub mod Known

@@ -1,11 +1,11 @@
 -- In a graph without cycles some vertex waits for no other.
-use Rattle.std.proofs.Common.{◌≡◌, ℕ, zero, suc, ◌+◌, ◌<◌, ◌≤◌, ◌↔◌, Bool, true, false, List, [], ◌∷◌, ◌++◌, ◌⊎◌, length, get_or, take, set, refl, sym, ◌∙◌, subst, inl, inr, ⊎_elim, arith, eqb}
+use Rattle.std.proofs.Common.{◌≡◌, ℕ, zero, suc, ◌+◌, ◌<◌, ◌≤◌, Bool, true, false, List, [], ◌∷◌, ◌++◌, ◌⊎◌, length, get_or, take, set, refl, sym, ◌∙◌, subst, inl, inr, ⊎_elim, arith, eqb}
 use Rattle.std.specs.List.{list_any, IsDistinct, AllByRecursion}
-use Rattle.std.proofs.lemmas.Bool.{false≢true, eqb-true, ne_eqb, or_cases, cases_Bool, cases_eq}
+use Rattle.std.proofs.lemmas.Bool.{false≢true, eqb-true, ne_eqb, or_cases, cases_eq}
 use Rattle.std.proofs.lemmas.List.{take-append-le, take_all, get_or_append_left, get_or_push, length_push, get_or-set_same, get_or-set_other}
 use Rattle.std.proofs.lemmas.Map.Steps.{length-le_from_distinct_below}
 use Rattle.p21_graph.specs.Members.{IsIn, AreDistinct}
-use Rattle.p21_graph.specs.Graph.{Leads, one, more, HasNoCycle, HasEdge, AreEdgesBelow, IsOrder, IsPlacedIn, IsMarked, AreMarked, waiting}
+use Rattle.p21_graph.specs.Graph.{IsOrder, IsPlacedIn, IsMarked, AreMarked, waiting}
 use Rattle.p21_graph.specs.MemberLaws.{in_right, in_left}
 
 member : (xs : List ℕ) (x : ℕ) → list_any (eqb x) xs ≡ true → IsIn xs x
@@ -24,51 +24,6 @@ apart (x ∷ xs) h = (differs xs x h.0, apart xs h.1)
 -- distinct numbers below n are at most n
 pub few : (xs : List ℕ) (n : ℕ) → AreDistinct xs → ((x : ℕ) → IsIn xs x → x < n) → length xs ≤ n
 few xs n d below = length-le_from_distinct_below xs n (apart xs d) (λ q t. below q (member xs q t))
-
--- a vertex that is not marked, and whose neighbors are
-pub record IsReady (graph : List (List ℕ)) (row : List Bool) (v : ℕ) : Type 0 where
-  pub below : v < length graph
-  pub waits : get_or row v false ≡ false
-  pub ready : AreMarked row (get_or graph v [])
-
--- all are marked, or one is not
-which : (row : List Bool) (vs : List ℕ) → AreMarked row vs ⊎ ((b : ℕ) × (IsIn vs b × (get_or row b false ≡ false)))
-which row [] = inl (λ v i. absurd i)
-which row (v ∷ vs) =
-    ⊎_elim
-    (λ (here : get_or row v false ≡ true).
-    ⊎_elim
-    (λ (all : AreMarked row vs). inl (λ x i. ⊎_elim (λ (e : v ≡ x). subst (λ u. IsMarked row u) e here) (λ (j : IsIn vs x). all x j) i))
-    (λ (some : (b : ℕ) × (IsIn vs b × (get_or row b false ≡ false))). inr (some.0, (inr some.1.0, some.1.1)))
-    (which row vs))
-    (λ (here : get_or row v false ≡ false). inr (v, (inl refl, here)))
-    (cases_Bool (get_or row v false))
-
-module _ (graph : List (List ℕ)) (row : List Bool) (edges : AreEdgesBelow graph (length graph)) (cycles : HasNoCycle (HasEdge graph)) where
-  -- From a vertex that is not marked one goes to a neighbor that is not, as long as there is one. All that were met lead to
-  -- the last, so that none is met twice.
-  walk : (fuel at : ℕ) (before : List ℕ) → length before + fuel ≡ length graph → AreDistinct (at ∷ before) → ((x : ℕ) → IsIn (at ∷ before) x → x < length graph)
-      → ((x : ℕ) → IsIn before x → Leads (HasEdge graph) x at) → get_or row at false ≡ false → (v : ℕ) × IsReady graph row v
-  walk zero at before count distinct below leads waits =
-      let many : length (at ∷ before) ≤ length graph = few (at ∷ before) (length graph) distinct below in
-      absurd (omega arith)
-  walk (suc fuel) at before count distinct below leads waits =
-      ⊎_elim
-      (λ (all : AreMarked row (get_or graph at [])). (at, record { below = below at (inl refl); waits = waits; ready = all }))
-      (λ (some : (b : ℕ) × (IsIn (get_or graph at []) b × (get_or row b false ≡ false))).
-      let edge : HasEdge graph at some.0 = some.1.0 in
-      let onward : (x : ℕ) → IsIn (at ∷ before) x → Leads (HasEdge graph) x some.0 =
-      λ x i. ⊎_elim (λ (e : at ≡ x). subst (λ u. Leads (HasEdge graph) u some.0) e (one edge)) (λ (j : IsIn before x). joined (leads x j) edge) i in
-      walk fuel some.0 (at ∷ before) (omega arith) ((λ i. cycles some.0 (onward some.0 i)), distinct)
-      (λ x i. ⊎_elim (λ (e : some.0 ≡ x). subst (λ u. u < length graph) e (edges at some.0 edge)) (λ (j : IsIn (at ∷ before) x). below x j) i) onward some.1.1)
-      (which row (get_or graph at []))
-    where
-      joined : {a b c : ℕ} → Leads (HasEdge graph) a b → HasEdge graph b c → Leads (HasEdge graph) a c
-      joined (one s) e = more s (one e)
-      joined (more s l) e = more s (joined l e)
-
-  pub some_ready : (v : ℕ) → v < length graph → get_or row v false ≡ false → (w : ℕ) × IsReady graph row w
-  some_ready v less waits = walk (length graph) v [] (omega arith) ((λ i. i), tt) (λ x i. ⊎_elim (λ (e : v ≡ x). subst (λ u. u < length graph) e less) (λ (j : ⊥). absurd j) i) (λ x i. absurd i) waits
 
 -- where marks are only added, there are no more that wait, and fewer where one is added
 pub no_more_waiting : (old new : List Bool) → length old ≡ length new → ((v : ℕ) → IsMarked old v → IsMarked new v) → waiting new ≤ waiting old
@@ -117,27 +72,3 @@ mark_cases row i v less m = ⊎_elim (λ (e : v ≡ i). inr e) (λ (ne : (v ≡ 
 
 pub placed_push : (row : List Bool) (order : List ℕ) (i : ℕ) → i < length row → IsPlacedIn row order → IsPlacedIn (set row i true) (order ++ i ∷ [])
 placed_push row order i less p v m = ⊎_elim (λ (k : IsMarked row v). in_left order (i ∷ []) v (p v k)) (λ (e : v ≡ i). in_right order (i ∷ []) v (inl (sym e))) (mark_cases row i v less m)
-
--- ---- the same edges
-
-module _ (g h : List (List ℕ)) (count : length h ≡ length g) (edges : (a b : ℕ) → HasEdge h a b ↔ HasEdge g a b) where
-  pub same_order : (order : List ℕ) → IsOrder h order → IsOrder g order
-  same_order order o k less = (subst (λ (u : ℕ). get_or order k 0 < u) count (o k less).0, λ b e. (o k less).1 b ((edges (get_or order k 0) b).1 e))
-
-  pub same_below : AreEdgesBelow g (length g) → AreEdgesBelow h (length h)
-  same_below below a b e = subst (λ (u : ℕ). b < u) (sym count) (below a b ((edges a b).0 e))
-
-  same_ways : {a b : ℕ} → Leads (HasEdge h) a b → Leads (HasEdge g) a b
-  same_ways {a} {b} (one e) = one ((edges a b).0 e)
-  same_ways {a} (more {b = w} e l) = more ((edges a w).0 e) (same_ways l)
-
-  pub same_cycles : HasNoCycle (HasEdge g) → HasNoCycle (HasEdge h)
-  same_cycles none a l = none a (same_ways l)
-
--- one row more that has the same members
-pub rows_alike : (g rows : List (List ℕ)) (row : List ℕ) (n : ℕ) → length rows ≡ n → ((k b : ℕ) → k < n → IsIn (get_or rows k []) b ↔ HasEdge g k b) → ((b : ℕ) → IsIn row b ↔ HasEdge g n b) → (k b : ℕ) → k < n + 1 → IsIn (get_or (rows ++ row ∷ []) k []) b ↔ HasEdge g k b
-rows_alike g rows row n long before this k b less =
-    ⊎_elim
-    (λ (e : k ≡ n). rw (e, get_or_push rows row [] n long) (this b))
-    (λ (ne : (k ≡ n) → ⊥). let l : k < n = omega arith in rw (get_or_append_left rows (row ∷ []) [] k (omega (arith, l, long))) (before k b l))
-    (cases_eq k n)

@@ -2,13 +2,5 @@ pub mod Members
 pub mod MemberLaws
 pub mod Graph
 pub mod GraphLaws
-pub mod Ranges
-pub mod RangeLaws
-pub mod Sets
-pub mod Rows
+pub mod Bits
 pub mod Reach
-pub mod Lines
-pub mod Slices
-pub mod Shared
-pub mod Lists
-pub mod Sources

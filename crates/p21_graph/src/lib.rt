@@ -1,21 +1,10 @@
-//! Graphs: orders of their vertices, what each vertex reaches, by rows of places in an order, which of some vertices alone reaches another,
-//! and lists of numbers that vertices inherit.
+//! Graphs: an order in which the neighbors of each vertex stand before it, and what each vertex reaches, as bits.
 #![tactic(auto)]
 
+mod bits;
 mod graph;
-mod lines;
-mod lists;
-mod ranges;
 mod reach;
-mod rows;
-mod sets;
-mod shared;
-mod slices;
-mod sources;
 
-pub use graph::{Graph, order, order_from_above};
-pub use lists::Lists;
-pub use ranges::Range;
-pub use reach::{Reach, each_alone, places, reached, turned};
-pub use rows::Rows;
-pub use sources::Sources;
+pub use bits::Bits;
+pub use graph::{Graph, order};
+pub use reach::{reached, reached_with_itself};

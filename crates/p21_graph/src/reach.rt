@@ -1,165 +1,75 @@
-//! What each vertex of a graph reaches, by rows of places in an order in which what a vertex reaches mostly stands together.
+//! What each vertex of a graph reaches.
 
-ghost use Rattle.std.specs.Prelude.{◌≡◌, ◌<◌, ◌++◌, ◌∷◌, ◌↔◌, ◌⊎◌, ℕ, List, [], length, get_or, set, IfOk, OnOk, IsTrue};
-ghost use Rattle.p21_graph.specs.Members.{IsIn, AreDistinct};
-ghost use Rattle.p21_graph.specs.Graph.{plain_graph, HasEdge, HasNoCycle, AreEdgesBelow, IsOrder};
-ghost use Rattle.p21_graph.specs.Rows.{AreRows, table_of};
-ghost use Rattle.p21_graph.specs.Reach.{IsTurned, ArePlaces, IsPlaceRow, IsReach, IsWithin, IsEachAlone, IsReachTable};
+ghost use Rattle.std.specs.Prelude.{◌≡◌, ◌<◌, ◌↔◌, ◌⊎◌, ℕ, length, IfOk};
+ghost use Rattle.p21_graph.specs.Bits.{Holds, IsLike};
+ghost use Rattle.p21_graph.specs.Graph.{AreEdgesBelow, IsOrder, plain_graph};
+ghost use Rattle.p21_graph.specs.Members.{IsIn};
+ghost use Rattle.p21_graph.specs.Reach.{IsReach, IsReachTable, SomeHolds};
 
-use crate::graph::{Graph, order_beginning, zeros};
-use crate::rows::Rows;
-use crate::sets::Unions;
+use crate::bits::Bits;
+use crate::graph::Graph;
 use std::alloc::{AllocError, Global};
 
-/// What each vertex of a graph reaches, itself among it.
-#[derive(Drop)]
-pub struct Reach {
-    /// The place of each vertex.
-    pub places: Vec<usize>,
-    /// For each vertex the places of what it reaches.
-    pub rows: Rows,
-}
-
-/// A graph of so many vertices without edges.
-fn without_edges(alloc: Global, count: usize) -> Result<Graph, AllocError>
-    ensures count { IfOk result (λ graph. length (plain_graph graph) ≡ count) }
-    ensures empty { IfOk result (λ graph. (v : ℕ) → get_or (plain_graph graph) v [] ≡ []) }
+/// Has a row hold each of these columns as well.
+fn insert_all(table: &mut Bits, row: usize, columns: &[usize])
+    requires row { row < table.old.rows }
+    requires columns { (c : ℕ) → IsIn columns.now c → c < table.old.columns }
+    ensures size { IsLike table.old table.new }
+    ensures holds { (r c : ℕ) → Holds table.new r c ↔ (Holds table.old r c ⊎ ((r ≡ row) × IsIn columns.now c)) }
 {
-    let mut graph = Vec::with_capacity(alloc, count)?;
-    for _ in 0..count {
-        graph.push(Vec::new(alloc))?;
+    for column in columns {
+        table.insert(row, *column);
     }
-    Ok(graph)
 }
 
-/// An edge more.
-fn add_edge(graph: &mut Graph, from: usize, to: usize) -> Result<(), AllocError>
-    requires { from < length (plain_graph graph.old) }
-    ensures { OnOk result (plain_graph graph.new ≡ set (plain_graph graph.old) from (get_or (plain_graph graph.old) from [] ++ to ∷ [])) }
+/// Has a row hold what each of these rows holds as well.
+fn add_rows(table: &mut Bits, row: usize, from: &[usize])
+    requires row { row < table.old.rows }
+    requires from { (r : ℕ) → IsIn from.now r → r < table.old.rows }
+    ensures size { IsLike table.old table.new }
+    ensures holds { (r c : ℕ) → Holds table.new r c ↔ (Holds table.old r c ⊎ ((r ≡ row) × SomeHolds table.old from.now c)) }
 {
-    graph[from].push(to)?;
-    Ok(())
-}
-
-/// An edge more to a vertex from each of these.
-fn add_edges(graph: &mut Graph, from: &[usize], to: usize) -> Result<(), AllocError>
-    requires { (v : ℕ) → IsIn from.now v → v < length (plain_graph graph.old) }
-    ensures count { OnOk result (length (plain_graph graph.new) ≡ length (plain_graph graph.old)) }
-    ensures edges { OnOk result ((a b : ℕ) → HasEdge (plain_graph graph.new) a b ↔ (HasEdge (plain_graph graph.old) a b ⊎ ((b ≡ to) × IsIn from.now a))) }
-{
-    for vertex in from {
-        add_edge(graph, *vertex, to)?;
+    for other in from {
+        table.add_row(row, *other);
     }
-    Ok(())
 }
 
-/// The graph with each edge turned round.
-pub fn turned(alloc: Global, graph: &Graph) -> Result<Graph, AllocError>
-    requires { AreEdgesBelow (plain_graph graph.now) (length (plain_graph graph.now)) }
-    ensures turned { IfOk result (λ turned. IsTurned (plain_graph graph.now) (plain_graph turned)) }
-    ensures edges { IfOk result (λ turned. AreEdgesBelow (plain_graph turned) (length (plain_graph turned))) }
-    ensures cycles { IfOk result (λ turned. HasNoCycle (HasEdge (plain_graph graph.now)) → HasNoCycle (HasEdge (plain_graph turned))) }
-{
-    let mut turned = without_edges(alloc, graph.len())?;
-    for vertex in 0..graph.len() {
-        add_edges(&mut turned, &graph[vertex], vertex)?;
-    }
-    Ok(turned)
-}
-
-/// The place of each vertex in an order.
-pub fn places(alloc: Global, order: &[usize], count: usize) -> Result<Vec<usize>, AllocError>
-    requires below { (v : ℕ) → IsIn order.now v → v < count }
-    requires distinct { AreDistinct order.now }
-    ensures count { IfOk result (λ places. length places.items ≡ count) }
-    ensures places { IfOk result (λ places. ArePlaces order.now places.items) }
-{
-    let mut places = zeros(alloc, count)?;
-    for (place, vertex) in order.iter().enumerate() {
-        places[*vertex] = place;
-    }
-    Ok(places)
-}
-
-/// For each vertex the places of what it reaches, in an order in which its neighbors stand before it.
-fn rows(alloc: Global, graph: &Graph, order: &[usize]) -> Result<Rows, AllocError>
-    requires order { IsOrder (plain_graph graph.now) order.now }
-    requires distinct { AreDistinct order.now }
-    requires all { (v : ℕ) → v < length (plain_graph graph.now) → IsIn order.now v }
-    ensures rows { IfOk result (λ rows. AreRows rows) }
-    ensures count { IfOk result (λ rows. length (table_of rows) ≡ length (plain_graph graph.now)) }
-    ensures places { IfOk result (λ rows. (v : ℕ) → v < length (plain_graph graph.now) → IsPlaceRow (plain_graph graph.now) order.now v (get_or (table_of rows) v [])) }
-{
-    let mut unions = Unions::new(alloc);
-    let mut rows = Rows::new(alloc, graph.len())?;
-    for (place, vertex) in order.iter().enumerate() {
-        rows.write(alloc, &mut unions, *vertex, place, &graph[*vertex])?;
-    }
-    Ok(rows)
-}
-
-/// For each vertex what it reaches: the rows of what is direct for it, and what its neighbors reach.
+/// For each vertex what it reaches of so many items: those that are direct for it, and what its neighbors reach.
 pub fn reached(
     alloc: Global,
     direct: &Graph,
-    firsts: &Rows,
+    columns: usize,
     graph: &Graph,
     order: &[usize],
-) -> Result<Rows, AllocError>
-    requires firsts { AreRows firsts.now }
-    requires direct { AreEdgesBelow (plain_graph direct.now) (length (table_of firsts.now)) }
+) -> Result<Bits, AllocError>
+    requires direct { AreEdgesBelow (plain_graph direct.now) columns }
     requires vertices { length (plain_graph direct.now) ≡ length (plain_graph graph.now) }
     requires order { IsOrder (plain_graph graph.now) order.now }
     requires all { (v : ℕ) → v < length (plain_graph graph.now) → IsIn order.now v }
-    ensures rows { IfOk result (λ table. AreRows table) }
-    ensures table { IfOk result (λ table. IsReachTable (plain_graph direct.now) (plain_graph graph.now) (table_of firsts.now) (table_of table)) }
+    ensures { IfOk result (λ table. IsReachTable (plain_graph direct.now) columns (plain_graph graph.now) table) }
 {
-    let mut unions = Unions::new(alloc);
-    let mut table = firsts.beside(alloc, graph.len())?;
+    let mut table = Bits::new(alloc, graph.len(), columns)?;
     for vertex in order {
-        table.write_both(
-            alloc,
-            &mut unions,
-            *vertex,
-            &direct[*vertex],
-            firsts,
-            &graph[*vertex],
-        )?;
+        insert_all(&mut table, *vertex, &direct[*vertex]);
+        add_rows(&mut table, *vertex, &graph[*vertex]);
     }
     Ok(table)
 }
 
-/// What so many vertices without edges reach: each itself alone. These have the first places, in their order.
-pub fn each_alone(alloc: Global, count: usize, first: &[usize]) -> Result<Reach, AllocError>
-    requires { (v : ℕ) → IsIn first.now v → v < count }
-    ensures { IfOk result (λ reach. IsEachAlone count reach) }
+/// For each vertex itself and all that it reaches.
+pub fn reached_with_itself(
+    alloc: Global,
+    graph: &Graph,
+    order: &[usize],
+) -> Result<Bits, AllocError>
+    requires order { IsOrder (plain_graph graph.now) order.now }
+    requires all { (v : ℕ) → v < length (plain_graph graph.now) → IsIn order.now v }
+    ensures { IfOk result (λ table. IsReach (plain_graph graph.now) table) }
 {
-    let graph = without_edges(alloc, count)?;
-    let order = order_beginning(alloc, &graph, first)?;
-    let places = places(alloc, &order, count)?;
-    let rows = Rows::alone_at(alloc, &places)?;
-    Ok(Reach { places, rows })
-}
-
-impl Reach {
-    /// What the vertices of a graph reach, by their places in an order in which neighbors stand first.
-    pub fn new(alloc: Global, graph: &Graph, order: &[usize]) -> Result<Reach, AllocError>
-        requires order { IsOrder (plain_graph graph.now) order.now }
-        requires distinct { AreDistinct order.now }
-        requires all { (v : ℕ) → v < length (plain_graph graph.now) → IsIn order.now v }
-        ensures { IfOk result (λ reach. IsReach (plain_graph graph.now) reach) }
-    {
-        Ok(Reach {
-            places: places(alloc, order, graph.len())?,
-            rows: rows(alloc, graph, order)?,
-        })
+    let mut table = Bits::new(alloc, graph.len(), graph.len())?;
+    for vertex in order {
+        table.insert(*vertex, *vertex);
+        add_rows(&mut table, *vertex, &graph[*vertex]);
     }
-
-    /// Whether a vertex reaches another.
-    pub fn has(&self, from: usize, to: usize) -> bool
-        requires { (g : List (List ℕ)) × (IsReach g self.now × ((from < length g) × (to < length g))) }
-        ensures { (g : List (List ℕ)) → IsReach g self.now → from < length g → to < length g → IsTrue result ↔ IsWithin g from to }
-    {
-        self.rows.has(from, self.places[to])
-    }
+    Ok(table)
 }

@@ -1,152 +1,112 @@
-//! Which entities newly declare a name, and which of them alone has it for an entity.
+//! Which of an entity and its ancestors newly declares a name.
 
-ghost use Rattle.std.specs.Prelude.{◌≡◌, ◌<◌, ℕ, List, [], ◌∷◌, ◌++◌, None, IfOk, OnOk, MatchOption, length, map, option_map};
-ghost use Rattle.std.specs.BTreeMap.{get};
-ghost use Rattle.std.specs.Option.{option_to_list};
-ghost use Rattle.p21_graph.specs.Graph.{AreEdgesBelow, HasEdge, HasNoCycle};
-ghost use Rattle.p21_express.specs.Graph.{lists};
-ghost use Rattle.p21_express.specs.Index.{key_cmp};
-ghost use Rattle.p21_express.specs.Owners.{AreDescents, AreNumbered, AreOwners, AreOwnersOf, IsOnly, Owner, owned_by, owners_from};
+ghost use Rattle.std.specs.Prelude.{◌≡◌, ◌<◌, ◌≤◌, ℕ, [], IfOk, IsTrue, MatchOption, length, option_map};
+ghost use Rattle.std.specs.Bool.{MatchBool};
+ghost use Rattle.p21_express.specs.Index.{IsExactIndex};
+ghost use Rattle.p21_express.specs.Owners.{IsAncestry, IsFirstOwner, IsOnlyOwner, IsOwner};
 ghost use Rattle.p21_express.specs.Plain.{plain_entity, plain_schema};
-ghost use Rattle.p21_express.specs.Schema.{Schema};
-ghost use Rattle.p21_express.specs.Search.{Reaches};
-ghost use Rattle.p21_express.specs.WellFormed.{new_names, with_new};
+ghost use Rattle.p21_express.specs.WellFormed.{HasNoCycles, HasNoUnknown, IsIn, new_derived, new_names, with_new};
 
-use super::cycles::add;
-use super::graph::Graph;
+use super::Checked;
+use super::cycles::supertypes;
+use super::names::Index;
 use crate::declarations::{Declarations, EntityDecl};
-use p21_graph::{Reach, Sources, order_from_above, turned};
+use p21_graph::{Bits, order, reached_with_itself};
 use std::alloc::{AllocError, Global};
-use std::collections::BTreeMap;
 
-/// For each entity which entities descend from it.
-pub(super) fn descents(alloc: Global, supertypes: &Graph) -> Result<Reach, AllocError>
-    requires edges { AreEdgesBelow (lists supertypes.now.items) (length (lists supertypes.now.items)) }
-    requires cycles { HasNoCycle (HasEdge (lists supertypes.now.items)) }
-    ensures { IfOk result (λ reach. (turned : List (List ℕ)) × AreDescents (lists supertypes.now.items) turned reach) }
+/// For each entity itself and its ancestors.
+pub(super) fn ancestry(alloc: Global, checked: Checked, index: &Index) -> Result<Bits, AllocError>
+    requires index { IsExactIndex (plain_schema checked.declarations.now) index.now }
+    requires unknown { HasNoUnknown (plain_schema checked.declarations.now) }
+    requires cycles { HasNoCycles (plain_schema checked.declarations.now) }
+    ensures { IfOk result (λ table. IsAncestry (plain_schema checked.entry.declarations.now) table) }
 {
-    let subtypes = turned(alloc, supertypes)?;
-    let order = order_from_above(alloc, &subtypes)?;
-    Reach::new(alloc, &subtypes, &order)
+    let supertypes = supertypes(alloc, checked, index)?;
+    let order = order(alloc, &supertypes)?;
+    reached_with_itself(alloc, &supertypes, &order)
 }
 
-/// A name, where no entity stands before it.
-fn new_of<'d>(of: &Option<Vec<u8>>, name: &'d [u8]) -> Option<&'d [u8]>
-    ensures { map (λ n. n.now) (option_to_list result) ≡ with_new (option_map (λ n. n.items) of.now) name.now [] }
+/// Whether what stands before a name and the name newly declare this one.
+fn is_new(of: &Option<Vec<u8>>, name: &[u8], sought: &[u8]) -> bool
+    ensures { let names = with_new (option_map (λ n. n.items) of.now) name.now [] in MatchBool result (IsIn names sought.now) (¬ (IsIn names sought.now)) }
 {
-    match of {
-        Some(_) => None,
-        None => Some(name),
-    }
+    of.is_none() && name == sought
 }
 
-/// The names that an entity newly declares.
-fn newly_declared(alloc: Global, entity: &EntityDecl) -> Result<Vec<&[u8]>, AllocError>
-    ensures { IfOk result (λ names. map (λ n. n.now) names.items ≡ new_names (plain_entity entity.now)) }
+/// Whether an entity newly declares a name in DERIVE.
+pub(super) fn derives(entity: &EntityDecl, name: &[u8]) -> bool
+    ensures { let names = new_derived (plain_entity entity.now).derived in MatchBool result (IsIn names name.now) (¬ (IsIn names name.now)) }
 {
-    let mut names = Vec::new(alloc);
-    for attribute in &entity.attributes {
-        add(&mut names, new_of(&attribute.of, &attribute.name))?;
-    }
     for derived in &entity.derived {
-        add(&mut names, new_of(&derived.of, &derived.name))?;
+        if is_new(&derived.of, &derived.name, name) {
+            return true;
+        }
     }
-    Ok(names)
+    false
 }
 
-/// For each name the entities that newly declare it.
-#[derive(Drop)]
-pub(super) struct Owners<'d> {
-    /// The number of each name.
-    numbers: BTreeMap<&'d [u8], usize>,
-    /// For each number the entities that newly declare the name.
-    sources: Vec<Sources>,
+/// Whether an entity newly declares a name.
+fn declares(entity: &EntityDecl, name: &[u8]) -> bool
+    ensures { let names = new_names (plain_entity entity.now) in MatchBool result (IsIn names name.now) (¬ (IsIn names name.now)) }
+{
+    for attribute in &entity.attributes {
+        if is_new(&attribute.of, &attribute.name, name) {
+            return true;
+        }
+    }
+    derives(entity, name)
 }
 
-impl<'d> Owners<'d> {
-    fn new(alloc: Global) -> Owners<'d>
-        ensures numbered { AreNumbered result }
-        ensures owners { (g : List (List ℕ)) (reach : Reach) → AreOwners [] g reach result }
-    {
-        Owners {
-            numbers: BTreeMap::new(alloc),
-            sources: Vec::new(alloc),
+/// Whether an entity is another or its ancestor, and newly declares a name.
+fn is_owner(
+    declarations: &Declarations,
+    ancestry: &Bits,
+    position: usize,
+    of: usize,
+    name: &[u8],
+) -> bool
+    requires ancestry { IsAncestry (plain_schema declarations.now) ancestry.now }
+    requires position { position < length (plain_schema declarations.now).entities }
+    requires of { of < length (plain_schema declarations.now).entities }
+    ensures { let s = plain_schema declarations.now in MatchBool result (IsOwner s ancestry.now of name.now position) (¬ (IsOwner s ancestry.now of name.now position)) }
+{
+    ancestry.has(of, position) && declares(&declarations.entities[position], name)
+}
+
+/// The first such entity from a position on.
+fn first_owner(
+    declarations: &Declarations,
+    ancestry: &Bits,
+    from: usize,
+    of: usize,
+    name: &[u8],
+) -> Option<usize>
+    requires ancestry { IsAncestry (plain_schema declarations.now) ancestry.now }
+    requires of { of < length (plain_schema declarations.now).entities }
+    ensures { let s = plain_schema declarations.now in MatchOption result ((i : ℕ) → from ≤ i → ¬ (IsOwner s ancestry.now of name.now i)) (λ i. IsFirstOwner s ancestry.now from of name.now i) }
+{
+    for position in from..declarations.entities.len() {
+        if is_owner(declarations, ancestry, position, of, name) {
+            return Some(position);
         }
     }
+    None
+}
 
-    /// A name that no entity newly declared before.
-    fn begin(&mut self, alloc: Global, name: &'d [u8], entity: usize) -> Result<(), AllocError>
-        requires { AreNumbered self.old }
-        ensures numbered { OnOk result (AreNumbered self.new) }
-        ensures owners { (os : List Owner) (g : List (List ℕ)) (reach : Reach) → AreOwners os g reach self.old → get key_cmp self.old.numbers name.entry ≡ None → entity < length g → OnOk result (AreOwners (os ++ owned_by entity name.now ∷ []) g reach self.new) }
-    {
-        let mut sources = Sources::new(alloc);
-        sources.add(entity)?;
-        self.numbers.insert(name, self.sources.len())?;
-        self.sources.push(sources)?;
-        Ok(())
-    }
-
-    /// One entity more that newly declares a name.
-    fn add(&mut self, alloc: Global, name: &'d [u8], entity: usize) -> Result<(), AllocError>
-        requires { AreNumbered self.old }
-        ensures numbered { OnOk result (AreNumbered self.new) }
-        ensures owners { (os : List Owner) (g : List (List ℕ)) (reach : Reach) → AreOwners os g reach self.old → entity < length g → OnOk result (AreOwners (os ++ owned_by entity name.now ∷ []) g reach self.new) }
-    {
-        match self.numbers.get(name).copied() {
-            Some(number) => self.sources[number].add(entity)?,
-            None => self.begin(alloc, name, entity)?,
-        }
-        Ok(())
-    }
-
-    /// An entity that newly declares these names.
-    fn add_all(
-        &mut self,
-        alloc: Global,
-        names: &[&'d [u8]],
-        entity: usize,
-    ) -> Result<(), AllocError>
-        requires { AreNumbered self.old }
-        ensures numbered { OnOk result (AreNumbered self.new) }
-        ensures owners { (os : List Owner) (g : List (List ℕ)) (reach : Reach) → AreOwners os g reach self.old → entity < length g → OnOk result (AreOwners (os ++ map (λ n. owned_by entity n.now) names.now) g reach self.new) }
-    {
-        for name in names {
-            self.add(alloc, name, entity)?;
-        }
-        Ok(())
-    }
-
-    /// What all entities newly declare.
-    pub(super) fn of(
-        alloc: Global,
-        declarations: &'d Declarations,
-    ) -> Result<Owners<'d>, AllocError>
-        ensures { IfOk result (λ owners. (g : List (List ℕ)) (reach : Reach) → length g ≡ length (plain_schema declarations.now).entities → AreOwners (owners_from 0 (plain_schema declarations.now).entities) g reach owners) }
-    {
-        let mut owners = Owners::new(alloc);
-        for (position, entity) in declarations.entities.iter().enumerate() {
-            owners.add_all(alloc, &newly_declared(alloc, entity)?, position)?;
-        }
-        Ok(owners)
-    }
-
-    /// The only one of an entity and its ancestors that newly declares a name.
-    pub(super) fn only(
-        &mut self,
-        alloc: Global,
-        descents: &Reach,
-        of: usize,
-        name: &[u8],
-    ) -> Result<Option<usize>, AllocError>
-        requires { (s : Schema) × ((g : List (List ℕ)) × (AreOwnersOf s g descents.now self.old × (of < length g))) }
-        ensures owners { (s : Schema) (g : List (List ℕ)) → AreOwnersOf s g descents.now self.old → of < length g → OnOk result (AreOwnersOf s g descents.now self.new) }
-        ensures only { (s : Schema) (g : List (List ℕ)) → AreOwnersOf s g descents.now self.old → of < length g → IfOk result (λ o. MatchOption o ((i : ℕ) → ¬ (IsOnly s (Reaches g of) name.now i)) (λ i. IsOnly s (Reaches g of) name.now i)) }
-    {
-        let Some(number) = self.numbers.get(name).copied() else {
-            return Ok(None);
-        };
-        let owner = self.sources[number].sole(alloc, descents, of)?;
-        Ok(owner)
+/// The only one of an entity and its ancestors that newly declares a name.
+pub(super) fn only_owner(
+    declarations: &Declarations,
+    ancestry: &Bits,
+    of: usize,
+    name: &[u8],
+) -> Option<usize>
+    requires ancestry { IsAncestry (plain_schema declarations.now) ancestry.now }
+    requires of { of < length (plain_schema declarations.now).entities }
+    ensures { let s = plain_schema declarations.now in MatchOption result ((i : ℕ) → ¬ (IsOnlyOwner s ancestry.now of name.now i)) (λ i. IsOnlyOwner s ancestry.now of name.now i) }
+{
+    let owner = first_owner(declarations, ancestry, 0, of, name)?;
+    match first_owner(declarations, ancestry, owner + 1, of, name) {
+        Some(_) => None,
+        None => Some(owner),
     }
 }

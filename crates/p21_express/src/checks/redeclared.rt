@@ -1,28 +1,26 @@
 //! Attributes that are declared again.
 
-ghost use Rattle.std.specs.Prelude.{◌≡◌, ◌<◌, ℕ, List, [], ◌∷◌, ◌++◌, Some, slice_get, length, IfOk, IsFalse, OnOk, MatchOption, MatchResult, true, map, option_map};
+ghost use Rattle.std.specs.Prelude.{◌≡◌, ◌<◌, ℕ, List, [], ◌∷◌, ◌++◌, Some, slice_get, length, IfOk, IsFalse, MatchOption, MatchResult, true, map, option_map};
 ghost use Rattle.std.specs.Option.{option_to_list};
 ghost use Rattle.std.specs.Bool.{MatchBool};
-ghost use Rattle.std.specs.List.{AllByRecursion, AllZip};
-ghost use Rattle.p21_express.specs.Again.{plain_again, origin_in, HasDerivedNames, HasOrigins, IsDerivedAt, IsAgainAt};
-ghost use Rattle.p21_express.specs.Checks.{HasNames};
+ghost use Rattle.std.specs.List.{AllByRecursion};
+ghost use Rattle.p21_express.specs.Again.{plain_again, origin_in, HasOrigins, IsDerivedAt, IsAgainAt};
 ghost use Rattle.p21_express.specs.Index.{IsExactIndex, IsEntityAt};
-ghost use Rattle.p21_express.specs.Known.{IsKnown};
 ghost use Rattle.p21_express.specs.Misfit.{OnUnfit, Only};
+ghost use Rattle.p21_express.specs.Owners.{IsAncestry};
 ghost use Rattle.p21_express.specs.Plain.{plain_schema, plain_entity};
 ghost use Rattle.p21_express.specs.Schema.{Schema};
 ghost use Rattle.p21_express.specs.WellFormed.{IsIn, AreDistinct, HasNoUnknown, HasNoCycles, IsRedeclaring, Origin, declared_names, with_again, redeclarations};
 ghost use Rattle.p21_express.specs.declared.misfit.Misfit.TheVariants.{BadRedeclaration};
 
-use super::cycles::{add, entity_at, supertypes};
+use super::cycles::{add, entity_at};
 use super::names::Index;
-use super::owners::{Owners, descents};
-use super::repeated::derived_attributes;
-use super::{Checked, First, attribute_places_at, place_at};
+use super::owners::{ancestry, derives, only_owner};
+use super::{Checked, attribute_places_at, place_at};
 use crate::declarations::{Declarations, EntityDecl};
 use crate::misfit::{Misfit, Unfit};
 use crate::places::EntityPlaces;
-use p21_graph::Reach;
+use p21_graph::Bits;
 use std::alloc::{AllocError, Global};
 use std::collections::BTreeMap;
 
@@ -35,108 +33,47 @@ struct Again<'d> {
     place: usize,
 }
 
-/// The names that an entity newly declares in DERIVE, and where.
-type DerivedNames<'d> = BTreeMap<&'d [u8], usize>;
-
 /// What the checks of all entities look at.
 #[derive(Drop)]
 struct Known<'d> {
     declarations: &'d Declarations,
-    /// For each entity which entities descend from it.
-    descents: Reach,
-    /// For each entity the names that it newly declares in DERIVE.
-    derived: Vec<DerivedNames<'d>>,
-}
-
-/// The names that an entity newly declares in DERIVE.
-fn derived_names<'d>(alloc: Global, entity: &'d EntityDecl) -> Result<DerivedNames<'d>, AllocError>
-    ensures { IfOk result (λ names. HasDerivedNames (plain_entity entity.now) names) }
-{
-    let mut first = First::new();
-    Ok(derived_attributes(alloc, entity, &mut first)?.places)
-}
-
-/// For each entity the names that it newly declares in DERIVE.
-fn all_derived_names(
-    alloc: Global,
-    declarations: &Declarations,
-) -> Result<Vec<DerivedNames<'_>>, AllocError>
-    ensures { IfOk result (λ all. AllZip HasDerivedNames (plain_schema declarations.now).entities all.items) }
-{
-    let mut all = Vec::new(alloc);
-    for entity in &declarations.entities {
-        all.push(derived_names(alloc, entity)?)?;
-    }
-    Ok(all)
-}
-
-/// The names that the entity at a position newly declares in DERIVE.
-fn derived_at<'k, 'd>(known: &'k Known<'d>, position: usize) -> Option<&'k DerivedNames<'d>>
-    ensures { option_map (λ names. names.now) result ≡ slice_get known.now.derived.items position }
-{
-    known.derived.get(position)
-}
-
-/// Whether a name is one of these.
-fn has(names: &DerivedNames, name: &[u8]) -> bool
-    ensures { (ns : List (List ℕ)) → HasNames names.now ns → MatchBool result (IsIn ns name.now) (¬ (IsIn ns name.now)) }
-{
-    names.get(name).is_some()
-}
-
-/// Whether the entity at a position newly declares this name in DERIVE.
-fn is_derived_at(known: &Known, position: usize, name: &[u8]) -> bool
-    requires { AllZip HasDerivedNames (plain_schema known.now.declarations.now).entities known.now.derived.items }
-    ensures { let s = plain_schema known.now.declarations.now in MatchBool result (IsDerivedAt s name.now position) (¬ (IsDerivedAt s name.now position)) }
-{
-    match derived_at(known, position) {
-        Some(names) => has(names, name),
-        None => false,
-    }
+    /// For each entity itself and its ancestors.
+    ancestry: Bits,
 }
 
 /// Whether an attribute of the entity at a position may be declared again: explicitly none of DERIVE.
-fn is_allowed(known: &Known, position: usize, again: Again) -> bool
-    requires { AllZip HasDerivedNames (plain_schema known.now.declarations.now).entities known.now.derived.items }
-    ensures { let r = plain_again again.entry in MatchBool result (r.explicit ≡ true → ¬ (IsDerivedAt (plain_schema known.now.declarations.now) r.name position)) (¬ (r.explicit ≡ true → ¬ (IsDerivedAt (plain_schema known.now.declarations.now) r.name position))) }
+fn is_allowed(declarations: &Declarations, position: usize, again: Again) -> bool
+    requires { position < length (plain_schema declarations.now).entities }
+    ensures { let r = plain_again again.entry in MatchBool result (r.explicit ≡ true → ¬ (IsDerivedAt (plain_schema declarations.now) r.name position)) (¬ (r.explicit ≡ true → ¬ (IsDerivedAt (plain_schema declarations.now) r.name position))) }
 {
     if again.explicit {
-        return !is_derived_at(known, position, again.name);
+        return !derives(&declarations.entities[position], again.name);
     }
     true
 }
 
 /// The position of the entity that newly declares what another declares again, which is at this position, where that is allowed.
-fn origin_of(
-    alloc: Global,
-    known: &Known,
-    index: &Index,
-    owners: &mut Owners,
-    position: usize,
-    again: Again,
-) -> Result<Option<usize>, AllocError>
+fn origin_of(known: &Known, index: &Index, position: usize, again: Again) -> Option<usize>
     requires index { IsExactIndex (plain_schema known.now.declarations.now) index.now }
-    requires known { IsKnown known.now owners.old }
+    requires unknown { HasNoUnknown (plain_schema known.now.declarations.now) }
+    requires cycles { HasNoCycles (plain_schema known.now.declarations.now) }
+    requires ancestry { IsAncestry (plain_schema known.now.declarations.now) known.now.ancestry }
     requires position { position < length (plain_schema known.now.declarations.now).entities }
-    ensures known { OnOk result (IsKnown known.now owners.new) }
-    ensures origin { let s = plain_schema known.now.declarations.now in (e : List ℕ) → IsEntityAt s position e → IfOk result (λ o. MatchOption o ((i : ℕ) → ¬ (IsAgainAt s e (plain_again again.entry) i)) (λ i. IsAgainAt s e (plain_again again.entry) i)) }
+    ensures { let s = plain_schema known.now.declarations.now in (e : List ℕ) → IsEntityAt s position e → MatchOption result ((i : ℕ) → ¬ (IsAgainAt s e (plain_again again.entry) i)) (λ i. IsAgainAt s e (plain_again again.entry) i) }
 {
-    let Some(of) = entity_at(index, again.of) else {
-        return Ok(None);
-    };
+    let of = entity_at(index, again.of)?;
     if of == position {
-        return Ok(None);
+        return None;
     }
-    if !known.descents.has(of, position) {
-        return Ok(None);
+    if !known.ancestry.has(position, of) {
+        return None;
     }
-    let Some(owner) = owners.only(alloc, &known.descents, of, again.name)? else {
-        return Ok(None);
-    };
-    if !is_allowed(known, owner, again) {
-        return Ok(None);
+    let owner = only_owner(known.declarations, &known.ancestry, of, again.name)?;
+    if is_allowed(known.declarations, owner, again) {
+        Some(owner)
+    } else {
+        None
     }
-    Ok(Some(owner))
 }
 
 /// What an attribute declares again, if it does.
@@ -227,16 +164,16 @@ fn entity(
     alloc: Global,
     known: &Known,
     index: &Index,
-    owners: &mut Owners,
     position: usize,
     decl: &EntityDecl,
     places: &EntityPlaces,
 ) -> Result<(), Unfit>
     requires index { IsExactIndex (plain_schema known.now.declarations.now) index.now }
-    requires known { IsKnown known.now owners.old }
+    requires unknown { HasNoUnknown (plain_schema known.now.declarations.now) }
+    requires cycles { HasNoCycles (plain_schema known.now.declarations.now) }
+    requires ancestry { IsAncestry (plain_schema known.now.declarations.now) known.now.ancestry }
     requires decl { slice_get (plain_schema known.now.declarations.now).entities position ≡ Some (plain_entity decl.now) }
-    ensures known { OnOk result (IsKnown known.now owners.new) }
-    ensures redeclared { let s = plain_schema known.now.declarations.now in MatchResult result (λ _. IsRedeclaring s (plain_entity decl.now)) (λ e. OnUnfit e (Only BadRedeclaration (¬ (IsRedeclaring s (plain_entity decl.now))))) }
+    ensures { let s = plain_schema known.now.declarations.now in MatchResult result (λ _. IsRedeclaring s (plain_entity decl.now)) (λ e. OnUnfit e (Only BadRedeclaration (¬ (IsRedeclaring s (plain_entity decl.now))))) }
 {
     let all = all_again(alloc, decl, places)?;
     if all.is_empty() {
@@ -245,7 +182,7 @@ fn entity(
     let mut origins = BTreeMap::new(alloc);
     for again in &all {
         let refusal = Unfit::Found(Misfit::BadRedeclaration, again.place);
-        let Some(origin) = origin_of(alloc, known, index, owners, position, *again)? else {
+        let Some(origin) = origin_of(known, index, position, *again) else {
             return Err(refusal);
         };
         let is_again = meet(&mut origins, origin, again.name)?;
@@ -268,16 +205,13 @@ pub(super) fn check(alloc: Global, checked: Checked, index: &Index) -> Result<()
     if !any_declares_again(declarations) {
         return Ok(());
     }
-    let supertypes = supertypes(alloc, checked, index)?;
     let known = Known {
         declarations,
-        descents: descents(alloc, &supertypes)?,
-        derived: all_derived_names(alloc, declarations)?,
+        ancestry: ancestry(alloc, checked, index)?,
     };
-    let mut owners = Owners::of(alloc, declarations)?;
     for (position, decl) in declarations.entities.iter().enumerate() {
         let places = checked.entity_places(position);
-        entity(alloc, &known, index, &mut owners, position, decl, places)?;
+        entity(alloc, &known, index, position, decl, places)?;
     }
     Ok(())
 }

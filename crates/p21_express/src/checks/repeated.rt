@@ -7,7 +7,7 @@ ghost use Rattle.p21_express.specs.Checks.{Finds, HasMet, HasNames};
 ghost use Rattle.p21_express.specs.Misfit.{OnUnfit, Only};
 ghost use Rattle.p21_express.specs.Naming.{texts};
 ghost use Rattle.p21_express.specs.Plain.{plain_schema, plain_entity, plain_under};
-ghost use Rattle.p21_express.specs.WellFormed.{AreDistinct, HasDistinctItems, HasNoRepeated, declared_names, new_derived, new_names, with_new};
+ghost use Rattle.p21_express.specs.WellFormed.{AreDistinct, HasDistinctItems, HasNoRepeated, declared_names, new_names, with_new};
 
 use super::{Checked, First, attribute_places_at, place_at};
 use crate::declarations::{EntityDecl, Under};
@@ -18,8 +18,8 @@ use std::collections::BTreeMap;
 
 /// Names that were met, and the last place of each.
 #[derive(Drop)]
-pub(super) struct Met<'d> {
-    pub(super) places: BTreeMap<&'d [u8], usize>,
+struct Met<'d> {
+    places: BTreeMap<&'d [u8], usize>,
 }
 
 impl<'d> Met<'d> {
@@ -93,21 +93,6 @@ fn attributes<'d>(
     for (i, derived) in entity.derived.iter().enumerate() {
         let place = place_at(&places.derived, i);
         met.meet_new(&derived.of, &derived.name, place, first)?;
-    }
-    Ok(met)
-}
-
-/// The names that an entity newly declares in DERIVE.
-pub(super) fn derived_attributes<'d>(
-    alloc: Global,
-    entity: &'d EntityDecl,
-    first: &mut First,
-) -> Result<Met<'d>, AllocError>
-    ensures { IfOk result (λ met. HasMet first.old.found first.new.found met.places (new_derived (plain_entity entity.now).derived)) }
-{
-    let mut met = Met::new(alloc);
-    for derived in &entity.derived {
-        met.meet_new(&derived.of, &derived.name, 0, first)?;
     }
     Ok(met)
 }

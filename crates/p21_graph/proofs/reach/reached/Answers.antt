@@ -1,59 +1,36 @@
-use Rattle.std.proofs.Common.{◌<◌, length, get_or, take, ap, ◌∙◌}
-use Rattle.std.proofs.lemmas.List.{length-set, take_all}
+use Rattle.std.proofs.Common.{◌<◌, ℕ, List, [], get_or, sym, subst, ◌∙◌}
+use Rattle.p21_graph.specs.Graph.{plain_graph, Reaches}
 use Rattle.p21_graph.specs.Members.{IsIn}
-use Rattle.p21_graph.specs.Graph.{plain_graph}
-use Rattle.p21_graph.specs.Rows.{table_of}
-use Rattle.p21_graph.specs.Reach.{IsReachRow}
-use Rattle.p21_graph.specs.MemberLaws.{in_front}
-use Rattle.p21_graph.specs.GraphLaws.{row_is, row_count, in_order_below}
-use Rattle.p21_graph.proofs.ReachLemmas.{reach_row_is}
-use Rattle.p21_graph.proofs.WithinLemmas.{table_set}
+use Rattle.p21_graph.proofs.ReachLemmas.{neighbors_are, neighbors_below, reached_is, written_more}
 use Rattle.p21_graph.proofs.reach.reached.Goals as goal
 
-pub write_both-requires-clause-others : goal.write_both-requires-clause-others
-write_both-requires-clause-others c =
-    let k = get_or c.args.order.now c.loop-vertex.vertex-index 0 in
-    let less : k < length (plain_graph c.args.graph.now) = (c.requires.order c.loop-vertex.vertex-index c.loop-vertex-test.true).0 in
-    let less' : k < length c.args.direct.now.items = rw (← c.args.direct.now.ok.0, ← (row_count c.args.direct.now), c.requires.vertices) less in
-    let r = row_is c.args.direct.now k c.index.result.now less' c.index.ensures in
-    λ v i. c.requires.direct k v (rw (r, ← c.deref.ensures.value) i)
+pub insert_all-requires-clause-columns : goal.insert_all-requires-clause-columns
+insert_all-requires-clause-columns c = λ k i.
+    let v = get_or c.args.order.now c.loop-vertex.vertex-index 0 in
+    let below = subst (λ u. v < u) (sym c.requires.vertices) (c.requires.order c.loop-vertex.vertex-index c.loop-vertex-test.true).0 in
+    let row = neighbors_are c.args.direct.now v c.index.result.now c.deref.result.now below c.index.ensures c.deref.ensures.value in
+    subst (λ u. k < u) (sym c.loop-vertex.invariant.columns) (c.requires.direct v k (subst (λ (u : List ℕ). IsIn u k) (sym row) i))
 
-pub write_both-requires-clause-neighbors : goal.write_both-requires-clause-neighbors
-write_both-requires-clause-neighbors c =
-    let k = get_or c.args.order.now c.loop-vertex.vertex-index 0 in
-    let o = c.requires.order c.loop-vertex.vertex-index c.loop-vertex-test.true in
-    let less' : k < length c.args.graph.now.items = rw (← c.args.graph.now.ok.0, ← (row_count c.args.graph.now)) o.0 in
-    let r = row_is c.args.graph.now k c.index-in-loop-vertex.result.now less' c.index-in-loop-vertex.ensures in
-    λ v i.
-    let before : IsIn (take c.loop-vertex.vertex-index c.args.order.now) v = o.1 v (rw (r, ← c.deref-in-loop-vertex.ensures.value) i) in
-    let below : v < length (plain_graph c.args.graph.now) = in_order_below (plain_graph c.args.graph.now) c.args.order.now v c.requires.order (in_front c.loop-vertex.vertex-index c.args.order.now v before) in
-    rw c.loop-vertex.invariant.count below
+pub add_rows-requires-clause-from : goal.add_rows-requires-clause-from
+add_rows-requires-clause-from c = λ w i.
+    let k = c.loop-vertex.vertex-index in
+    let row = neighbors_are c.args.graph.now (get_or c.args.order.now k 0) c.index-in-loop-vertex.result.now c.deref-in-loop-vertex.result.now (c.requires.order k c.loop-vertex-test.true).0 c.index-in-loop-vertex.ensures c.deref-in-loop-vertex.ensures.value in
+    subst (λ u. w < u) (sym (c.insert_all.ensures.size.rows ∙ c.loop-vertex.invariant.rows)) (neighbors_below (plain_graph c.args.graph.now) c.args.order.now c.deref-in-loop-vertex.result.now k c.requires.order c.loop-vertex-test.true row w i)
 
 pub loop-vertex-preserved : goal.loop-vertex-preserved
 loop-vertex-preserved c =
-    let k = get_or c.args.order.now c.loop-vertex.vertex-index 0 in
-    let o = c.requires.order c.loop-vertex.vertex-index c.loop-vertex-test.true in
-    let less : k < length c.args.direct.now.items = rw (← c.args.direct.now.ok.0, ← (row_count c.args.direct.now), c.requires.vertices) o.0 in
-    let less' : k < length c.args.graph.now.items = rw (← c.args.graph.now.ok.0, ← (row_count c.args.graph.now)) o.0 in
-    let d = row_is c.args.direct.now k c.index.result.now less c.index.ensures in
-    let r = row_is c.args.graph.now k c.index-in-loop-vertex.result.now less' c.index-in-loop-vertex.ensures in
-    let table = table_of c.loop-vertex.table in
-    let below : k < length table = rw c.loop-vertex.invariant.count o.0 in
-    let written = c.in_ok-write_both.ensures.row in
-    let row = written.0 in
-    let is : IsReachRow (plain_graph c.args.direct.now) (plain_graph c.args.graph.now) (table_of c.args.firsts.now) k row =
-    reach_row_is (plain_graph c.args.direct.now) (plain_graph c.args.graph.now) (table_of c.args.firsts.now) k table row (λ w e. c.loop-vertex.invariant.reached w (o.1 w e))
-    (rw (d, r, ← c.deref.ensures.value, ← c.deref-in-loop-vertex.ensures.value) written.1.1) in
+    let l = c.loop-vertex in
+    let k = l.vertex-index in
+    let v = get_or c.args.order.now k 0 in
+    let ordered = c.requires.order k c.loop-vertex-test.true in
+    let below = subst (λ u. v < u) (sym c.requires.vertices) ordered.0 in
+    let items = neighbors_are c.args.direct.now v c.index.result.now c.deref.result.now below c.index.ensures c.deref.ensures.value in
+    let neighbors = neighbors_are c.args.graph.now v c.index-in-loop-vertex.result.now c.deref-in-loop-vertex.result.now ordered.0 c.index-in-loop-vertex.ensures c.deref-in-loop-vertex.ensures.value in
+    let direct = plain_graph c.args.direct.now in
+    let graph = plain_graph c.args.graph.now in
     record {
-      rows = c.in_ok-write_both.ensures.rows;
-      unions = c.in_ok-write_both.ensures.unions;
-      beside = c.in_ok-write_both.ensures.beside;
-      count = ap length written.1.0 ∙ length-set table k row ∙ c.loop-vertex.invariant.count;
-      reached = rw written.1.0 (table_set (IsReachRow (plain_graph c.args.direct.now) (plain_graph c.args.graph.now) (table_of c.args.firsts.now)) table row c.args.order.now c.loop-vertex.vertex-index c.loop-vertex-test.true below c.loop-vertex.invariant.reached is);
+      rows = c.add_rows.ensures.size.rows ∙ c.insert_all.ensures.size.rows ∙ l.invariant.rows;
+      columns = c.add_rows.ensures.size.columns ∙ c.insert_all.ensures.size.columns ∙ l.invariant.columns;
+      written = written_more (λ a x. IsIn (get_or direct a []) x) graph (Reaches direct graph) (reached_is direct graph) c.args.order.now k l.table c.insert_all.new.table c.add_rows.new.table c.loop-vertex-test.true ordered.1 l.invariant.written
+          (rw items c.insert_all.ensures.holds) (rw neighbors c.add_rows.ensures.holds);
     }
-
-pub returns-clause-table : goal.returns-clause-table
-returns-clause-table c = record {
-  count = c.loop-vertex.invariant.count;
-  rows = λ v l. c.loop-vertex.invariant.reached v (rw (take_all c.loop-vertex.vertex-index c.args.order.now c.loop-vertex-test.false) (c.requires.all v l));
-}

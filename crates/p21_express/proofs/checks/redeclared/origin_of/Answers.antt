@@ -1,42 +1,50 @@
-use Rattle.p21_express.specs.Plain.{plain_schema}
+use Rattle.std.proofs.Common.{◌<◌, sym, subst, ◌∙◌}
+use Rattle.std.proofs.lemmas.Bool.{false≢true}
+use Rattle.std.proofs.lemmas.Option.{slice_get_within}
 use Rattle.p21_express.specs.Again.{plain_again}
-use Rattle.p21_express.specs.Index.{IsEntityAt}
-use Rattle.p21_express.proofs.DescentLemmas.{entity_within, still_known, vertex, turned_vertex, over}
-use Rattle.p21_express.proofs.AncestryLemmas.{none_at, no_entity, not_itself, no_ancestor, again_only, only_again, not_allowed}
-use Rattle.p21_express.proofs.SearchLemmas.{none_given}
+use Rattle.p21_express.specs.Plain.{plain_schema}
+use Rattle.p21_express.proofs.AncestryLemmas.{again_only, entity_within, no_ancestor, no_entity, not_allowed, not_itself, only_again}
 use Rattle.p21_express.proofs.checks.redeclared.origin_of.Goals as goal
 
-pub has-requires : goal.has-requires
-has-requires c =
-    let up = turned_vertex c.args.known.now c.args.owners.now c.requires.known in
-    (c.requires.known.owners.turned, (c.requires.known.owners.descents.reaches, (up c.in-Some.of (entity_within (plain_schema c.args.known.now.declarations.now) c.in-Some.of c.args.again.of.now (c.in-Some.ensures (plain_schema c.args.known.now.declarations.now) c.requires.index).0), up c.args.position c.requires.position)))
+pub has-requires-clause-column : goal.has-requires-clause-column
+has-requires-clause-column c =
+    let s = plain_schema c.args.known.now.declarations.now in
+    subst (λ u. c.in_ok-of.of < u) (sym c.requires.ancestry.columns) (entity_within s c.in_ok-of.of c.args.again.of.now (c.in_ok-of.ensures s c.requires.index).0)
 
-pub only-requires : goal.only-requires
-only-requires c = ((plain_schema c.args.known.now.declarations.now), (c.requires.known.supertypes, (c.requires.known.owners, vertex c.args.known.now c.args.owners.now c.requires.known c.in-Some.of (entity_within (plain_schema c.args.known.now.declarations.now) c.in-Some.of c.args.again.of.now (c.in-Some.ensures (plain_schema c.args.known.now.declarations.now) c.requires.index).0))))
+pub only_owner-requires-clause-of : goal.only_owner-requires-clause-of
+only_owner-requires-clause-of c =
+    let s = plain_schema c.args.known.now.declarations.now in
+    entity_within s c.in_ok-of.of c.args.again.of.now (c.in_ok-of.ensures s c.requires.index).0
 
-pub returns-in_default-2-clause-known : goal.returns-in_default-2-clause-known
-returns-in_default-2-clause-known c = still_known c.args.known.now c.args.owners.now c.requires.known c.only.new.self (c.in_ok-owner.ensures.owners (plain_schema c.args.known.now.declarations.now) c.requires.known.supertypes c.requires.known.owners (vertex c.args.known.now c.args.owners.now c.requires.known c.in-Some.of (entity_within (plain_schema c.args.known.now.declarations.now) c.in-Some.of c.args.again.of.now (c.in-Some.ensures (plain_schema c.args.known.now.declarations.now) c.requires.index).0)))
+pub is_allowed-requires : goal.is_allowed-requires
+is_allowed-requires c = let new = c.in_ok-owner.ensures.owner.newly in slice_get_within (plain_schema c.args.known.now.declarations.now).entities c.in_ok-owner.owner new.entity new.there
 
-pub returns-then-not-is_allowed-clause-known : goal.returns-then-not-is_allowed-clause-known
-returns-then-not-is_allowed-clause-known c = still_known c.args.known.now c.args.owners.now c.requires.known c.only.new.self (c.in_ok-owner.ensures.owners (plain_schema c.args.known.now.declarations.now) c.requires.known.supertypes c.requires.known.owners (vertex c.args.known.now c.args.owners.now c.requires.known c.in-Some.of (entity_within (plain_schema c.args.known.now.declarations.now) c.in-Some.of c.args.again.of.now (c.in-Some.ensures (plain_schema c.args.known.now.declarations.now) c.requires.index).0)))
+pub returns-in_err-of : goal.returns-in_err-of
+returns-in_err-of c = λ e here.
+    let s = plain_schema c.args.known.now.declarations.now in
+    rw c.from_residual.ensures (no_entity s c.requires.index.distinct c.requires.unknown c.requires.cycles.entities c.args.known.now.ancestry c.requires.ancestry c.args.position e here (plain_again c.args.again) (c.in_err-of.ensures s c.requires.index))
 
-pub returns-clause-known : goal.returns-clause-known
-returns-clause-known c = still_known c.args.known.now c.args.owners.now c.requires.known c.only.new.self (c.in_ok-owner.ensures.owners (plain_schema c.args.known.now.declarations.now) c.requires.known.supertypes c.requires.known.owners (vertex c.args.known.now c.args.owners.now c.requires.known c.in-Some.of (entity_within (plain_schema c.args.known.now.declarations.now) c.in-Some.of c.args.again.of.now (c.in-Some.ensures (plain_schema c.args.known.now.declarations.now) c.requires.index).0)))
+pub returns-then-of-position : goal.returns-then-of-position
+returns-then-of-position c = λ e here.
+    let s = plain_schema c.args.known.now.declarations.now in
+    not_itself s c.requires.index.distinct c.requires.unknown c.requires.cycles.entities c.args.known.now.ancestry c.requires.ancestry c.args.position e here (plain_again c.args.again) c.in_ok-of.of (c.in_ok-of.ensures s c.requires.index) c.if-of-position.true
 
-pub returns-in_default-clause-origin : goal.returns-in_default-clause-origin
-returns-in_default-clause-origin c = λ e here. no_entity (plain_schema c.args.known.now.declarations.now) c.requires.index.distinct c.requires.known.unknown c.requires.known.supertypes c.requires.known.are_supertypes c.requires.known.acyclic c.args.position e here (plain_again c.args.again) (none_at (IsEntityAt (plain_schema c.args.known.now.declarations.now)) c.args.again.of.now c.entity_at.result c.in_default.not-Some (c.entity_at.ensures (plain_schema c.args.known.now.declarations.now) c.requires.index))
+pub returns-then-not-has : goal.returns-then-not-has
+returns-then-not-has c = λ e here.
+    let s = plain_schema c.args.known.now.declarations.now in
+    no_ancestor s c.requires.index.distinct c.requires.unknown c.requires.cycles.entities c.args.known.now.ancestry c.requires.ancestry c.args.position e here (plain_again c.args.again) c.in_ok-of.of (c.in_ok-of.ensures s c.requires.index) (λ h. false≢true (sym c.if-not-has.true ∙ c.has.ensures.1 h))
 
-pub returns-then-of-position-clause-origin : goal.returns-then-of-position-clause-origin
-returns-then-of-position-clause-origin c = λ e here. not_itself (plain_schema c.args.known.now.declarations.now) c.requires.index.distinct c.requires.known.unknown c.requires.known.supertypes c.requires.known.are_supertypes c.requires.known.acyclic c.args.position e here (plain_again c.args.again) c.in-Some.of (c.in-Some.ensures (plain_schema c.args.known.now.declarations.now) c.requires.index) c.if-of-position.true
+pub returns-in_err-owner : goal.returns-in_err-owner
+returns-in_err-owner c = λ e here.
+    let s = plain_schema c.args.known.now.declarations.now in
+    rw c.from_residual-in_err-owner.ensures (λ i h. c.in_err-owner.ensures i (again_only s c.requires.index.distinct c.requires.unknown c.requires.cycles.entities c.args.known.now.ancestry c.requires.ancestry c.args.position e here (plain_again c.args.again) c.in_ok-of.of (c.in_ok-of.ensures s c.requires.index) i h))
 
-pub returns-then-not-has-clause-origin : goal.returns-then-not-has-clause-origin
-returns-then-not-has-clause-origin c = λ e here. no_ancestor (plain_schema c.args.known.now.declarations.now) c.requires.index.distinct c.requires.known.unknown c.requires.known.supertypes c.requires.known.are_supertypes c.requires.known.acyclic c.args.position e here (plain_again c.args.again) c.in-Some.of (c.in-Some.ensures (plain_schema c.args.known.now.declarations.now) c.requires.index) (λ r. let t = (c.has.ensures c.requires.known.owners.turned c.requires.known.owners.descents.reaches (turned_vertex c.args.known.now c.args.owners.now c.requires.known c.in-Some.of (entity_within (plain_schema c.args.known.now.declarations.now) c.in-Some.of c.args.again.of.now (c.in-Some.ensures (plain_schema c.args.known.now.declarations.now) c.requires.index).0)) (turned_vertex c.args.known.now c.args.owners.now c.requires.known c.args.position c.requires.position)).1 ((over c.args.known.now c.args.owners.now c.requires.known c.in-Some.of c.args.position (entity_within (plain_schema c.args.known.now.declarations.now) c.in-Some.of c.args.again.of.now (c.in-Some.ensures (plain_schema c.args.known.now.declarations.now) c.requires.index).0) c.requires.position).1 r) in let f = c.if-not-has.true in cc)
+pub returns-then-is_allowed : goal.returns-then-is_allowed
+returns-then-is_allowed c = λ e here.
+    let s = plain_schema c.args.known.now.declarations.now in
+    only_again s c.requires.index.distinct c.requires.unknown c.requires.cycles.entities c.args.known.now.ancestry c.requires.ancestry c.args.position e here (plain_again c.args.again) c.in_ok-of.of (c.in_ok-of.ensures s c.requires.index) c.in_ok-owner.owner c.if-of-position.false (c.has.ensures.0 c.if-not-has.false) c.in_ok-owner.ensures c.if-is_allowed.ensures
 
-pub returns-in_default-2-clause-origin : goal.returns-in_default-2-clause-origin
-returns-in_default-2-clause-origin c = λ e here i h. none_given c.in_ok-owner.field-0 _ _ c.in_default-2.not-Some (c.in_ok-owner.ensures.only (plain_schema c.args.known.now.declarations.now) c.requires.known.supertypes c.requires.known.owners (vertex c.args.known.now c.args.owners.now c.requires.known c.in-Some.of (entity_within (plain_schema c.args.known.now.declarations.now) c.in-Some.of c.args.again.of.now (c.in-Some.ensures (plain_schema c.args.known.now.declarations.now) c.requires.index).0))) i (again_only (plain_schema c.args.known.now.declarations.now) c.requires.index.distinct c.requires.known.unknown c.requires.known.supertypes c.requires.known.are_supertypes c.requires.known.acyclic c.args.position e here (plain_again c.args.again) c.in-Some.of (c.in-Some.ensures (plain_schema c.args.known.now.declarations.now) c.requires.index) i h)
-
-pub returns-then-not-is_allowed-clause-origin : goal.returns-then-not-is_allowed-clause-origin
-returns-then-not-is_allowed-clause-origin c = λ e here i h. not_allowed (plain_schema c.args.known.now.declarations.now) c.requires.index.distinct c.requires.known.unknown c.requires.known.supertypes c.requires.known.are_supertypes c.requires.known.acyclic c.args.position e here (plain_again c.args.again) c.in-Some.of (c.in-Some.ensures (plain_schema c.args.known.now.declarations.now) c.requires.index) c.in-Some-2.owner (rw c.in-Some-2.is at (c.in_ok-owner.ensures.only (plain_schema c.args.known.now.declarations.now) c.requires.known.supertypes c.requires.known.owners (vertex c.args.known.now c.args.owners.now c.requires.known c.in-Some.of (entity_within (plain_schema c.args.known.now.declarations.now) c.in-Some.of c.args.again.of.now (c.in-Some.ensures (plain_schema c.args.known.now.declarations.now) c.requires.index).0)))) (rw c.if-not-is_allowed.true at c.is_allowed.ensures) i h
-
-pub returns-clause-origin : goal.returns-clause-origin
-returns-clause-origin c = λ e here. only_again (plain_schema c.args.known.now.declarations.now) c.requires.index.distinct c.requires.known.unknown c.requires.known.supertypes c.requires.known.are_supertypes c.requires.known.acyclic c.args.position e here (plain_again c.args.again) c.in-Some.of (c.in-Some.ensures (plain_schema c.args.known.now.declarations.now) c.requires.index) c.in-Some-2.owner c.if-of-position.false ((over c.args.known.now c.args.owners.now c.requires.known c.in-Some.of c.args.position (entity_within (plain_schema c.args.known.now.declarations.now) c.in-Some.of c.args.again.of.now (c.in-Some.ensures (plain_schema c.args.known.now.declarations.now) c.requires.index).0) c.requires.position).0 ((c.has.ensures c.requires.known.owners.turned c.requires.known.owners.descents.reaches (turned_vertex c.args.known.now c.args.owners.now c.requires.known c.in-Some.of (entity_within (plain_schema c.args.known.now.declarations.now) c.in-Some.of c.args.again.of.now (c.in-Some.ensures (plain_schema c.args.known.now.declarations.now) c.requires.index).0)) (turned_vertex c.args.known.now c.args.owners.now c.requires.known c.args.position c.requires.position)).0 c.if-not-has.false)) (rw c.in-Some-2.is at (c.in_ok-owner.ensures.only (plain_schema c.args.known.now.declarations.now) c.requires.known.supertypes c.requires.known.owners (vertex c.args.known.now c.args.owners.now c.requires.known c.in-Some.of (entity_within (plain_schema c.args.known.now.declarations.now) c.in-Some.of c.args.again.of.now (c.in-Some.ensures (plain_schema c.args.known.now.declarations.now) c.requires.index).0)))) (rw c.if-not-is_allowed.false at c.is_allowed.ensures)
+pub returns-else-is_allowed : goal.returns-else-is_allowed
+returns-else-is_allowed c = λ e here.
+    let s = plain_schema c.args.known.now.declarations.now in
+    not_allowed s c.requires.index.distinct c.requires.unknown c.requires.cycles.entities c.args.known.now.ancestry c.requires.ancestry c.args.position e here (plain_again c.args.again) c.in_ok-of.of (c.in_ok-of.ensures s c.requires.index) c.in_ok-owner.owner c.in_ok-owner.ensures c.if-is_allowed.ensures
