@@ -5,20 +5,22 @@ use Rattle.std.proofs.lemmas.Bool.{cases_eq, cases_lt}
 use Rattle.std.proofs.lemmas.List.{length-map, get_or-map, length-set, get_or-set_same, get_or-set_other, take_more, append-nil, map-append, get_or-replicate, length-replicate, get_or_past}
 use Rattle.std.proofs.lemmas.Slice.Zip.{all_zipped_more}
 use Rattle.p21_express.specs.Schema.{Schema, Entity, Attribute, Derived}
-use Rattle.p21_express.specs.WellFormed.{IsIn, AreDistinct, IsEntity, IsKnown, Origin, IsOrigin, IsNewIn, IsAncestor, DeclaresAgain, DeclareAgain, IsRedeclaring, IsWellFormed, Redeclaration, redeclarations, again_explicit, again_derived, with_again, new_explicit, new_derived, new_names, with_new, HasNoUnknown}
-use Rattle.p21_graph.specs.Graph.{one, more}
-use Rattle.p21_graph.specs.MemberLaws.{at_place, in_either, in_left, in_right, from_map, holds_of, same_place, distinct_apart}
+use Rattle.p21_express.specs.WellFormed.{IsIn, IsEntity, IsKnown, Origin, IsOrigin, IsNewIn, IsAncestor, DeclaresAgain, DeclareAgain, IsRedeclaring, IsWellFormed, Redeclaration, redeclarations, again_explicit, again_derived, with_again, new_explicit, new_derived, with_new, HasNoUnknown}
 use Rattle.p21_schema.specs.declared.declarations.Declaration.{Declaration as Coded}
-use Rattle.p21_graph.specs.declared.ranges.Range.{Range}
+use Rattle.p21_schema.specs.declared.rows.Own.{Own}
 use Rattle.p21_schema.specs.Place.{no_entity, entity_name}
 use Rattle.p21_schema.specs.Ancestry.{entity_id, IsA}
 use Rattle.p21_schema.specs.Row.{own_attributes, attributes_of, no_attribute}
-use Rattle.p21_schema.specs.RowTable.{IsOwnTable}
-use Rattle.p21_graph.specs.Lists.{no_own}
-use Rattle.p21_schema.specs.Declaration.{Declaration, Written, written_explicit, explicit_in, derived_in, written, is_explicit, Declares, newly, again, Chosen, none, kept, dropped, declaration, AreDeclarations, IsResolvedDeclaration, AreResolvedIn}
-use Rattle.p21_schema.specs.DeclarationTable.{AreAmong, IsDeclarationTable, IsNotOwn, IsOwnAt, HasOneOrigin, IsOriginAt, IsDeclared}
-use Rattle.p21_schema.proofs.AncestryLemmas.{distinct_entities, supertypes_known, name_at, name_count}
-use Rattle.p21_schema.proofs.RowLemmas.{own_at, own_below, attributes_distinct, later_new}
+use Rattle.p21_schema.specs.RowTable.{IsOwnTable, no_own}
+use Rattle.p21_schema.specs.Declaration.{derived, explicit, Declaration, Written, written_explicit, written_derived, explicit_in, derived_in, written, is_explicit, Declares, newly, again, Chosen, none, kept, dropped, declaration, AreDeclarations, IsResolvedDeclaration, AreResolvedIn}
+use Rattle.p21_schema.specs.DeclarationTable.{AreAmong, IsDeclarationTable, IsNotOwn, IsOwnAt, IsOriginAt, IsDeclared}
+use Rattle.p21_graph.specs.Graph.{one, more}
+use Rattle.p21_graph.specs.MemberLaws.{at_place, in_either, in_left, in_right, from_map, holds_of, same_place}
+use Rattle.p21_schema.proofs.AncestryLemmas.{distinct_entities, supertypes_known}
+use Rattle.p21_schema.proofs.RowLemmas.{own_at, own_below, attributes_distinct}
+
+pub not_last : {X : Type 0} (xs : List X) (y x : X) → ¬ (IsIn xs x) → ¬ (y ≡ x) → ¬ (IsIn (xs ++ y ∷ []) x)
+not_last xs y x h n i = ⊎_elim (λ (l : IsIn xs x). h l) (λ (r : IsIn (y ∷ []) x). ⊎_elim (λ (e : y ≡ x). n e) (λ (f : ⊥). absurd f) r) (in_either xs (y ∷ []) x i)
 
 -- ---- what is newly declared
 
@@ -26,7 +28,11 @@ use Rattle.p21_schema.proofs.RowLemmas.{own_at, own_below, attributes_distinct, 
 in_new : (xs : List Attribute) (a : Attribute) → IsIn xs a → a.of ≡ None → IsIn (new_explicit xs) a.name
 in_new [] a i e = absurd i
 in_new (x ∷ xs) a (inl h) e = subst (λ (o : Option (List ℕ)). IsIn (with_new o x.name (new_explicit xs)) a.name) (sym (ap (λ (b : Attribute). b.of) h ∙ e)) (inl (ap (λ (b : Attribute). b.name) h))
-in_new (x ∷ xs) a (inr h) e = later_new x.of x.name a.name (new_explicit xs) (in_new xs a h e)
+in_new (x ∷ xs) a (inr h) e = later x.of x.name (new_explicit xs) (in_new xs a h e)
+  where
+    later : (o : Option (List ℕ)) (n : List ℕ) (ns : List (List ℕ)) → IsIn ns a.name → IsIn (with_new o n ns) a.name
+    later None n ns i = inr i
+    later (Some p) n ns i = i
 
 -- an attribute of some entities is newly declared by one of them
 from_attributes : (es : List Entity) (o : Origin) → IsIn (attributes_of es) o → (d : ℕ) × ((d < length es) × ((o.entity ≡ (get_or es d no_entity).name) × IsIn (new_explicit (get_or es d no_entity).attributes) o.name))
@@ -41,14 +47,14 @@ from_attributes (e ∷ es) o i = ⊎_elim
     (suc h.0, (omega (arith, less), h.1.1)))
     (in_either (own_attributes e) (attributes_of es) o i)
 
-pub own_is_at : (s : Schema) (table : List Range) (e : ℕ) (own : Range) (n : List ℕ) (k i : ℕ) → IsOwnTable s table → e < length s.entities → get_or table e no_own ≡ own → (k < length (new_explicit (get_or s.entities e no_entity).attributes)) × (get_or (new_explicit (get_or s.entities e no_entity).attributes) k [] ≡ n) → i ≡ own.from + k → IsOwnAt s e n i
+pub own_is_at : (s : Schema) (table : List Own) (e : ℕ) (own : Own) (n : List ℕ) (k i : ℕ) → IsOwnTable s table → e < length s.entities → get_or table e no_own ≡ own → (k < length (new_explicit (get_or s.entities e no_entity).attributes)) × (get_or (new_explicit (get_or s.entities e no_entity).attributes) k [] ≡ n) → i ≡ own.from + k → IsOwnAt s e n i
 own_is_at s table e own n k i t less is found at =
     let entity = get_or s.entities e no_entity in
     let names = new_explicit entity.attributes in
     let origin : List ℕ → Origin = λ m. record { entity = entity.name; name = m } in
     let k_less : k < length names = found.0 in
     let k_less' : k < length (own_attributes entity) = rw (length-map names origin) k_less in
-    let from : i ≡ length (attributes_of (take e s.entities)) + k = at ∙ ap (λ (u : ℕ). u + k) (sym (ap (λ (u : Range). u.from) is) ∙ (t.rows e less).from) in
+    let from : i ≡ length (attributes_of (take e s.entities)) + k = at ∙ ap (λ (u : ℕ). u + k) (sym (ap (λ (u : Own). u.from) is) ∙ (t.rows e less).from) in
     record {
       below = subst (λ u. u < length (attributes_of s.entities)) (sym from) (own_below s.entities e k less k_less');
       is = ap (λ (u : ℕ). get_or (attributes_of s.entities) u no_attribute) from ∙ own_at s.entities e k no_attribute less k_less' ∙ get_or-map origin names k [] no_attribute k_less ∙ ap origin found.1;
@@ -119,29 +125,6 @@ module _ (s : Schema) (formed : IsWellFormed s) where
         origin = subst (λ (u : List ℕ). IsOrigin s of n u) by (above, new);
       }
 
-  -- what is declared again has one origin
-  pub one_origin : {e : List ℕ} {r : Redeclaration} {d : List ℕ} → DeclaresAgain s e r d → HasOneOrigin s r.of r.name
-  one_origin h = λ a b x y. h.only a x ∙ sym (h.only b y)
-
-  -- where there is one origin at most, two that newly declare the name are one entity
-  one_owner : (i a b : ℕ) (n : List ℕ) → HasOneOrigin s (entity_name s (entity_id i)) n → a < length s.entities → b < length s.entities → IsA s (entity_id i) (entity_id a) → IsA s (entity_id i) (entity_id b)
-      → IsIn (new_names (get_or s.entities a no_entity)) n → IsIn (new_names (get_or s.entities b no_entity)) n → a ≡ b
-  one_owner i a b n single less-a less-b over-a over-b newly-a newly-b =
-      let new : (e : ℕ) → e < length s.entities → IsIn (new_names (get_or s.entities e no_entity)) n → IsNewIn s (get_or s.entities e no_entity).name n =
-      λ e less newly. record { entity = get_or s.entities e no_entity; declared = at_place s.entities e no_entity less; name_is = refl; newly = newly } in
-      let same = single (get_or s.entities a no_entity).name (get_or s.entities b no_entity).name (over-a, new a less-a newly-a) (over-b, new b less-b newly-b) in
-      same_place (map (λ (e : Entity). e.name) s.entities) a b [] (distinct_entities s formed.repeated) (subst (λ u. a < u) (sym (name_count s)) less-a) (subst (λ u. b < u) (sym (name_count s)) less-b) (name_at s a ∙ same ∙ sym (name_at s b))
-
-  -- and where one of them newly declares it in DERIVE, none does as an explicit one
-  pub none_beside : (i d : ℕ) (n : List ℕ) → HasOneOrigin s (entity_name s (entity_id i)) n → d < length s.entities → IsA s (entity_id i) (entity_id d) → IsIn (new_derived (get_or s.entities d no_entity).derived) n
-      → (e : ℕ) → e < length s.entities → IsA s (entity_id i) (entity_id e) → IsNotOwn s e n
-  none_beside i d n single less over derived_there e less' over' = λ own.
-      let this = get_or s.entities d no_entity in
-      let other = get_or s.entities e no_entity in
-      let same : e ≡ d = one_owner i e d n single less' less over' over (in_left (new_explicit other.attributes) (new_derived other.derived) n own) (in_right (new_explicit this.attributes) (new_derived this.derived) n derived_there) in
-      distinct_apart (new_explicit this.attributes) (new_derived this.derived) n (holds_of (λ (x : Entity). AreDistinct (new_names x)) s.entities this formed.repeated.attributes (at_place s.entities d no_entity less))
-      (subst (λ (u : ℕ). IsIn (new_explicit (get_or s.entities u no_entity).attributes) n) same own) derived_there
-
 -- ---- what is declared
 
 module _ (s : Schema) (formed : IsWellFormed s) where
@@ -162,6 +145,14 @@ module _ (s : Schema) (formed : IsWellFormed s) where
       let o = get_or (attributes_of s.entities) i no_attribute in
       let same : d ≡ o.entity = sym (one_is.only o.entity h.origin) in
       (h.below, again of self (sym h.name) (subst (λ (u : List ℕ). DeclaresAgain s w.entity (record { of = of; name = w.name; explicit = is_explicit w.form }) u) same one_is))
+
+  -- an attribute of DERIVE without SELF declares lone explicit attribute
+  pub not_declared : (e : List ℕ) (a : Derived) → a.of ≡ None → IsDeclared s (written_derived e a) None
+  not_declared e a lone = λ o i. by o
+    where
+      by : (o : Origin) → ¬ (Declares s o (written_derived e a))
+      by o (newly b x f form en n) = absurd (let bad : derived ≡ explicit b x = form in cc)
+      by o (again of f n r) = absurd (let bad : None ≡ Some of = sym lone ∙ f in cc)
 
   -- it declares one attribute at most
   one_declared : {o p : Origin} {w : Written} → Declares s o w → Declares s p w → o ≡ p

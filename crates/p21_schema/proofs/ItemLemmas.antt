@@ -1,22 +1,13 @@
--- The items of enumerations, as they are searched.
-use Rattle.std.proofs.Common.{◌≡◌, ◌↔◌, ℕ, ◌+◌, ◌<◌, ◌≤◌, List, [], ◌∷◌, ◌++◌, Vec, Global, length, get_or, take, map, sym, ap, ◌∙◌, subst, ⊎_elim, arith, Less, Equal, Greater}
-use Rattle.std.specs.List.{HoldsAt}
-use Rattle.std.specs.List.Sorted.{IsPermutation, IsPartitionPoint, IsNonDecreasingBy}
-use Rattle.std.specs.Ordering.{nat_cmp, ordering_index}
-use Rattle.std.specs.Cmp.Lexicographic.{slice_cmp}
-use Rattle.std.proofs.lemmas.Bool.{cases_eq, cases_lt}
-use Rattle.std.proofs.lemmas.Cmp.{nat_list_cmp_total, tied_itself}
-use Rattle.std.proofs.lemmas.Map.Lookups.{exact_bytes}
-use Rattle.std.proofs.lemmas.List.{get_or_append_left, get_or_push, length_push, get_or-take, length-take-le, length-map, get_or-map, take_all}
-use Rattle.std.proofs.lemmas.List.Sorted.{searchable_from_sorted, IsPermutation-sym}
-use Rattle.p21_express.specs.Schema.{Schema, Defined, Underlying, plain, named}
+-- Names among the items of enumerations.
+use Rattle.std.proofs.Common.{◌≡◌, ◌↔◌, ℕ, ◌+◌, ◌<◌, ◌≤◌, List, [], Vec, Global, length, get_or, take, map, refl, sym, ap, ◌∙◌, subst, ⊎_elim}
+use Rattle.std.proofs.lemmas.List.{length-map, get_or-map, take_all}
+use Rattle.p21_express.specs.Schema.{Schema, Defined, Underlying, items, select, plain, named}
 use Rattle.p21_express.specs.WellFormed.{IsIn, IsWellFormed}
-use Rattle.p21_graph.specs.MemberLaws.{place_of, at_place, in_map, from_map, front_more, same_place, in_permuted}
-use Rattle.p21_schema.specs.declared.ids.TypeId.{TypeId}
-use Rattle.p21_schema.specs.Place.{no_type, type_name, IsTypeOf}
-use Rattle.p21_schema.specs.Under.{StandsUnder, itself, followed, IsEnd, AreEnds}
+use Rattle.p21_graph.specs.MemberLaws.{place_of, at_place, front_more, same_place}
+use Rattle.p21_schema.specs.declared.resolved.Resolved.{Resolved}
+use Rattle.p21_schema.specs.declared.resolved.Resolved.TheVariants as resolved
+use Rattle.p21_schema.specs.Under.{StandsUnder, itself, followed, IsResolvedIn}
 use Rattle.p21_schema.specs.Items.{IsItemOf, HasItem}
-use Rattle.p21_schema.specs.ItemTable.{AreInOrder, IsNamesRow, AreNamesRows}
 use Rattle.p21_schema.proofs.UnderLemmas.{distinct_types, type_names}
 
 abbrev Name : Type 0
@@ -24,28 +15,6 @@ Name = Vec ℕ Global
 
 abbrev bytes : Name → List ℕ
 bytes v = v.items
-
--- ---- a search
-
-pub in_order : (xs : List Name) (n : List ℕ) → AreInOrder xs → IsNonDecreasingBy (λ y. ordering_index (slice_cmp nat_cmp y.items n)) xs
-in_order xs n h = searchable_from_sorted nat_list_cmp_total bytes xs n h
-
-pub found_there : (xs : List Name) (n : List ℕ) (i : ℕ) → i < length xs → HoldsAt (λ y. slice_cmp nat_cmp y.items n ≡ Equal) xs i → IsIn (map bytes xs) n
-found_there [] n i less h = absurd (omega arith)
-found_there (y ∷ ys) n i less h =
-    let e : (get_or (y ∷ ys) i y).items ≡ n = exact_bytes _ _ (h y) in
-    subst (IsIn (map bytes (y ∷ ys))) e (in_map bytes (y ∷ ys) (get_or (y ∷ ys) i y) (at_place (y ∷ ys) i y less))
-
-pub not_there : (xs : List Name) (n : List ℕ) (i : ℕ) → IsPartitionPoint (λ y. slice_cmp nat_cmp y.items n ≡ Less) (λ y. slice_cmp nat_cmp y.items n ≡ Greater) xs i → ¬ (IsIn (map bytes xs) n)
-not_there xs n i h m =
-    let f = from_map bytes xs n m in
-    let p = place_of xs f.0 f.1.0 in
-    let k = p.0 in
-    let equal : slice_cmp nat_cmp (get_or xs k f.0).items n ≡ Equal = subst (λ (u : List ℕ). slice_cmp nat_cmp u n ≡ Equal) (sym (ap bytes (p.1.1 f.0) ∙ f.1.1)) (tied_itself nat_list_cmp_total n) in
-    ⊎_elim
-    (λ (l : k < i). let e = h.0 k f.0 (omega arith) l in absurd (cc))
-    (λ (g : i ≤ k). let e = h.1 k f.0 g p.1.0 in absurd (cc))
-    (cases_lt k i)
 
 -- ---- one after the other
 
@@ -64,31 +33,6 @@ module _ (xs : List Name) (n : List ℕ) (i : ℕ) (x : Name) (less : i < length
 
 pub nowhere : (xs : List Name) (n : List ℕ) (i : ℕ) → length xs ≤ i → ¬ (IsIn (take i (map bytes xs)) n) → ¬ (IsIn (map bytes xs) n)
 nowhere xs n i h before = subst (λ (u : List (List ℕ)). ¬ (IsIn u n)) (take_all i (map bytes xs) (rw (length-map xs bytes) h)) before
-
--- ---- sorted
-
-pub same_sorted : (xs ys : List Name) (ns : List Name) → IsPermutation xs ys → map bytes xs ≡ map bytes ns → (n : List ℕ) → IsIn (map bytes ys) n ↔ IsIn (map bytes ns) n
-same_sorted xs ys ns h e n = (
-  λ m. let f = from_map bytes ys n m in subst (λ (u : List (List ℕ)). IsIn u n) e (subst (IsIn (map bytes xs)) f.1.1 (in_map bytes xs f.0 (in_permuted ys xs (IsPermutation-sym xs ys h) f.0 f.1.0))),
-  λ m. let f = from_map bytes xs n (subst (λ (u : List (List ℕ)). IsIn u n) (sym e) m) in subst (IsIn (map bytes ys)) f.1.1 (in_map bytes ys f.0 (in_permuted xs ys h f.0 f.1.0)),
-)
-
--- ---- a table
-
-pub rows_push : (found : List (Vec Name Global)) (all : List Defined) (row : Vec Name Global) (k : ℕ) → k < length all → AreNamesRows found (take k all) → IsNamesRow row.items (get_or all k no_type).under → AreNamesRows (found ++ row ∷ []) (take (k + 1) all)
-rows_push found all row k less h this = record {
-  count = length_push found row ∙ (λ j. h.count j + 1) ∙ ap (λ (n : ℕ). n + 1) (length-take-le k all (omega arith)) ∙ sym (length-take-le (k + 1) all (omega arith));
-  rows = λ i d l.
-      let long : length found ≡ k = h.count ∙ length-take-le k all (omega arith) in
-      let l' : i < k + 1 = subst (λ u. i < u) (length-take-le (k + 1) all (omega arith)) l in
-      ⊎_elim
-      (λ (e : i ≡ k). rw (e, get_or_push found row d k long, get_or-take (k + 1) all k no_type (omega arith)) this)
-      (λ (ne : (i ≡ k) → ⊥).
-      let before : i < k = omega arith in
-      let b : IsNamesRow (get_or found i d).items (get_or (take k all) i no_type).under = h.rows i d (subst (λ u. i < u) (sym (length-take-le k all (omega arith))) before) in
-      rw (get_or_append_left found (row ∷ []) d i (omega arith), get_or-take (k + 1) all i no_type l') (rw (get_or-take k all i no_type before) at b))
-      (cases_eq i k);
-}
 
 -- ---- what stands under a type is one
 
@@ -116,16 +60,27 @@ module _ (s : Schema) (formed : IsWellFormed s) where
       let same : m' ≡ m = cc in
       one_under d (subst (λ x. StandsUnder s x v) same d')
 
-  pub has_by_row : (n m : List ℕ) (row : List Name) (u : Underlying) → StandsUnder s n u → IsNamesRow row u → IsIn (map bytes row) m ↔ HasItem s n m
-  has_by_row n m row u stands h = (
-    λ i. record { under = u; stands = stands; item = (h.items m).0 i },
-    λ i. (h.items m).1 (subst (λ x. IsItemOf x m) (one_under i.stands stands) i.item),
-  )
+  same_item : (m : List ℕ) {n : List ℕ} {u v : Underlying} → StandsUnder s n u → StandsUnder s n v → IsItemOf u m → IsItemOf v m
+  same_item m a b i = subst (λ x. IsItemOf x m) (one_under a b) i
 
--- ---- what a table tells
+  -- by what stands under a type its items are known
+  pub has_items : (n m : List ℕ) (v : Vec Name Global) → (u : Underlying) × (StandsUnder s n u × IsResolvedIn s (resolved.Items v) u) → IsIn (map bytes v.items) m ↔ HasItem s n m
+  has_items n m v h = by h.0 h.1.0 h.1.1
+    where
+      by : (u : Underlying) → StandsUnder s n u → IsResolvedIn s (resolved.Items v) u → IsIn (map bytes v.items) m ↔ HasItem s n m
+      by (items ns) stands e = (λ i. record { under = items ns; stands = stands; item = subst (λ (x : List (List ℕ)). IsIn x m) e i }, λ h. subst (λ (x : List (List ℕ)). IsIn x m) (sym e) (same_item m h.stands stands h.item))
+      by (select ns) stands e = absurd e
+      by (plain x) stands e = absurd e
 
-pub row_of : (s : Schema) (ends : List ℕ) (found : List (Vec Name Global)) (t : TypeId) (end : ℕ) (row : Vec Name Global) → IsTypeOf s t → AreEnds s ends → AreNamesRows found s.types → get_or ends t.index 0 ≡ end → get_or found end row ≡ row
-    → (u : Underlying) × (StandsUnder s (type_name s t) u × IsNamesRow row.items u)
-row_of s ends found t end row less e r at is =
-    let h : IsEnd s t.index end = subst (λ u. IsEnd s t.index u) at (e.rows t.index less) in
-    ((get_or s.types end no_type).under, (h.stands, subst (λ (x : Vec Name Global). IsNamesRow x.items (get_or s.types end no_type).under) is (r.rows end row h.below)))
+  other_than_items : (r : Resolved) (ns : List (List ℕ)) → ((v : Vec Name Global) → ¬ (r ≡ resolved.Items v)) → ¬ (IsResolvedIn s r (items ns))
+  other_than_items (resolved.Items v) ns not = λ _. not v refl
+  other_than_items (resolved.Select v) ns not = λ e. e
+  other_than_items (resolved.Plain x) ns not = λ e. e
+
+  pub has_no_items : (n m : List ℕ) (r : Resolved) → ((v : Vec Name Global) → ¬ (r ≡ resolved.Items v)) → (u : Underlying) × (StandsUnder s n u × IsResolvedIn s r u) → ¬ (HasItem s n m)
+  has_no_items n m r other h = by h.0 h.1.0 h.1.1
+    where
+      by : (u : Underlying) → StandsUnder s n u → IsResolvedIn s r u → ¬ (HasItem s n m)
+      by (items ns) stands e = λ _. other_than_items r ns other e
+      by (select ns) stands e = λ i. same_item m i.stands stands i.item
+      by (plain x) stands e = λ i. same_item m i.stands stands i.item

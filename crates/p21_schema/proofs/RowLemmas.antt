@@ -17,8 +17,8 @@ use Rattle.p21_schema.specs.Place.{no_entity, entity_at, entity_name, IsEntityOf
 use Rattle.p21_schema.specs.Ancestry.{entity_id, AreNamed}
 use Rattle.p21_schema.specs.Row.{own_attributes, attributes_of, no_attribute, attribute_at, IsAttributeOf, same_origin, first_places, IsRow, AreRows, row, none, more}
 use Rattle.p21_schema.specs.RowTable.{same_id, kept, all_kept, ids_from, joined, IsOwn, IsOwnTable, IsRowAt}
-use Rattle.p21_graph.specs.Lists.{no_own}
-use Rattle.p21_graph.specs.declared.ranges.Range.{Range}
+use Rattle.p21_schema.specs.RowTable.{no_own}
+use Rattle.p21_schema.specs.declared.rows.Own.{Own}
 use Rattle.p21_schema.proofs.AncestryLemmas.{all_names, name_at}
 
 -- ---- each at its first place
@@ -180,6 +180,19 @@ own_below (e ∷ es) (suc i) k less h =
     let ih = own_below es i k (omega arith) h in
     omega (arith, ih, length-append (own_attributes e) (attributes_of (take i es)), length-append (own_attributes e) (attributes_of es))
 
+-- the own attributes of an entity stand upwards, and not behind the last of all
+pub own_upward : (s : Schema) (own : List Own) → IsOwnTable s own → (v : ℕ) → v < length own → (get_or own v no_own).from ≤ (get_or own v no_own).to
+own_upward s own t v less = let is = (t.rows v (subst (λ u. v < u) t.count less)).count in omega (arith, is)
+
+pub own_within : (s : Schema) (own : List Own) → IsOwnTable s own → (v : ℕ) → v < length own → (get_or own v no_own).to ≤ length (attributes_of s.entities)
+own_within s own t v less =
+    let at : v < length s.entities = subst (λ u. v < u) t.count less in
+    let is = t.rows v at in
+    let from = is.from in
+    let count = is.count in
+    let upto = attributes_le s.entities v at in
+    omega (arith, from, count, upto)
+
 -- ---- no attribute twice
 
 module _ {X : Type 0} where
@@ -262,7 +275,7 @@ names_map : (s : Schema) (es : List ℕ) → map (λ i. entity_name s (entity_id
 names_map s [] = refl
 names_map s (i ∷ is) = let first = name_at s i in let rest = names_map s is in λ j. sym first j ∷ rest j
 
-pub row_at : (s : Schema) (i : ℕ) (table : ℕ → List AttrId) (sups : List ℕ) (own : Range) (ids : List AttrId) → AreDistinct (attributes_of s.entities) → i < length s.entities → IsOwn s i own → AreNamed (all_names s) sups (get_or s.entities i no_entity).supertypes
+pub row_at : (s : Schema) (i : ℕ) (table : ℕ → List AttrId) (sups : List ℕ) (own : Own) (ids : List AttrId) → AreDistinct (attributes_of s.entities) → i < length s.entities → IsOwn s i own → AreNamed (all_names s) sups (get_or s.entities i no_entity).supertypes
     → ((e : ℕ) → IsIn sups e → IsRowAt s e (table e)) → ids ≡ all_kept [] (joined table sups ++ ids_from own.from (own.to - own.from)) → IsRowAt s i ids
 row_at s i table sups own ids distinct less is named rows e =
     let entity = get_or s.entities i no_entity in
@@ -282,7 +295,7 @@ row_at s i table sups own ids distinct less is named rows e =
       known = λ a j. known a (in_first same_id before a (subst (λ (u : List AttrId). IsIn u a) first j));
     }
   where
-    own_end : (s : Schema) (i : ℕ) (own : Range) → i < length s.entities → IsOwn s i own → own.from + (own.to - own.from) ≤ length (attributes_of s.entities)
+    own_end : (s : Schema) (i : ℕ) (own : Own) → i < length s.entities → IsOwn s i own → own.from + (own.to - own.from) ≤ length (attributes_of s.entities)
     own_end s i own less is = let m = attributes_le s.entities i less in omega (arith, m, is.count, is.from)
 
 -- ---- what the code knows of them
@@ -295,7 +308,7 @@ pub is_again : {X Y : Type 0} (f : X → Y) (o : Option X) (b : Bool) → is_som
 is_again f None b e h = absurd (false≢true (e ∙ ap not h))
 is_again f (Some x) b e h = (f x, refl)
 
-pub own_push : (s : Schema) (table : List Range) (own : Range) (k : ℕ) → length table ≡ k → ((i : ℕ) → i < k → IsOwn s i (get_or table i no_own)) → IsOwn s k own → (i : ℕ) → i < k + 1 → IsOwn s i (get_or (table ++ own ∷ []) i no_own)
+pub own_push : (s : Schema) (table : List Own) (own : Own) (k : ℕ) → length table ≡ k → ((i : ℕ) → i < k → IsOwn s i (get_or table i no_own)) → IsOwn s k own → (i : ℕ) → i < k + 1 → IsOwn s i (get_or (table ++ own ∷ []) i no_own)
 own_push s table own k long rows this i less =
     ⊎_elim
     (λ (e : i ≡ k). rw (e, get_or_push table own no_own k long) this)
@@ -361,9 +374,9 @@ module _ (s : Schema) (distinct : AreDistinct (map (λ (e : Entity). e.name) s.e
       let less' : k < length (map (attribute_at s) ids) = rw (length-map ids (attribute_at s)) less in
       ap (λ (u : List Origin). slice_get u k) same ∙ slice_at (map (attribute_at s) ids) k no_attribute less' ∙ ap (λ (u : Origin). Some u) (get_or-map (attribute_at s) ids k a no_attribute less ∙ ap (attribute_at s) (get_or_from_slice_get ids k a a is))
 
-module _ (s : Schema) (table : List Range) (e : EntityId) (own : Range) (t : IsOwnTable s table) (l : IsEntityOf s e) (is : get_or table e.index no_own ≡ own) where
+module _ (s : Schema) (table : List Own) (e : EntityId) (own : Own) (t : IsOwnTable s table) (l : IsEntityOf s e) (is : get_or table e.index no_own ≡ own) where
   own_of : IsOwn s e.index own
-  own_of = subst (λ (u : Range). IsOwn s e.index u) is (t.rows e.index l)
+  own_of = subst (λ (u : Own). IsOwn s e.index u) is (t.rows e.index l)
 
   pub own_known : (i k : ℕ) → k < length (own_attributes (entity_at s e)) → i ≡ own.from + k → IsAttributeOf s (record { index = i })
   own_known i k less at = subst (λ u. u < length (attributes_of s.entities)) (ap (λ (u : ℕ). u + k) (sym own_of.from) ∙ sym at) (own_below s.entities e.index k l less)

@@ -5,7 +5,7 @@ use Rattle.p21_express.specs.Schema.{Schema, Entity, Defined, Expr, Underlying, 
 use Rattle.p21_express.specs.WellFormed.{IsSelect, IsSupertype, IsOther, IsInnerSelect, Leads, HasNoCycle, IsNewIn, IsNewInDerive, IsOrigin, DeclaresAgain, DeclareAgain, IsRedeclaring, Redeclaration, Origin, IsKnownUnder, IsAllowedAlone, IsWellFormed}
 use Rattle.p21_graph.specs.Graph as way
 use Rattle.p21_schema.specs.declared.rules.Rules.{Rules}
-use Rattle.p21_graph.specs.declared.ranges.Range.{Range}
+use Rattle.p21_schema.specs.declared.rows.Own.{Own}
 use Rattle.p21_schema.specs.RowTable.{IsOwnTable}
 use Rattle.p21_schema.specs.Rules.{with_rules}
 
@@ -83,7 +83,7 @@ module _ (n : List ℕ) (es : List Entity) (ts : List Defined) where
       redeclared = all_too redeclaring_too es h.redeclared;
     }
 
-pub own_with : (s : Schema) (r : Rules) (table : List Range) → IsOwnTable s table → IsOwnTable (with_rules s r) table
+pub own_with : (s : Schema) (r : Rules) (table : List Own) → IsOwnTable s table → IsOwnTable (with_rules s r) table
 own_with s r table h = record { count = h.count; rows = λ i less. let k = h.rows i less in record { from = k.from; count = k.count } }
 
 pub fits_with : (s : Schema) (r : Rules) → IsWellFormed s → IsWellFormed (with_rules s r)

@@ -3,12 +3,10 @@ use Rattle.std.specs.Prelude.{◌≡◌, ◌<◌, ℕ, List, [], map, length, ge
 use Rattle.p21_express.specs.Plain.{plain_schema}
 use Rattle.p21_express.specs.Schema.{Schema}
 use Rattle.p21_express.specs.WellFormed.{IsIn, IsWellFormed, IsOrigin, Origin, new_explicit}
-use Rattle.p21_graph.specs.declared.sources.Sources.{Sources}
 use Rattle.p21_schema.specs.declared.declarations.Declaration.{Declaration as Coded}
 use Rattle.p21_schema.specs.declared.declarations.Known.{Known}
 use Rattle.p21_schema.specs.Ancestry.{IsDescentTable}
 use Rattle.p21_schema.specs.Declaration.{Declaration, Written, Declares, Chosen, declaration, AreResolvedIn}
-use Rattle.p21_schema.specs.Owners.{AreOwners, AreAllSources}
 use Rattle.p21_schema.specs.Place.{no_entity}
 use Rattle.p21_schema.specs.Row.{attributes_of, no_attribute}
 use Rattle.p21_schema.specs.RowTable.{IsOwnTable}
@@ -35,10 +33,6 @@ pub record IsOwnAt (s : Schema) (e : ℕ) (n : List ℕ) (i : ℕ) : Type 0 wher
   pub is : get_or (attributes_of s.entities) i no_attribute ≡ record { entity = (get_or s.entities e no_entity).name; name = n }
   pub newly : IsIn (new_explicit (get_or s.entities e no_entity).attributes) n
 
--- among an entity and its ancestors one at most newly declares this name
-abbrev pub HasOneOrigin : Schema → List ℕ → List ℕ → Type 0
-HasOneOrigin s of n = (a b : List ℕ) → IsOrigin s of n a → IsOrigin s of n b → a ≡ b
-
 -- the attribute at a place is one of this name that an entity or an ancestor of it newly declares
 pub record IsOriginAt (s : Schema) (of n : List ℕ) (i : ℕ) : Type 0 where
   pub below : i < length (attributes_of s.entities)
@@ -60,8 +54,3 @@ pub record IsFitting (k : Known) : Type 0 where
   pub types : k.types.now ≡ map (λ t. t.name) (known_schema k).types
   pub descents : IsDescentTable (known_schema k) k.descents.now
   pub own : IsOwnTable (known_schema k) k.own.now
-  pub owners : AreOwners (known_schema k) (length (known_schema k).entities) k.owners.now
-
--- of some of its entities it is asked which one alone is above another
-abbrev pub AreEntitySources : Known → List Sources → Type 0
-AreEntitySources k all = (g : List (List ℕ)) → length g ≡ length (known_schema k).entities → AreAllSources g k.descents.now all

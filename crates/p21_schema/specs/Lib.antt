@@ -5,16 +5,12 @@ pub mod Ancestry
 pub mod Tables
 pub mod Row
 pub mod RowTable
+pub mod Draft
 pub mod Resolved
 pub mod Under
 pub mod Declaration
-pub mod Owners
 pub mod DeclarationTable
-pub mod Binding
-pub mod Steps
-pub mod Spans
 pub mod Select
 pub mod SelectItems
 pub mod SelectTable
 pub mod Items
-pub mod ItemTable

@@ -8,12 +8,10 @@ use Rattle.p21_schema.specs.declared.schema.Schema.TheInside.{Inside}
 use Rattle.p21_schema.specs.Rules.{with_rules}
 use Rattle.p21_schema.specs.RowTable.{IsOwnTable, IsRowTable}
 use Rattle.p21_schema.specs.Under.{AreEnds, AreResolved}
-use Rattle.p21_schema.specs.ItemTable.{AreNamesRows}
 use Rattle.p21_schema.specs.Ancestry.{IsSupertypeTable, IsDescentTable}
 use Rattle.p21_schema.specs.Declaration.{written}
 use Rattle.p21_schema.specs.DeclarationTable.{IsDeclarationTable}
 use Rattle.p21_schema.specs.SelectTable.{AreSelectTables}
-use Rattle.p21_schema.specs.Spans.{IsBindingTable}
 
 -- the schema that the tables are of
 abbrev pub schema_of : Inside → Schema
@@ -28,8 +26,6 @@ pub record AreTables (a : Inside) : Type 0 where
   pub own : IsOwnTable (schema_of a) a.own.items
   pub rows : IsRowTable (schema_of a) a.rows
   pub attributes : IsDeclarationTable (schema_of a) (written (schema_of a).entities) (rows_of a.attributes)
-  pub bindings : IsBindingTable a.descents (rows_of a.attributes) a.bindings.items
   pub ends : AreEnds (schema_of a) a.ends.items
   pub resolved : AreResolved (map (λ e. e.name) (schema_of a).entities) (map (λ t. t.name) (schema_of a).types) a.unders.items (schema_of a).types
-  pub items : AreNamesRows a.items.items (schema_of a).types
   pub selects : AreSelectTables (schema_of a) (record { entities = a.reached_entities; admitted = a.admitted_entities; types = a.reached_types; any_entity = a.any_entity })

@@ -2,22 +2,17 @@
 #![tactic(auto)]
 
 mod ancestry;
-mod bindings;
 mod declarations;
+mod draft;
 mod ids;
-mod items;
 mod names;
-mod owners;
 mod resolved;
 mod rows;
 mod rules;
 mod schema;
 mod selects;
-mod spans;
-mod steps;
 mod under;
 
-pub use bindings::Binding;
 pub use declarations::{Declaration, Form};
 pub use ids::{AttrId, EntityId, TypeId};
 pub use p21_express::{Bounds, Width};

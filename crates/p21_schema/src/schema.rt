@@ -3,20 +3,16 @@
 ghost use Rattle.std.specs.Prelude.{◌≡◌, ◌<◌, ◌↔◌, List, Some, length, slice_get, IfOk, IsTrue, MatchOption};
 
 use crate::ancestry::{descents, supertype_ids, supertypes};
-use crate::bindings::{Binding, all_bindings, binding_at};
 use crate::declarations::{Declaration, Known, all_declarations};
 use crate::ids::{AttrId, EntityId, TypeId};
-use crate::items::{is_among, item_rows};
 use crate::names::{Names, entity_names, type_names};
-use crate::owners::Owners;
 use crate::resolved::Resolved;
-use crate::rows::{Rows, own_attributes};
+use crate::rows::{Own, Rows, own_attributes};
 use crate::rules::Rules;
 use crate::selects::{has, select_tables};
-use crate::steps::Step;
-use crate::under::{resolved, type_ends};
+use crate::under::{is_among, resolved, type_ends};
 use p21_express::Declarations;
-use p21_graph::{Range, Reach, order};
+use p21_graph::{Reach, order};
 use p21_hash::HashKey;
 use std::alloc::{AllocError, Global};
 use std::marker::Model;
@@ -31,18 +27,13 @@ pub struct Schema {
     /// For each entity which entities descend from it.
     descents: Reach,
     /// Where the attributes that each entity newly declares stand among those of all entities.
-    own: Vec<Range>,
+    own: Vec<Own>,
     rows: Rows,
     /// For each attribute its declarations.
     attributes: Vec<Vec<Declaration>>,
-    /// For each attribute that is declared more than once which of its declarations is met at each place of the descents, where they
-    /// can be told apart.
-    bindings: Vec<Option<Vec<Step>>>,
     /// The place of the type at which the way from each type ends, by the names that alone stand under types.
     ends: Vec<usize>,
     unders: Vec<Resolved>,
-    /// For each type the items of its ENUMERATION in the order of their bytes.
-    items: Vec<Vec<Vec<u8>>>,
     /// For each type which entities it reaches, where it is a SELECT.
     reached_entities: Reach,
     /// For each type the entities that it reaches, where it is a SELECT, and their descendants.
@@ -82,10 +73,8 @@ impl Drop for Schema {
             own: _,
             rows: _,
             attributes: _,
-            bindings: _,
             ends: _,
             unders: _,
-            items: _,
             reached_entities: _,
             admitted_entities: _,
             reached_types: _,
@@ -107,7 +96,6 @@ impl Schema {
     ghost use Rattle.p21_schema.specs.Ancestry.{NameEntities, IsA};
     ghost use Rattle.p21_schema.specs.Row.{IsRow, IsAttributeOf, attribute_at, own_attributes};
     ghost use Rattle.p21_schema.specs.Declaration.{Declaration as Declared, AreDeclarations, AreResolvedIn};
-    ghost use Rattle.p21_schema.specs.Binding.{IsBinding};
     ghost use Rattle.p21_schema.specs.Rules.{with_rules};
     ghost use Rattle.p21_schema.specs.Select.{SelectReaches, ReachesA, ReachesType, ReachesEntity};
 
@@ -144,7 +132,6 @@ impl Schema {
         let type_names = type_names(alloc, key, &declarations.types)?;
         let ends = type_ends(alloc, &type_names, &declarations.types)?;
         let unders = resolved(alloc, &entity_names, &type_names, &declarations.types)?;
-        let owners = Owners::new(alloc, key, &declarations.entities)?;
         let known = Known {
             declarations: &declarations,
             rules,
@@ -152,12 +139,9 @@ impl Schema {
             types: &type_names,
             descents: &descents,
             own: &own,
-            owners: &owners,
         };
         let attributes = all_declarations(alloc, &known, lists)?;
-        let bindings = all_bindings(alloc, &descents, &attributes)?;
         let selects = select_tables(alloc, &unders, &descents)?;
-        let items = item_rows(alloc, &declarations.types)?;
         Ok(Schema {
             declarations,
             rules,
@@ -168,10 +152,8 @@ impl Schema {
             own,
             rows,
             attributes,
-            bindings,
             ends,
             unders,
-            items,
             reached_entities: selects.entities,
             admitted_entities: selects.admitted,
             reached_types: selects.types,
@@ -316,7 +298,11 @@ impl Schema {
         requires { IsTypeOf self.now id }
         ensures { IsTrue result ↔ HasItem self.now (type_name self.now id) name.now }
     {
-        is_among(&self.items[self.ends[id.index]], name)
+        self.fits();
+        let Resolved::Items(items) = self.under(id) else {
+            return false;
+        };
+        is_among(items, name)
     }
 
     /// All declarations of an attribute, in the order of the text: the one that newly declares it, and each that declares it
@@ -326,19 +312,6 @@ impl Schema {
         ensures { (ds : List Declared) × (AreDeclarations self.now (attribute_at self.now attribute) ds × AreResolvedIn self.now result.now ds) }
     {
         &self.attributes[attribute.index]
-    }
-
-    /// What binds an attribute in an instance of one entity, which is of that entity and of its ancestors.
-    pub fn binding(&self, attribute: AttrId, entity: EntityId) -> Binding<'_>
-        requires attribute { IsAttributeOf self.now attribute }
-        requires entity { IsEntityOf self.now entity }
-        ensures { (ds : List Declared) → AreDeclarations self.now (attribute_at self.now attribute) ds → IsBinding self.now entity ds result }
-    {
-        let Some(steps) = &self.bindings[attribute.index] else {
-            return Binding::Unsaid;
-        };
-        let at = self.descents.places[entity.index];
-        binding_at(&self.attributes[attribute.index], steps, at)
     }
 
     /// The defined or enumeration type of this name that the SELECT reaches, or `None` where it reaches none. A SELECT

@@ -1,6 +1,6 @@
 //! What stands under each type.
 
-ghost use Rattle.std.specs.Prelude.{◌≡◌, ◌<◌, ◌⊎◌, List, ℕ, [], Some, length, get_or, map, IfOk, MatchOption};
+ghost use Rattle.std.specs.Prelude.{◌≡◌, ◌<◌, ◌⊎◌, ◌↔◌, List, ℕ, [], Some, length, get_or, map, IfOk, IsTrue, MatchOption};
 ghost use Rattle.std.specs.List.{AllByRecursion};
 ghost use Rattle.p21_express.specs.Schema.{Schema, Underlying, plain, named};
 ghost use Rattle.p21_express.specs.Plain.{plain_under, plain_type};
@@ -125,6 +125,18 @@ pub(crate) fn copied(alloc: Global, names: &[Vec<u8>]) -> Result<Vec<Vec<u8>>, A
         copies.push(Vec::from_slice(alloc, name)?)?;
     }
     Ok(copies)
+}
+
+/// Whether a name is one of these.
+pub(crate) fn is_among(names: &[Vec<u8>], name: &[u8]) -> bool
+    ensures { IsTrue result ↔ IsIn (map (λ n. n.items) names.now) name.now }
+{
+    for other in names {
+        if other.as_slice() == name {
+            return true;
+        }
+    }
+    false
 }
 
 fn resolve_under(

@@ -4,7 +4,7 @@ ghost use Rattle.p21_schema.specs.Row.{IsAttributeOf};
 
 use p21_express::{SchemaError, read_declarations};
 use p21_schema::{
-    AttrId, Binding, EntityId, Form, Resolved, ResolvedExpr, Rules, Schema, Target, TypeId,
+    AttrId, EntityId, Form, Resolved, ResolvedExpr, Rules, Schema, Target, TypeId,
 };
 use std::alloc::Global;
 use std::process::Abort;
@@ -457,76 +457,6 @@ fn admitted_entities(rt: HostRuntime) -> Result<(), Fail> {
     check_admitted(&rt, &schema, ADMITTED)
 }
 
-/// What is to bind an attribute.
-#[derive(Clone, Copy, Debug)]
-enum Bound {
-    Derived,
-    By(&'static [u8]),
-    Free,
-    Unsaid,
-}
-
-/// Whether this binds an entity's first own attribute in an instance of another.
-fn is_bound(schema: &Schema, owner: &[u8], name: &[u8], bound: Bound) -> Result<bool, Fail> {
-    let binding = schema.binding(attribute(schema, owner, 0)?, entity(schema, name)?);
-    Ok(match (binding, bound) {
-        (Binding::By(declaration), Bound::By(name)) => declaration.entity == entity(schema, name)?,
-        (Binding::Derived, Bound::Derived) => true,
-        (Binding::Free, Bound::Free) => true,
-        (Binding::Unsaid, Bound::Unsaid) => true,
-        _ => false,
-    })
-}
-
-/// B and C declare X again, one below the other, and so does D, their sibling; E does so in DERIVE, and G below it explicitly.
-const BOUND: &[u8] = b"SCHEMA s;\n\
-ENTITY f SUBTYPE OF (c); END_ENTITY;\n\
-ENTITY c SUBTYPE OF (b); SELF\\b.x : u; END_ENTITY;\n\
-ENTITY a; x : OPTIONAL t; END_ENTITY;\n\
-ENTITY b SUBTYPE OF (a); SELF\\a.x : t; END_ENTITY;\n\
-ENTITY d SUBTYPE OF (a); SELF\\a.x : u; END_ENTITY;\n\
-ENTITY e SUBTYPE OF (a); DERIVE SELF\\a.x : t := ?; END_ENTITY;\n\
-ENTITY g SUBTYPE OF (e); SELF\\a.x : t; END_ENTITY;\n\
-ENTITY h SUBTYPE OF (a); END_ENTITY;\n\
-ENTITY t; y : t; END_ENTITY;\n\
-ENTITY u SUBTYPE OF (t); END_ENTITY;\n\
-ENTITY k; x : t; END_ENTITY;\n\
-ENTITY l SUBTYPE OF (k); SELF\\k.x : t; END_ENTITY;\n\
-ENTITY m SUBTYPE OF (k); SELF\\k.x : u; END_ENTITY;\n\
-ENTITY n SUBTYPE OF (l, m); END_ENTITY;\n\
-END_SCHEMA;\n";
-
-/// Entities, and what binds A's attribute in an instance of each.
-const BINDINGS: &[(&[u8], Bound)] = &[
-    (b"A", Bound::By(b"A")),
-    (b"B", Bound::By(b"B")),
-    (b"C", Bound::By(b"C")),
-    (b"D", Bound::By(b"D")),
-    (b"E", Bound::Derived),
-    (b"F", Bound::By(b"C")),
-    (b"G", Bound::Derived),
-    (b"H", Bound::By(b"A")),
-    (b"T", Bound::Free),
-];
-
-#[test]
-fn bindings(rt: HostRuntime) -> Result<(), Fail> {
-    let schema = table(rt.alloc(), BOUND)?;
-    for (name, bound) in BINDINGS {
-        assert!(rt; is_bound(&schema, b"A", name, *bound)?, "{name:?}");
-    }
-    Ok(())
-}
-
-/// Nothing is said of an attribute that is declared once, nor of one that two supertypes of an entity declare again.
-#[test]
-fn unsaid_bindings(rt: HostRuntime) -> Result<(), Fail> {
-    let schema = table(rt.alloc(), BOUND)?;
-    assert!(rt; is_bound(&schema, b"T", b"T", Bound::Unsaid)?);
-    assert!(rt; is_bound(&schema, b"K", b"N", Bound::Unsaid)?);
-    Ok(())
-}
-
 /// Its answer is right also where a request for memory is refused, which `tests/refused_memory` does in turn.
 #[test]
 fn memory_or_the_answer(rt: HostRuntime) -> Result<(), Fail> {
@@ -541,24 +471,6 @@ fn memory_or_the_answer(rt: HostRuntime) -> Result<(), Fail> {
         assert_eq!(rt; reach(&schema, b"A", b"E")?, (true, false, true));
         assert!(rt; admits(&schema, b"A", b"B")?);
         assert!(rt; has_row(&schema, b"B", &[(b"A", 0), (b"B", 0)])?);
-    }
-    Ok(())
-}
-
-/// The same of what binds attributes.
-#[test]
-fn memory_or_the_answer_of_bindings(rt: HostRuntime) -> Result<(), Fail> {
-    let declarations = match read_declarations(rt.alloc(), BOUND) {
-        Ok(declarations) => declarations,
-        Err(error) => {
-            assert_eq!(rt; error, SchemaError::Memory);
-            return Ok(());
-        }
-    };
-    if let Ok(schema) = Schema::build(rt.alloc(), declarations, Rules { distinct: true }) {
-        assert!(rt; is_bound(&schema, b"A", b"F", Bound::By(b"C"))?);
-        assert!(rt; is_bound(&schema, b"A", b"G", Bound::Derived)?);
-        assert!(rt; is_bound(&schema, b"K", b"N", Bound::Unsaid)?);
     }
     Ok(())
 }

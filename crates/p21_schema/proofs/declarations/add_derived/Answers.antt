@@ -1,12 +1,12 @@
-use Rattle.std.proofs.Common.{◌≡◌, ◌<◌, ◌≤◌, ◌++◌, ◌∷◌, [], ℕ, List, Option, length, get_or, map, set, refl, sym, ap, subst, ◌∙◌}
+use Rattle.std.proofs.Common.{◌≡◌, ◌<◌, ◌≤◌, ◌++◌, ◌∷◌, [], List, length, get_or, map, set, refl, sym, ap, subst, ◌∙◌}
 use Rattle.std.proofs.lemmas.List.{length-map, length-set, take_all}
 use Rattle.p21_express.specs.Schema.{Entity, Derived}
 use Rattle.p21_express.specs.Plain.{plain_entity, plain_derived}
-use Rattle.p21_graph.specs.Graph.{rows_of}
-use Rattle.p21_schema.specs.DeclarationTable.{known_schema, IsDeclared, IsDeclarationTable}
+use Rattle.p21_schema.specs.DeclarationTable.{known_schema, IsDeclarationTable}
 use Rattle.p21_express.specs.WellFormed.{IsIn}
 use Rattle.p21_schema.specs.declared.declarations.Form.TheVariants as form
 use Rattle.p21_schema.specs.Declaration.{Written, written_derived}
+use Rattle.p21_graph.specs.Graph.{rows_of}
 use Rattle.p21_schema.specs.Place.{no_entity}
 use Rattle.p21_schema.proofs.DeclarationLemmas.{item_at, item_in, step_same, step_more}
 use Rattle.p21_schema.proofs.declarations.add_derived.Goals as goal
@@ -43,22 +43,20 @@ loop-derived-preserved c =
     let less'' : k < length all = subst (λ (u : Entity). k < length u.derived) (sym entity) (rw (length-map xs plain_derived) less') in
     let at : get_or all k (plain_derived x) ≡ plain_derived x = ap (λ (u : Entity). get_or u.derived k (plain_derived x)) entity ∙ item_at plain_derived xs k x (plain_derived x) less' is in
     let old = rows_of c.loop-derived.lists in
-    let new = rows_of c.match-branch-2.lists in
+    let new = rows_of c.match-derived_attribute.lists in
     let inv = c.loop-derived.invariant in
-    elim c.match-branch-2.branch [
+    elim c.match-derived_attribute.branch [
       | in-Some+in_ok-add w ↦
           let is_new : new ≡ set old w.in-Some.place (get_or old w.in-Some.place [] ++ record { entity = record { index = e }; form = form.Derived } ∷ []) = ap (λ (u : _). rows_of u) w.lists-is ∙ w.in_ok-add.ensures in
           record {
             count = ap length is_new ∙ length-set old w.in-Some.place _ ∙ inv.count;
-            table = λ ws h. step_more s formed f all k (plain_derived x) ws old new less'' at w.in-Some.place (record { entity = record { index = e }; form = form.Derived }) (subst (λ (u : Option ℕ). IsDeclared s (f (plain_derived x)) u) w.in-Some.is c.in_ok-place.ensures.declared) (record { known = c.requires.entity; entity = refl; form = tt }) is_new (inv.table ws h);
-            asked = c.in_ok-place.ensures.asked;
+            table = λ ws h. step_more s formed f all k (plain_derived x) ws old new less'' at w.in-Some.place (record { entity = record { index = e }; form = form.Derived }) w.in-Some.ensures (record { known = c.requires.entity; entity = refl; form = tt }) is_new (inv.table ws h);
           }
       | in_default w ↦
           let is_old : new ≡ old = ap (λ (u : _). rows_of u) w.lists-is in
           record {
             count = ap length is_old ∙ inv.count;
-            table = λ ws h. step_same s formed f all k (plain_derived x) ws old new less'' at (subst (λ (u : Option ℕ). IsDeclared s (f (plain_derived x)) u) w.in_default.is c.in_ok-place.ensures.declared) is_old (inv.table ws h);
-            asked = c.in_ok-place.ensures.asked;
+            table = λ ws h. step_same s formed f all k (plain_derived x) ws old new less'' at w.in_default.ensures is_old (inv.table ws h);
           }
     ]
 

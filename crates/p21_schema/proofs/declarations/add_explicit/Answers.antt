@@ -1,18 +1,16 @@
-use Rattle.std.proofs.Common.{◌≡◌, ◌<◌, ◌≤◌, ◌+◌, ◌++◌, ◌∷◌, [], ℕ, List, Option, length, get_or, take, map, set, refl, arith, sym, ap, subst, ◌∙◌}
-use Rattle.std.proofs.lemmas.List.{length-map, length-set, length-append, take_all}
-use Rattle.std.specs.Prelude.{Vec}
+use Rattle.std.proofs.Common.{◌≡◌, ◌<◌, ◌≤◌, ◌++◌, ◌∷◌, [], List, length, get_or, map, set, refl, sym, ap, subst, ◌∙◌}
+use Rattle.std.proofs.lemmas.List.{length-map, length-set, take_all}
 use Rattle.p21_express.specs.Schema.{Entity, Attribute}
 use Rattle.p21_express.specs.Plain.{plain_entity, plain_attribute}
-use Rattle.p21_graph.specs.Graph.{rows_of}
-use Rattle.p21_schema.specs.DeclarationTable.{known_schema, IsDeclared, IsDeclarationTable}
-use Rattle.p21_express.specs.WellFormed.{IsIn, new_explicit}
+use Rattle.p21_schema.specs.DeclarationTable.{known_schema, IsDeclarationTable}
+use Rattle.p21_express.specs.WellFormed.{IsIn}
 use Rattle.p21_schema.specs.declared.declarations.Form.TheVariants as form
 use Rattle.p21_schema.specs.Declaration.{Written, written_explicit}
+use Rattle.p21_graph.specs.Graph.{rows_of}
 use Rattle.p21_schema.specs.Place.{no_entity}
-use Rattle.p21_schema.proofs.RowLemmas.{new_place, new_more, new_same, is_again, is_new as is_new_one}
 use Rattle.p21_schema.proofs.DeclarationLemmas.{item_at, item_in, step_same, step_more, texpr_known}
 use Rattle.p21_schema.proofs.declarations.add_explicit.Goals as goal
-use Rattle.p21_schema.proofs.declarations.add_explicit.Goals.{in-Some+in_ok-texpr+in_ok-add, in_default, then-is_none, else-is_none}
+use Rattle.p21_schema.proofs.declarations.add_explicit.Goals.{in-Some+in_ok-texpr+in_ok-add, in_default}
 
 pub explicit_attribute-requires-clause-attribute : goal.explicit_attribute-requires-clause-attribute
 explicit_attribute-requires-clause-attribute c =
@@ -60,47 +58,22 @@ loop-attribute-preserved c =
     let less'' : k < length all = subst (λ (u : Entity). k < length u.attributes) (sym entity) (rw (length-map xs plain_attribute) less') in
     let at : get_or all k (plain_attribute x) ≡ plain_attribute x = ap (λ (u : Entity). get_or u.attributes k (plain_attribute x)) entity ∙ item_at plain_attribute xs k x (plain_attribute x) less' is in
     let old = rows_of c.loop-attribute.lists in
-    let new = rows_of c.match-place.lists in
+    let new = rows_of c.match-explicit_attribute.lists in
     let inv = c.loop-attribute.invariant in
-    let lists : (length new ≡ length (rows_of c.args.lists.now)) × ((ws : List Written) → IsDeclarationTable s ws (rows_of c.args.lists.now) → IsDeclarationTable s (ws ++ map f (take (k + 1) all)) new) =
-    elim c.match-place.branch [
+    elim c.match-explicit_attribute.branch [
       | in-Some+in_ok-texpr+in_ok-add w ↦
           let is_new : new ≡ set old w.in-Some.place (get_or old w.in-Some.place [] ++ record { entity = record { index = e }; form = form.Explicit x.optional w.in_ok-texpr.texpr } ∷ []) = ap (λ (u : _). rows_of u) w.lists-is ∙ w.in_ok-add.ensures in
-          (ap length is_new ∙ length-set old w.in-Some.place _ ∙ inv.count, λ ws h. step_more s formed f all k (plain_attribute x) ws old new less'' at w.in-Some.place (record { entity = record { index = e }; form = form.Explicit x.optional w.in_ok-texpr.texpr }) (subst (λ (u : Option ℕ). IsDeclared s (f (plain_attribute x)) u) w.in-Some.is c.in_ok-place.ensures.declared) (record { known = c.requires.entity; entity = refl; form = (refl, (rw (← c.requires.known.entities, ← c.requires.known.types) w.in_ok-texpr.ensures, texpr_known s formed.unknown e c.requires.entity (plain_attribute x) (subst (λ (u : Entity). IsIn u.attributes (plain_attribute x)) (sym entity) (item_in plain_attribute xs k x less' is)))) }) is_new (inv.table ws h))
+          record {
+            count = ap length is_new ∙ length-set old w.in-Some.place _ ∙ inv.count;
+            table = λ ws h. step_more s formed f all k (plain_attribute x) ws old new less'' at w.in-Some.place (record { entity = record { index = e }; form = form.Explicit x.optional w.in_ok-texpr.texpr }) w.in-Some.ensures (record { known = c.requires.entity; entity = refl; form = (refl, (rw (← c.requires.known.entities, ← c.requires.known.types) w.in_ok-texpr.ensures, texpr_known s formed.unknown e c.requires.entity (plain_attribute x) (subst (λ (u : Entity). IsIn u.attributes (plain_attribute x)) (sym entity) (item_in plain_attribute xs k x less' is)))) }) is_new (inv.table ws h);
+          }
       | in_default w ↦
           let is_old : new ≡ old = ap (λ (u : _). rows_of u) w.lists-is in
-          (ap length is_old ∙ inv.count, λ ws h. step_same s formed f all k (plain_attribute x) ws old new less'' at (subst (λ (u : Option ℕ). IsDeclared s (f (plain_attribute x)) u) w.in_default.is c.in_ok-place.ensures.declared) is_old (inv.table ws h))
-    ] in
-    let place : (c.if-is_none.position ≡ length (new_explicit (take (k + 1) all))) × (c.if-is_none.position ≤ k + 1) =
-    elim c.if-is_none.branch [
-      | then-is_none w ↦
-          let more = new_more all k (plain_attribute x) less'' (ap (λ (u : Attribute). u.of) at ∙ is_new_one (λ (n : Vec ℕ _). n.items) x.of c.is_none.result c.is_none.ensures w.if-is_none.true) in
-          (w.position-is ∙ ap (λ (n : ℕ). n + 1) inv.position ∙ sym (ap length more ∙ length-append (new_explicit (take k all)) ((get_or all k (plain_attribute x)).name ∷ [])), subst (λ u. u ≤ k + 1) (sym w.position-is) (omega (arith, inv.few)))
-      | else-is_none w ↦
-          let some = is_again (λ (n : Vec ℕ _). n.items) x.of c.is_none.result c.is_none.ensures w.if-is_none.false in
-          let same = new_same all k (plain_attribute x) some.0 less'' (ap (λ (u : Attribute). u.of) at ∙ some.1) in
-          (w.position-is ∙ inv.position ∙ ap length (sym same), subst (λ u. u ≤ k + 1) (sym w.position-is) (omega (arith, inv.few)))
-    ] in
-    record { position = place.0; few = place.1; count = lists.0; table = lists.1; asked = c.in_ok-place.ensures.asked }
-
-pub explicit_attribute-requires-clause-position : goal.explicit_attribute-requires-clause-position
-explicit_attribute-requires-clause-position c = λ of.
-    let s = known_schema c.args.known.now in
-    let es = c.args.known.now.declarations.now.entities.items in
-    let e = c.args.entity in
-    let xs = c.index.result.now.attributes.items in
-    let k = c.loop-attribute.attribute-index in
-    let x = c.attribute-item.result in
-    let less : e < length es = rw (← (length-map es plain_entity)) c.requires.entity in
-    let less' : k < length xs = rw (← c.deref-attribute-items.ensures.value) c.loop-attribute-test.true in
-    let is : x ≡ get_or xs k x = rw (← c.deref-attribute-items.ensures.value) c.attribute-item.is in
-    let entity : get_or (map plain_entity es) e no_entity ≡ plain_entity c.index.result.now = item_at plain_entity es e c.index.result.now no_entity less c.index.ensures in
-    let all = (get_or s.entities e no_entity).attributes in
-    let less'' : k < length all = subst (λ (u : Entity). k < length u.attributes) (sym entity) (rw (length-map xs plain_attribute) less') in
-    let at : get_or all k (plain_attribute x) ≡ plain_attribute x = ap (λ (u : Entity). get_or u.attributes k (plain_attribute x)) entity ∙ item_at plain_attribute xs k x (plain_attribute x) less' is in
-    let p = new_place all k (plain_attribute x) less'' (ap (λ (u : Attribute). u.of) at ∙ of) in
-    let inv = c.loop-attribute.invariant in
-    (subst (λ u. u < length (new_explicit all)) (sym inv.position) p.0, ap (λ (u : ℕ). get_or (new_explicit all) u []) inv.position ∙ p.1 ∙ ap (λ (u : Attribute). u.name) at)
+          record {
+            count = ap length is_old ∙ inv.count;
+            table = λ ws h. step_same s formed f all k (plain_attribute x) ws old new less'' at w.in_default.ensures is_old (inv.table ws h);
+          }
+    ]
 
 pub returns-clause-table : goal.returns-clause-table
 returns-clause-table c = λ ws h.

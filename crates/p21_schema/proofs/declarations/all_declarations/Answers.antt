@@ -1,19 +1,16 @@
-use Rattle.std.proofs.Common.{◌<◌, ℕ, List, [], get_or, length, sym, subst, ◌∙◌}
+use Rattle.std.proofs.Common.{◌<◌, List, length, sym, subst, ◌∙◌}
 use Rattle.std.proofs.lemmas.List.{length-map}
 use Rattle.p21_express.specs.Plain.{plain_entity}
-use Rattle.p21_graph.specs.Graph.{rows_of}
 use Rattle.p21_schema.specs.DeclarationTable.{known_schema, IsDeclarationTable}
 use Rattle.p21_schema.specs.Declaration.{Written}
-use Rattle.p21_schema.specs.Owners.{AreOwnersBelow}
+use Rattle.p21_graph.specs.Graph.{rows_of}
 use Rattle.p21_schema.proofs.DeclarationLemmas.{table_none, written_more}
-use Rattle.p21_schema.proofs.OwnerLemmas.{owners_below}
 use Rattle.p21_schema.proofs.declarations.all_declarations.Goals as goal
 
 pub loop-entity-init : goal.loop-entity-init
 loop-entity-init c = record {
   count = c.requires.count;
   table = table_none (known_schema c.args.known.now) (rows_of c.args.lists) c.requires.count c.requires.empty;
-  asked = λ g long. c.in_ok-asked.ensures g c.args.known.now.descents.now (λ place. subst (λ (u : ℕ). AreOwnersBelow (get_or (rows_of c.args.known.now.owners.now.lists) place []) u) (sym long) (owners_below (known_schema c.args.known.now) c.args.known.now.owners.now c.requires.known.owners place));
 }
 
 pub loop-entity-preserved : goal.loop-entity-preserved
@@ -25,5 +22,4 @@ loop-entity-preserved c =
     record {
       count = c.in_ok-add_derived.ensures.count ∙ c.in_ok-add_explicit.ensures.count ∙ inv.count;
       table = subst (λ (u : List Written). IsDeclarationTable s u (rows_of c.add_derived.new.lists)) (sym (written_more s.entities c.loop-entity.entity less)) (c.in_ok-add_derived.ensures.table _ (c.in_ok-add_explicit.ensures.table _ inv.table));
-      asked = c.in_ok-add_derived.ensures.asked;
     }

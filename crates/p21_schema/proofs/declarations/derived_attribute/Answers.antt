@@ -1,11 +1,10 @@
 use Rattle.std.proofs.Common.{◌≡◌, Some, option_map, get_or, ap, ℕ}
 use Rattle.std.specs.Prelude.{Vec}
-use Rattle.std.proofs.lemmas.Result.{IfOk-weaker}
 use Rattle.p21_express.specs.Plain.{plain_derived}
 use Rattle.p21_schema.specs.DeclarationTable.{known_schema}
 use Rattle.p21_schema.specs.Declaration.{written_derived}
 use Rattle.p21_schema.specs.Place.{no_entity}
-use Rattle.p21_schema.proofs.DeclarationLemmas.{derived_redeclares, ancestor_known, one_origin, declared_again}
+use Rattle.p21_schema.proofs.DeclarationLemmas.{derived_redeclares, ancestor_known, declared_again}
 use Rattle.p21_schema.proofs.declarations.derived_attribute.Goals as goal
 
 pub again-requires-clause-of : goal.again-requires-clause-of
@@ -15,18 +14,11 @@ again-requires-clause-of c =
     let r = derived_redeclares s c.requires.known.well_formed c.args.entity c.requires.entity (plain_derived c.args.derived.now) c.in-Some.of.items c.requires.derived of in
     rw c.deref.ensures.value (ancestor_known s c.requires.known.well_formed r.1.ancestor)
 
-pub again-requires-clause-one : goal.again-requires-clause-one
-again-requires-clause-one c =
-    let s = known_schema c.args.known.now in
-    let of : (plain_derived c.args.derived.now).of ≡ Some c.in-Some.of.items = ap (option_map (λ (n : Vec ℕ _). n.items)) c.in-Some.is in
-    let r = derived_redeclares s c.requires.known.well_formed c.args.entity c.requires.entity (plain_derived c.args.derived.now) c.in-Some.of.items c.requires.derived of in
-    rw (c.deref.ensures.value, c.deref-in-Some.ensures.value) (one_origin s c.requires.known.well_formed r.1)
-
-pub returns-in-Some-clause-declared : goal.returns-in-Some-clause-declared
-returns-in-Some-clause-declared c =
+pub returns-in-Some : goal.returns-in-Some
+returns-in-Some c =
     let s = known_schema c.args.known.now in
     let a = plain_derived c.args.derived.now in
     let of : a.of ≡ Some c.in-Some.of.items = ap (option_map (λ (n : Vec ℕ _). n.items)) c.in-Some.is in
     let r = derived_redeclares s c.requires.known.well_formed c.args.entity c.requires.entity a c.in-Some.of.items c.requires.derived of in
-    IfOk-weaker c.again.result _ _ (λ place h. declared_again s c.requires.known.well_formed (written_derived (get_or s.entities c.args.entity no_entity).name a) c.in-Some.of.items r.0 place of r.1
-    (rw (c.deref.ensures.value, c.deref-in-Some.ensures.value) at h)) c.again.ensures.found
+    declared_again s c.requires.known.well_formed (written_derived (get_or s.entities c.args.entity no_entity).name a) c.in-Some.of.items r.0 c.again.result of r.1
+    (rw (c.deref.ensures.value, c.deref-in-Some.ensures.value) at c.again.ensures)

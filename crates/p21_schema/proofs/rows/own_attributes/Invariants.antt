@@ -3,7 +3,7 @@ use Rattle.p21_express.specs.Plain.{plain_schema}
 use Rattle.p21_graph.specs.Graph.{rows_of}
 use Rattle.p21_schema.specs.Row.{attributes_of}
 use Rattle.p21_schema.specs.RowTable.{IsOwn}
-use Rattle.p21_graph.specs.Lists.{no_own}
+use Rattle.p21_schema.specs.RowTable.{no_own}
 use Rattle.p21_schema.proofs.rows.own_attributes.Given as goal
 
 abbrev pub invariant-loop-entity : goal.invariant-loop-entity

@@ -1,20 +1,18 @@
 use Rattle.std.proofs.Common.{◌≡◌, length, sym, List, [], map, get_or, ap, ◌∙◌}
 use Rattle.p21_express.specs.Schema.{Entity, Defined}
 use Rattle.p21_express.specs.Plain.{plain_schema, plain_entity, plain_type}
-use Rattle.p21_graph.specs.Graph.{plain_graph, rows_of}
+use Rattle.p21_graph.specs.Graph.{plain_graph}
 use Rattle.p21_graph.specs.GraphLaws.{row_count}
 use Rattle.std.proofs.lemmas.List.{length-replicate}
 use Rattle.p21_schema.specs.Row.{attributes_of}
 use Rattle.p21_schema.specs.Rules.{with_rules}
-use Rattle.p21_schema.specs.Declaration.{written}
 use Rattle.p21_schema.specs.Ancestry.{AreSupertypesNamed, IsDescentTable}
 use Rattle.p21_schema.specs.SelectTable.{AreSelectTables}
 use Rattle.p21_schema.specs.Under.{AreResolved}
 use Rattle.p21_schema.proofs.RuleLemmas.{fits_with, own_with}
 use Rattle.p21_schema.proofs.AncestryLemmas.{named_by, distinct_entities, supertypes_known, edges_below, no_cycle, supertype_table}
 use Rattle.p21_schema.specs.RowTable.{IsOwnTable}
-use Rattle.p21_schema.proofs.OwnLemmas.{own_within, own_apart}
-use Rattle.p21_schema.proofs.BindingLemmas.{within_rows}
+use Rattle.p21_schema.proofs.RowLemmas.{own_upward, own_within}
 use Rattle.p21_schema.proofs.DeclarationLemmas.{empty_at}
 use Rattle.p21_schema.proofs.UnderLemmas.{distinct_types, other_known, unders_known}
 use Rattle.p21_schema.proofs.schema.Schema.build_with_key.Goals as goal
@@ -58,15 +56,13 @@ invariant_of-result c =
     let types_are : c.in_ok-type_names.type_names ≡ map (λ (t : Defined). t.name) s.types = c.in_ok-type_names.ensures ∙ ap (λ (ts : List _). map (λ (t : Defined). t.name) (map plain_type ts)) c.deref-5.ensures.value in
     let found : AreResolved (map (λ (e : Entity). e.name) s.entities) (map (λ (t : Defined). t.name) s.types) c.in_ok-unders.unders.items s.types = rw (← names_are, ← types_are, ← c.deref-7.ensures.value) c.in_ok-unders.ensures in
     let descents : IsDescentTable s c.in_ok-descents.descents = c.in_ok-descents.ensures s (fits_with (plain_schema c.args.declarations) c.args.rules c.requires) h in
-    let selects : AreSelectTables s c.in_ok-selects.selects = c.in_ok-selects.ensures s (fits_with (plain_schema c.args.declarations) c.args.rules c.requires) (rw c.deref-10.ensures.value found) descents in
+    let selects : AreSelectTables s c.in_ok-selects.selects = c.in_ok-selects.ensures s (fits_with (plain_schema c.args.declarations) c.args.rules c.requires) (rw c.deref-9.ensures.value found) descents in
     record {
       types = types_are;
       attributes = c.in_ok-attributes.ensures;
-      bindings = c.in_ok-bindings.ensures;
       selects = selects;
       ends = c.in_ok-ends.ensures s (ap (λ (ts : List _). map plain_type ts) (sym c.deref-6.ensures.value));
       resolved = found;
-      items = rw (← c.deref-11.ensures.value) c.in_ok-items.ensures;
       own = own_with (plain_schema c.args.declarations) c.args.rules _ c.in_ok-own.ensures.own;
       rows = c.in_ok-rows.ensures s (fits_with (plain_schema c.args.declarations) c.args.rules c.requires) h (rw c.deref-3.ensures.value (own_with (plain_schema c.args.declarations) c.args.rules _ c.in_ok-own.ensures.own));
       well_formed = fits_with (plain_schema c.args.declarations) c.args.rules c.requires;
@@ -97,20 +93,11 @@ all_declarations-requires-clause-known c =
       entities = c.in_ok-entity_names.ensures ∙ ap (λ (es : List _). map (λ (e : Entity). e.name) (map plain_entity es)) c.deref.ensures.value;
       types = c.in_ok-type_names.ensures ∙ ap (λ (ts : List _). map (λ (t : Defined). t.name) (map plain_type ts)) c.deref-5.ensures.value;
       descents = c.in_ok-descents.ensures s (fits_with (plain_schema c.args.declarations) c.args.rules c.requires) h;
-      own = rw c.deref-9.ensures.value (own_with (plain_schema c.args.declarations) c.args.rules _ c.in_ok-own.ensures.own);
-      owners = c.in_ok-owners.ensures s (ap (λ (es : List _). map plain_entity es) (sym c.deref-8.ensures.value));
+      own = rw c.deref-8.ensures.value (own_with (plain_schema c.args.declarations) c.args.rules _ c.in_ok-own.ensures.own);
     }
 
 pub all_declarations-requires-clause-empty : goal.all_declarations-requires-clause-empty
 all_declarations-requires-clause-empty c = λ i. ap (λ (u : List _). get_or u i []) c.in_ok-own.ensures.lists ∙ empty_at _ i
-
-pub all_bindings-requires : goal.all_bindings-requires
-all_bindings-requires c =
-    let s = with_rules (plain_schema c.args.declarations) c.args.rules in
-    let g = plain_graph c.in_ok-graph.graph in
-    let formed = fits_with (plain_schema c.args.declarations) c.args.rules c.requires in
-    let h : AreSupertypesNamed (map (λ (e : Entity). e.name) s.entities) g s.entities = named_by plain_entity c.in_ok-entity_names.entity_names g c.deref.result.now c.deref-2.result.now c.args.declarations.entities.items c.in_ok-entity_names.ensures c.deref.ensures.value c.deref-2.ensures.value c.in_ok-graph.ensures in
-    within_rows s (written s.entities) (rows_of c.in_ok-attributes.attributes) c.in_ok-descents.descents c.in_ok-attributes.ensures (c.in_ok-descents.ensures s formed h)
 
 pub select_tables-requires : goal.select_tables-requires
 select_tables-requires c =
@@ -120,7 +107,7 @@ select_tables-requires c =
     let found : AreResolved (map (λ (e : Entity). e.name) s.entities) (map (λ (t : Defined). t.name) s.types) c.in_ok-unders.unders.items s.types = rw (← names_are, ← types_are, ← c.deref-7.ensures.value) c.in_ok-unders.ensures in
     let h : AreSupertypesNamed (map (λ (e : Entity). e.name) s.entities) (plain_graph c.in_ok-graph.graph) s.entities = named_by plain_entity c.in_ok-entity_names.entity_names (plain_graph c.in_ok-graph.graph) c.deref.result.now c.deref-2.result.now c.args.declarations.entities.items c.in_ok-entity_names.ensures c.deref.ensures.value c.deref-2.ensures.value c.in_ok-graph.ensures in
     let formed = fits_with (plain_schema c.args.declarations) c.args.rules c.requires in
-    (s, (formed, (rw c.deref-10.ensures.value found, c.in_ok-descents.ensures s formed h)))
+    (s, (formed, (rw c.deref-9.ensures.value found, c.in_ok-descents.ensures s formed h)))
 
 pub new-requires-clause-own : goal.new-requires-clause-own
 new-requires-clause-own c =
@@ -135,7 +122,7 @@ new-requires-clause-within c =
     let count : c.len.result ≡ length (attributes_of s.entities) = c.len.ensures ∙ sym (row_count c.in_ok-own.lists) ∙ ap length c.in_ok-own.ensures.lists ∙ length-replicate (length (attributes_of s.entities)) [] in
     rw (c.deref-3.ensures.value, count) (own_within s c.in_ok-own.own.items (own_with (plain_schema c.args.declarations) c.args.rules _ c.in_ok-own.ensures.own))
 
-pub new-requires-clause-apart : goal.new-requires-clause-apart
-new-requires-clause-apart c =
+pub new-requires-clause-upward : goal.new-requires-clause-upward
+new-requires-clause-upward c =
     let s = with_rules (plain_schema c.args.declarations) c.args.rules in
-    rw c.deref-3.ensures.value (own_apart s c.in_ok-own.own.items (own_with (plain_schema c.args.declarations) c.args.rules _ c.in_ok-own.ensures.own))
+    rw c.deref-3.ensures.value (own_upward s c.in_ok-own.own.items (own_with (plain_schema c.args.declarations) c.args.rules _ c.in_ok-own.ensures.own))

@@ -4,7 +4,7 @@ use Rattle.p21_express.specs.Schema.{Schema}
 use Rattle.p21_schema.specs.Tables.{schema_of}
 use Rattle.p21_schema.specs.Place.{IsEntityOf, entity_at}
 use Rattle.p21_schema.specs.Row.{own_attributes}
-use Rattle.p21_graph.specs.Lists.{no_own}
+use Rattle.p21_schema.specs.RowTable.{no_own}
 use Rattle.p21_schema.proofs.RowLemmas.{own_known, own_item}
 use Rattle.p21_schema.proofs.schema.Schema.own.Goals as goal
 
