@@ -3,7 +3,7 @@ use Rattle.std.proofs.Common.{◌≡◌, ◌↔◌, ℕ, ◌⊎◌, inl, inr, Bo
 use Rattle.std.specs.Prelude.{IsTrue}
 use Rattle.std.proofs.lemmas.Bool.{false≢true}
 use Rattle.p21_express.specs.Schema.{Schema, Entity}
-use Rattle.p21_express.specs.WellFormed.{IsIn, IsEntity, IsSelect, IsAncestor, IsWellFormed, Leads, IsSupertype}
+use Rattle.p21_express.specs.WellFormed.{IsIn, IsEntity, IsAncestor, IsWellFormed, Leads}
 use Rattle.p21_tree.specs.Sentence.{Instance}
 use Rattle.p21_schema.specs.declared.ids.EntityId.{EntityId}
 use Rattle.p21_schema.specs.Place.{entity_name, IsEntityOf, type_name}

@@ -1,13 +1,11 @@
 -- What declarations ask of references.
-use Rattle.std.proofs.Common.{◌≡◌, ◌↔◌, ℕ, zero, suc, ◌+◌, ◌<◌, ◌≤◌, ◌⊎◌, ⊎_elim, inl, inr, Bool, true, false, List, [], ◌∷◌, length, get_or, take, add-one, Option, Some, Ok, Err, refl, sym, subst, arith}
+use Rattle.std.proofs.Common.{◌≡◌, ◌↔◌, ℕ, zero, suc, ◌+◌, ◌<◌, ◌≤◌, ◌⊎◌, ⊎_elim, inl, inr, Bool, true, false, List, [], ◌∷◌, length, get_or, take, add-one, Option, Ok, Err, refl, sym, subst, arith}
 use Rattle.std.specs.Prelude.{Result}
 use Rattle.std.proofs.lemmas.Bool.{cases_lt}
 use Rattle.p21_tree.specs.Tree.{Tree}
 use Rattle.p21_tree.specs.Sentence.{Instance}
 use Rattle.p21_express.specs.Schema.{Schema, Expr}
-use Rattle.p21_express.specs.WellFormed.{IsIn, IsWellFormed, Origin}
-use Rattle.p21_schema.specs.declared.declarations.Form.TheVariants as coded
-use Rattle.p21_schema.specs.declared.resolved.ResolvedExpr.{ResolvedExpr}
+use Rattle.p21_express.specs.WellFormed.{IsIn, Origin}
 use Rattle.std.proofs.lemmas.List.{take_all}
 use Rattle.p21_schema.specs.declared.declarations.Declaration.{Declaration as CodedDeclaration}
 use Rattle.p21_schema.specs.Declaration.{Declaration, Form, IsResolvedForm, IsResolvedDeclaration, AreResolvedIn, AreDeclarations}
@@ -19,17 +17,12 @@ use Rattle.p21_check.specs.declared.walk.Bad.TheVariants as bad
 use Rattle.p21_check.specs.declared.walk.FirstBad.{FirstBad}
 use Rattle.p21_check.specs.References.{Reference, Refers, name_count}
 use Rattle.p21_check.specs.Sets.{CountsAmong}
-use Rattle.p21_check.specs.Wanted.{Asks, IsAskedBy, by_names}
+use Rattle.p21_check.specs.Wanted.{Asks, IsAskedBy}
 use Rattle.p21_check.specs.Walk.{FindsBad, IsAnswered, EachIsAnswered, IsBad, chosen}
 use Rattle.p21_check.proofs.WalkLemmas.{refers_below}
 use Rattle.p21_check.proofs.AnyLemmas.{zip_at, zip_length}
-use Rattle.p21_check.proofs.SlotLemmas.{counts_there, counts_among, explicit_no_derived, in_only, only_counts}
+use Rattle.p21_check.proofs.SlotLemmas.{counts_there, counts_among}
 use Rattle.p21_check.specs.Asked.{AskedBy, AsksAsCounted, AsksByForm, RefersByForm, RefersCounting, FindsFirst, IsFirst}
-
--- the type of an explicit declaration
-pub explicit_type : (s : Schema) (f : Form) (o : Bool) (e : ResolvedExpr) → IsResolvedForm s (coded.Explicit o e) f → (p : Bool) × ((x : Expr) × ((f ≡ form.explicit p x) × (by_names s e ≡ Some x)))
-explicit_type s form.derived o e h = elim h [ ]
-explicit_type s (form.explicit p x) o e h = (p, (x, (refl, h.1.0)))
 
 -- an explicit form asks what its type asks
 pub explicit_asks : (s : Schema) (f : Form) (p : Bool) (x : Expr) (w : Wanted) → f ≡ form.explicit p x → IsAskedBy s x w → AsksByForm s f w
@@ -50,16 +43,6 @@ pub counted : (s : Schema) (InSet : List ℕ → Type 0) (ds : List Declaration)
 counted s InSet ds d w c a = record {
   asked_ = a.asked_;
   same = λ t k r. (λ h. (a.same t k r).0 h.refers, λ h. record { counts = c; refers = (a.same t k r).1 h });
-}
-
--- the only declaration asks what its form asks, where it is by an entity of the set
-pub only_asks : (s : Schema) → IsWellFormed s → (InSet : List ℕ → Type 0) (d : Declaration) (w : Wanted) → InSet d.entity → AsksByForm s d.form w → AsksAsCounted s InSet (d ∷ []) d w
-only_asks s well InSet d w by a = record {
-  asked_ = a.asked_;
-  same = λ t k r. (
-    λ h. (a.same t k r).0 h.refers,
-    λ h. let f = (a.same t k r).1 h in record { counts = only_counts s well InSet d by (explicit_no_derived d.form f.explicit); refers = f },
-  );
 }
 
 -- the best of some that ask, as the loop keeps it
@@ -198,10 +181,6 @@ place_below s cs ds i all h = subst (λ n. i < n) (zip_length (IsResolvedDeclara
 pub stepped : (s : Schema) (named : ℕ → Option Instance) (InSet : List ℕ → Type 0) (ds : List Declaration) (i : ℕ) (p : Tree) (W : ℕ → Reference → Type 0) (first : Result (Unit {0}) Bad) → i < length ds → Best s named (or_asked (AskedUpTo s InSet ds i p) (RefersCounting s InSet ds (get_or ds i no_declaration) p)) W first → Best s named (AskedUpTo s InSet ds (i + 1) p) W first
 stepped s named InSet ds i p W first h b = best_iff s named (or_asked (AskedUpTo s InSet ds i p) (RefersCounting s InSet ds (get_or ds i no_declaration) p)) (AskedUpTo s InSet ds (i + 1) p) W first (up_to_more s InSet ds i p no_declaration h) b
 
--- before the first declaration nothing is asked
-pub at_first : (s : Schema) (named : ℕ → Option Instance) (InSet : List ℕ → Type 0) (ds : List Declaration) (p : Tree) → Best s named (AskedUpTo s InSet ds 0 p) (Asks s asked.Nothing p) (Ok tt)
-at_first s named InSet ds p = record { within = λ k r w. elim w [ ]; finds = λ k r a. elim a.1.0 [ ] }
-
 -- all declarations
 pub at_last : (s : Schema) (named : ℕ → Option Instance) (InSet : List ℕ → Type 0) (o : Origin) (cs : List CodedDeclaration) (ds : List Declaration) (i : ℕ) (p : Tree) (W : ℕ → Reference → Type 0) (first : Result (Unit {0}) Bad) → AreDeclarations s o ds → AreResolvedIn s cs ds → length cs ≤ i → Best s named (AskedUpTo s InSet ds i p) W first → FindsFirst s named (AskedBy s InSet o p) first
 at_last s named InSet o cs ds i p W first are all h b = finish first (best_iff s named (AskedUpTo s InSet ds i p) (AskedBy s InSet o p) W first same b) where
@@ -217,19 +196,6 @@ at_last s named InSet o cs ds i p W first are all h b = finish first (best_iff s
   finish : (first : Result (Unit {0}) Bad) → Best s named (AskedBy s InSet o p) W first → FindsFirst s named (AskedBy s InSet o p) first
   finish (Ok u) b = b.finds
   finish (Err e) b = b.finds.0
-
--- the only declaration
-pub asked_only : (s : Schema) (InSet : List ℕ → Type 0) (o : Origin) (d : Declaration) (p : Tree) (w : Wanted) → AreDeclarations s o (d ∷ []) → AsksAsCounted s InSet (d ∷ []) d w → (k : ℕ) (r : Reference) → AskedBy s InSet o p k r ↔ Asks s w p k r
-asked_only s InSet o d p w are a k r = (there, back) where
-  there : AskedBy s InSet o p k r → Asks s w p k r
-  there h =
-      let f = counts_among s InSet o (d ∷ []) are h.counts in
-      (a.same p k r).0 (subst (λ (x : Declaration). RefersCounting s InSet (d ∷ []) x p k r) (sym (in_only f.0)) (record { counts = f.1; refers = h.refers }))
-
-  back : Asks s w p k r → AskedBy s InSet o p k r
-  back h =
-      let f = (a.same p k r).1 h in
-      record { declaration = d; counts = counts_there s InSet o (d ∷ []) are (inl refl) f.counts; refers = f.refers }
 
 -- where the same is asked, the same is found
 pub found_alike : (s : Schema) (named : ℕ → Option Instance) (A B : ℕ → Reference → Type 0) (found : Result (Unit {0}) Bad) → ((k : ℕ) (r : Reference) → A k r ↔ B k r) → FindsFirst s named B found → FindsFirst s named A found

@@ -1,5 +1,5 @@
 -- What a complex instance has, by its records.
-use Rattle.std.proofs.Common.{◌≡◌, ◌≢◌, ◌⊎◌, ◌↔◌, ⊎_elim, inl, inr, ℕ, zero, suc, ◌+◌, ◌<◌, ◌≤◌, true, List, [], ◌∷◌, ◌++◌, Some, map, length, get_or, take, refl, sym, ap, subst, ◌∙◌, arith, Bor}
+use Rattle.std.proofs.Common.{◌≡◌, ◌≢◌, ◌⊎◌, ◌↔◌, ⊎_elim, inl, inr, ℕ, zero, suc, ◌+◌, ◌<◌, ◌≤◌, true, List, [], ◌∷◌, Some, map, length, get_or, take, refl, sym, ap, subst, ◌∙◌, arith, Bool}
 use Rattle.std.specs.Prelude.{slice_get}
 use Rattle.std.proofs.lemmas.Bool.{false≢true}
 use Rattle.p21_express.specs.Schema.{Schema, Entity}
@@ -9,21 +9,22 @@ use Rattle.p21_tree.specs.Views.{plain_record}
 use Rattle.p21_tree.specs.declared.instances.Record.{Record}
 use Rattle.p21_schema.specs.declared.ids.EntityId.{EntityId}
 use Rattle.p21_schema.specs.Ancestry.{NameEntities}
-use Rattle.p21_check.proofs.AnyLemmas.{in_both, any_taken}
+use Rattle.p21_check.proofs.AnyLemmas.{any_taken}
 use Rattle.p21_schema.specs.Place.{entity_at, entity_name, IsEntityOf}
 use Rattle.p21_check.specs.EntitySet.{IsInSet, keywords}
 use Rattle.p21_check.specs.EntitySet as sets
 use Rattle.p21_check.specs.LocalFault.{IsAbstract, HasUnknownEntity, HasAbstractEntity, IsBadComplex, NamesTwice, LacksSupertype, LacksSubtype}
 use Rattle.p21_check.specs.declared.entity_set.EntitySet.{EntitySet}
-use Rattle.p21_check.specs.declared.entity_set.EntitySet.TheVariants as set
-use Rattle.p21_check.specs.Sets.{HasEntity, IsSetOfRecords, keywords_of, AnyIn, EachIn}
+use Rattle.p21_check.specs.Sets.{HasEntity, IsSetOfRecords, AreMarksOfRecords, keywords_of, AnyIn, EachIn}
+use Rattle.p21_check.specs.Marks.{AreAdded, IsMarked}
+use Rattle.p21_check.proofs.MarkLemmas.{in_one}
 use Rattle.p21_tree.specs.Plain.{plain_all}
 use Rattle.p21_express.specs.WellFormed.{Origin}
 use Rattle.p21_check.specs.Attributes.{AreAttributes}
 use Rattle.p21_check.specs.LocalFault.{HasWrongCount, HasBadAttribute, HasRepeatedReference}
 use Rattle.p21_check.proofs.DistinctLemmas.{repeated_at, repeating_at, repeating_along}
 use Rattle.p21_check.proofs.InstanceLemmas.{wrong_at, not_wrong_at, bad_at, unfit_at, unfit_along}
-use Rattle.p21_check.specs.Instances.{complex_instance, IsUnfitAt, IsRepeatingAt, NamesEntity, IsUnknown, LacksAbove, IsSubtypeRecord, LacksBelow, IsNamedBefore}
+use Rattle.p21_check.specs.Instances.{complex_instance, IsUnfitAt, IsRepeatingAt, NamesEntity, IsUnknown, LacksAbove, IsSubtypeRecord, LacksBelow, IsNamedBefore, AreMarksAbove}
 use Rattle.p21_check.proofs.TypeLemmas.{in_map}
 use Rattle.p21_check.proofs.ElementLemmas.{count_all}
 use Rattle.p21_check.proofs.AttributeLemmas.{one_entity, entity_there}
@@ -112,34 +113,37 @@ module _ (s : Schema) (w : IsWellFormed s) (e : EntityId) (known : IsEntityOf s 
 
 -- ---- marks
 
-module _ (s : Schema) (one : (a b : EntityId) → IsEntityOf s a → IsEntityOf s b → entity_name s a ≡ entity_name s b → a ≡ b) (rs : List Record) (k : ℕ) (d : Record) (less : k < length rs) (x : EntityId) (known : IsEntityOf s x) (named : entity_name s x ≡ (get_or rs k d).keyword.now) (es : List EntityId) where
+module _ (s : Schema) (one : (a b : EntityId) → IsEntityOf s a → IsEntityOf s b → entity_name s a ≡ entity_name s b → a ≡ b) (rs : List Record) (k : ℕ) (d : Record) (less : k < length rs) (x : EntityId) (known : IsEntityOf s x) (named : entity_name s x ≡ (get_or rs k d).keyword.now) (old new : List Bool) (long : length new ≡ length old) where
   -- the entity of one record more
-  pub marks_more : ((e : EntityId) → IsEntityOf s e → IsIn es e ↔ IsIn (keywords_of (take k rs)) (entity_name s e)) → (e : EntityId) → IsEntityOf s e → IsIn (x ∷ es) e ↔ IsIn (keywords_of (take (k + 1) rs)) (entity_name s e)
-  marks_more so_far e of =
+  pub marks_more : AreAdded old new (x ∷ []) → AreMarksOfRecords s old (take k rs) → AreMarksOfRecords s new (take (k + 1) rs)
+  marks_more added so_far e of l =
       let n = entity_name s e in
+      let before = so_far e of (subst (λ (m : ℕ). e.index < m) long l) in
+      let now = added e l in
       let taken = any_taken (λ (r : Record). r.keyword.now ≡ n) rs k d less in (
         λ h. let a : AnyIn (take (k + 1) rs) (λ (r : Record). r.keyword.now ≡ n) = taken.1 (⊎_elim
-            (λ (f : x ≡ e). inr (sym named ∙ ap (entity_name s) f))
-            (λ (i : IsIn es e). inl (out_of_map (λ (r : Record). r.keyword.now) (take k rs) n ((so_far e of).0 i))) h) in
+            (λ (i : IsIn (x ∷ []) e). inr (sym named ∙ ap (entity_name s) (in_one i)))
+            (λ (m : IsMarked old e). inl (out_of_map (λ (r : Record). r.keyword.now) (take k rs) n (before.0 m))) (now.0 h)) in
             subst (IsIn (keywords_of (take (k + 1) rs))) a.2 (in_map (λ (r : Record). r.keyword.now) (take (k + 1) rs) a.0 a.1),
-        λ h. ⊎_elim
-            (λ (a : AnyIn (take k rs) (λ (r : Record). r.keyword.now ≡ n)). inr ((so_far e of).1 (subst (IsIn (keywords_of (take k rs))) a.2 (in_map (λ (r : Record). r.keyword.now) (take k rs) a.0 a.1))))
-            (λ (f : (get_or rs k d).keyword.now ≡ n). inl (one x e known of (named ∙ f)))
-            (taken.0 (out_of_map (λ (r : Record). r.keyword.now) (take (k + 1) rs) n h)),
+        λ h. now.1 (⊎_elim
+            (λ (a : AnyIn (take k rs) (λ (r : Record). r.keyword.now ≡ n)). inr (before.1 (subst (IsIn (keywords_of (take k rs))) a.2 (in_map (λ (r : Record). r.keyword.now) (take k rs) a.0 a.1))))
+            (λ (f : (get_or rs k d).keyword.now ≡ n). inl (inl (one x e known of (named ∙ f))))
+            (taken.0 (out_of_map (λ (r : Record). r.keyword.now) (take (k + 1) rs) n h))),
       )
 
   -- the entities above one record more
-  pub above_more : IsWellFormed s → (ids : List EntityId) → NameEntities s ids (entity_at s x).supertypes → ((e : EntityId) → IsEntityOf s e → IsIn es e ↔ AnyIn (take k rs) (IsSubtypeRecord s (entity_name s e))) → (e : EntityId) → IsEntityOf s e → IsIn (ids ++ es) e ↔ AnyIn (take (k + 1) rs) (IsSubtypeRecord s (entity_name s e))
-  above_more w ids are so_far e of =
+  pub above_more : IsWellFormed s → (ids : List EntityId) → NameEntities s ids (entity_at s x).supertypes → AreAdded old new ids → AreMarksAbove s old (take k rs) → AreMarksAbove s new (take (k + 1) rs)
+  above_more w ids are added so_far e of l =
       let n = entity_name s e in
+      let before = so_far e of (subst (λ (m : ℕ). e.index < m) long l) in
+      let now = added e l in
       let taken = any_taken (IsSubtypeRecord s n) rs k d less in
-      let by = supertype_by s w x known ids are.named n in
-      let parts = in_both ids es e in (
+      let by = supertype_by s w x known ids are.named n in (
         λ h. taken.1 (⊎_elim
             (λ (i : IsIn ids e). inr (subst (λ m. IsSupertype s m n) named (by.0 (in_map (entity_name s) ids e i))))
-            (λ (i : IsIn es e). inl ((so_far e of).0 i)) (parts.0 h)),
-        λ h. parts.1 (⊎_elim
-            (λ (a : AnyIn (take k rs) (IsSubtypeRecord s n)). inr ((so_far e of).1 a))
+            (λ (m : IsMarked old e). inl (before.0 m)) (now.0 h)),
+        λ h. now.1 (⊎_elim
+            (λ (a : AnyIn (take k rs) (IsSubtypeRecord s n)). inr (before.1 a))
             (λ (f : IsSubtypeRecord s n (get_or rs k d)).
             let p = out_of_map (entity_name s) ids n (by.1 (subst (λ m. IsSupertype s m n) (sym named) f)) in
             inl (subst (IsIn ids) (one p.0 e (are.known p.0 p.1) of p.2) p.1))
@@ -173,9 +177,6 @@ module _ (s : Schema) (name at : ℕ) (rs : List Record) where
   set_back : {n : List ℕ} → IsInSet s (complex_instance name at rs) n → IsIn (keywords_of rs) n × IsEntity s n
   set_back {n} (sets.named h k) = (of_keywords n h, k)
   set_back (sets.ancestor c h k) = absurd (false≢true (sym c))
-
-  pub complex_set : (b : Bor (List Record)) → b.now ≡ rs → (n : List ℕ) → HasEntity s (set.Complex b) n ↔ IsInSet s (complex_instance name at rs) n
-  complex_set b e n = subst (λ l. (IsIn (keywords_of l) n × IsEntity s n) ↔ IsInSet s (complex_instance name at rs) n) (sym e) ((λ h. sets.named (in_keywords n h.0) h.1), set_back)
 
   pub set_by : (u : EntitySet) → IsSetOfRecords s u rs → (n : List ℕ) → HasEntity s u n ↔ IsInSet s (complex_instance name at rs) n
   set_by u is n = (λ h. let k = (is n).0 h in sets.named (in_keywords n k.0) k.1, λ h. (is n).1 (set_back h))

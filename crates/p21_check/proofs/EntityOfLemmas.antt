@@ -1,7 +1,7 @@
 -- The entity of an instance.
 use Rattle.std.proofs.Common.{◌≡◌, inl, inr, ℕ, suc, ◌<◌, true, false, Bool, List, [], ◌∷◌, Option, Some, None, map, length, get_or, refl, sym, ap, subst, ◌∙◌, arith}
 use Rattle.std.specs.Prelude.{MatchOption}
-use Rattle.std.proofs.lemmas.Bool.{false≢true, cases_Bool}
+use Rattle.std.proofs.lemmas.Bool.{cases_Bool}
 use Rattle.p21_express.specs.Schema.{Schema, Entity}
 use Rattle.p21_express.specs.WellFormed.{IsIn, IsEntity}
 use Rattle.p21_tree.specs.Sentence.{Instance}
@@ -41,11 +41,7 @@ one_keyword (r ∷ q ∷ rs) d h e = cc
 pub keyword_of : (i : RawInstance) (x : Record) → i.complex ≡ false → x ≡ get_or i.records 0 x → keywords (plain_instance i) ≡ x.keyword.now ∷ []
 keyword_of i x simple first = one_keyword i.records x (i.single simple) first
 
--- a complex instance has none
-pub of_complex : (s : Schema) (i : Instance) → i.complex ≡ true → IsSimpleEntity s i None
-of_complex s i complex e h = false≢true (sym h.simple ∙ complex)
-
--- nor has one whose keyword is no entity
+-- a simple instance whose keyword is no entity has none
 pub of_unknown : (s : Schema) (i : Instance) (k : List ℕ) → keywords i ≡ k ∷ [] → ¬ (IsEntity s k) → IsSimpleEntity s i None
 of_unknown s i k ks unknown e h = unknown (subst (IsEntity s) (sym (head_is (sym ks ∙ h.keyword))) (is_entity s e h.known_))
 

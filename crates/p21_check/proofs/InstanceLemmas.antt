@@ -78,9 +78,6 @@ abstract_by s w e b h is = (
 -- ---- a simple instance
 
 module _ (s : Schema) (name at : ℕ) (e : Entry) where
-  pub simple_unknown : ¬ (IsEntity s e.keyword) → HasUnknownEntity s (simple_instance name at e)
-  simple_unknown h = record { keyword = e.keyword; written = inl refl; unknown = h }
-
   pub simple_known : IsEntity s e.keyword → ¬ (HasUnknownEntity s (simple_instance name at e))
   simple_known h x = ⊎_elim (λ (k : e.keyword ≡ x.keyword). x.unknown (subst (IsEntity s) k h)) (λ (k : ⊥). k) x.written
 

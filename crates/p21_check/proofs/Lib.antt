@@ -26,7 +26,7 @@ pub mod WantedLemmas
 pub mod AsksLemmas
 pub mod MetLemmas
 pub mod AdmitsLemmas
-pub mod JudgeLemmas
+pub mod NameJudgeLemmas
 pub mod WalkLemmas
 pub mod AskedLemmas
 pub mod BoundLemmas

@@ -1,28 +1,28 @@
 -- Marks of entities in a table.
-use Rattle.std.proofs.Common.{◌≡◌, ◌↔◌, ⊎_elim, inl, inr, ℕ, ◌+◌, ◌<◌, List, [], ◌∷◌, ◌++◌, length, get_or, take}
+use Rattle.std.proofs.Common.{◌≡◌, ⊎_elim, inl, inr, ℕ, ◌+◌, ◌<◌, Bool, List, [], ◌∷◌, length, get_or, take, subst}
 use Rattle.std.proofs.lemmas.List.{take_more}
 use Rattle.p21_express.specs.WellFormed.{IsIn}
-use Rattle.p21_check.proofs.AnyLemmas.{in_both}
 use Rattle.p21_schema.specs.declared.ids.EntityId.{EntityId}
-use Rattle.p21_check.specs.Marks.{AreMarksIn}
+use Rattle.p21_check.specs.Marks.{AreAdded, IsMarked}
+use Rattle.p21_check.proofs.AnyLemmas.{in_both}
 
--- the same entities in another order
-pub marks_alike : (n : ℕ) (marks : List ℕ) (es fs : List EntityId) → ((e : EntityId) → IsIn es e ↔ IsIn fs e) → AreMarksIn n marks es → AreMarksIn n marks fs
-marks_alike n marks es fs same kept = record { left = λ e i. kept.left e ((same e).1 i); own = λ e f one. (same e).0 (kept.own e f one) }
+pub in_one : {X : Type 0} {x y : X} → IsIn (x ∷ []) y → x ≡ y
+in_one (inl e) = e
+in_one (inr h) = absurd h
 
 -- one entity more
-pub taken : (ids es : List EntityId) (i : ℕ) (d e : EntityId) → i < length ids → IsIn (get_or ids i d ∷ (take i ids ++ es)) e ↔ IsIn (take (i + 1) ids ++ es) e
-taken ids es i d e less =
+pub added_more : (old marks new : List Bool) (ids : List EntityId) (i : ℕ) (d : EntityId) → i < length ids → length new ≡ length marks → AreAdded old marks (take i ids) → AreAdded marks new (get_or ids i d ∷ []) → AreAdded old new (take (i + 1) ids)
+added_more old marks new ids i d less long so_far next e l =
+    let before = so_far e (subst (λ (n : ℕ). e.index < n) long l) in
+    let now = next e l in
     let one = get_or ids i d ∷ [] in
-    let front = take i ids in
-    let whole = in_both (front ++ one) es e in
-    let begin = in_both front one e in
-    let rest = in_both front es e in
+    let parts = in_both (take i ids) one e in
     rw (take_more ids i d less) (
-      λ h. whole.1 (⊎_elim
-          (λ (f : get_or ids i d ≡ e). inl (begin.1 (inr (inl f))))
-          (λ (k : IsIn (front ++ es) e). ⊎_elim (λ (g : IsIn front e). inl (begin.1 (inl g))) (λ (g : IsIn es e). inr g) (rest.0 k)) h),
       λ h. ⊎_elim
-          (λ (k : IsIn (front ++ one) e). ⊎_elim (λ (g : IsIn front e). inr (rest.1 (inl g))) (λ (g : IsIn one e). ⊎_elim (λ (f : get_or ids i d ≡ e). inl f) (λ (z : ⊥). absurd z) g) (begin.0 k))
-          (λ (g : IsIn es e). inr (rest.1 (inr g))) (whole.0 h),
+          (λ (k : IsIn one e). inl (parts.1 (inr k)))
+          (λ (m : IsMarked marks e). ⊎_elim (λ (k : IsIn (take i ids) e). inl (parts.1 (inl k))) (λ (o : IsMarked old e). inr o) (before.0 m))
+          (now.0 h),
+      λ h. now.1 (⊎_elim
+          (λ k. ⊎_elim (λ (f : IsIn (take i ids) e). inr (before.1 (inl f))) (λ (f : IsIn one e). inl f) (parts.0 k))
+          (λ (o : IsMarked old e). inr (before.1 (inr o))) h),
     )

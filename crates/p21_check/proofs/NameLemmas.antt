@@ -1,5 +1,5 @@
 -- A name among names, one by one.
-use Rattle.std.proofs.Common.{◌≡◌, ◌↔◌, ⊎_elim, inl, inr, ℕ, ◌+◌, ◌<◌, ◌≤◌, Bool, true, List, [], ◌∷◌, length, get_or, drop, map, refl, sym, ap, subst, ◌∙◌, arith, nat_eq}
+use Rattle.std.proofs.Common.{◌≡◌, ◌↔◌, ⊎_elim, inl, inr, ℕ, ◌+◌, ◌<◌, ◌≤◌, true, List, [], ◌∷◌, length, get_or, drop, map, refl, sym, ap, subst, arith, nat_eq}
 use Rattle.std.proofs.lemmas.List.{drop_more, drop_all}
 use Rattle.std.proofs.lemmas.Bool.{and_parts}
 use Rattle.std.proofs.lemmas.Bool.Decides.{nat_tests}
@@ -18,10 +18,6 @@ same_list (x ∷ a) (y ∷ b) h =
 pub list_self : (a : List ℕ) → pointwise nat_eq a a ≡ true
 list_self [] = refl
 list_self (x ∷ a) = let here : nat_eq x x ≡ true = grind (arith, nat_tests) in let rest = list_self a in rw (here, rest) refl
-
--- a test of two names says whether they are the same
-pub same_name : (b : Bool) (x y : List ℕ) → b ≡ pointwise nat_eq x y → (b ≡ true) ↔ (x ≡ y)
-same_name b x y e = (λ h. same_list x y (sym e ∙ h), λ h. e ∙ ap (λ z. pointwise nat_eq x z) (sym h) ∙ list_self x)
 
 module _ {X : Type 0} (f : X → List ℕ) (xs : List X) (n : List ℕ) where
   split : (i : ℕ) (d : X) → i < length xs → map f (drop i xs) ≡ f (get_or xs i d) ∷ map f (drop (i + 1) xs)

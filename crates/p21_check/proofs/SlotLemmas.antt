@@ -1,7 +1,8 @@
 -- The declarations of an attribute, one by one, and what they make of its slot.
-use Rattle.std.proofs.Common.{◌≡◌, ◌⊎◌, ◌↔◌, ⊎_elim, inl, inr, ℕ, ◌+◌, ◌<◌, ◌≤◌, Bool, true, List, [], ◌∷◌, length, get_or, drop, refl, sym, ap, subst, ◌∙◌, arith}
+use Rattle.std.proofs.Common.{◌≡◌, ◌⊎◌, ◌↔◌, ⊎_elim, inl, inr, ℕ, ◌+◌, ◌<◌, ◌≤◌, Bool, true, List, [], ◌∷◌, length, get_or, take, drop, refl, sym, ap, subst, arith}
+use Rattle.std.proofs.lemmas.List.{take_all}
 use Rattle.p21_express.specs.Schema.{Schema, Expr}
-use Rattle.p21_express.specs.WellFormed.{IsIn, IsAncestor, IsWellFormed, Origin}
+use Rattle.p21_express.specs.WellFormed.{IsIn, Origin}
 use Rattle.p21_tree.specs.Tree.{Tree}
 use Rattle.p21_tree.specs.Tree as tree
 use Rattle.p21_schema.specs.declared.declarations.Declaration.{Declaration as Coded}
@@ -14,7 +15,7 @@ use Rattle.p21_check.specs.Conforms as conforms
 use Rattle.p21_check.specs.Known.{IsExpr}
 use Rattle.p21_check.specs.Slot.{DeclaresIn, IsDerived, Counts, FitsSlot, IsOptional, ConformsToForm}
 use Rattle.p21_check.specs.Slot as slot
-use Rattle.p21_check.specs.Sets.{AnyIn, Derives, IsAgainBelow, EachIn, CountsAmong, FitsForm, FitsCounting}
+use Rattle.p21_check.specs.Sets.{AnyIn, Derives, EachIn, CountsAmong, FitsForm, FitsCounting}
 use Rattle.p21_check.proofs.AnyLemmas.{any_here, any_further, any_nowhere, each_further, each_stops, each_done, zip_at, zip_length}
 
 -- ---- the code's declarations and the plain ones
@@ -26,7 +27,7 @@ module _ (s : Schema) (cs : List Coded) (ds : List Declaration) (z : AreResolved
   pub resolved_at : IsResolvedDeclaration s c (get_or ds i no_declaration)
   resolved_at = subst (λ (x : Coded). IsResolvedDeclaration s x (get_or ds i no_declaration)) (sym is) (zip_at (IsResolvedDeclaration s) cs ds i c no_declaration z less)
 
-  below : i < length ds
+  pub below : i < length ds
   below = let e = zip_length (IsResolvedDeclaration s) cs ds z in omega arith
 
   pub found_at : (P : Declaration → Type 0) → P (get_or ds i no_declaration) → AnyIn (drop i ds) P ↔ AnyIn ds P → AnyIn ds P
@@ -51,6 +52,9 @@ all_done s cs ds z i end P = each_done P ds i (let e = zip_length (IsResolvedDec
 pub none_found : (s : Schema) (cs : List Coded) (ds : List Declaration) → AreResolvedIn s cs ds → (i : ℕ) → length cs ≤ i → (P : Declaration → Type 0) → AnyIn (drop i ds) P ↔ AnyIn ds P → ¬ (AnyIn ds P)
 none_found s cs ds z i end P = any_nowhere P ds i (let e = zip_length (IsResolvedDeclaration s) cs ds z in omega arith)
 
+pub whole : (s : Schema) (cs : List Coded) (ds : List Declaration) → AreResolvedIn s cs ds → (i : ℕ) → length cs ≤ i → take i ds ≡ ds
+whole s cs ds z i end = take_all i ds (let e = zip_length (IsResolvedDeclaration s) cs ds z in omega arith)
+
 pub derived_form : (s : Schema) (f : Form) → IsResolvedForm s coded.Derived f → f ≡ form.derived
 derived_form s form.derived h = refl
 derived_form s (form.explicit o e) h = absurd h
@@ -58,9 +62,6 @@ derived_form s (form.explicit o e) h = absurd h
 pub explicit_form : (s : Schema) (o : Bool) (x : ResolvedExpr) (f : Form) → IsResolvedForm s (coded.Explicit o x) f → (e : Expr) × (f ≡ form.explicit o e) × IsExpr s x e
 explicit_form s o x form.derived h = absurd h
 explicit_form s o x (form.explicit p e) h = (e, ap (λ q. form.explicit q e) (sym h.0), h.1.0)
-
-pub explicit_no_derived : {o : Bool} {e : Expr} (f : Form) → f ≡ form.explicit o e → ¬ (f ≡ form.derived)
-explicit_no_derived f e g = cc
 
 -- ---- the plain declarations and the slot
 
@@ -175,42 +176,3 @@ module _ (s : Schema) (S : List ℕ → Type 0) (o : Origin) (ds : List Declarat
 
   pub fits_by_each : (t : Tree) → ¬ (IsDerived s S o) → EachIn ds (FitsCounting s S ds t) ↔ FitsSlot s S o t
   fits_by_each t h = (λ k. fits_there h k, λ k. fits_back h k)
-
--- ---- an attribute with one declaration
-
-pub in_only : {d x : Declaration} → IsIn (d ∷ []) x → d ≡ x
-in_only (inl e) = e
-in_only (inr h) = elim h [ ]
-
-module _ (s : Schema) (well : IsWellFormed s) (S : List ℕ → Type 0) (d : Declaration) where
-  -- nothing declares it again below
-  alone : ¬ (AnyIn (d ∷ []) (IsAgainBelow s S d.entity))
-  alone k = well.cycles.entities d.entity (subst (λ (x : Declaration). IsAncestor s x.entity d.entity) (sym (in_only k.1)) k.2.1)
-
-  not_in_derive : ¬ (d.form ≡ form.derived) → ¬ (AnyIn (d ∷ []) (Derives S))
-  not_in_derive e k = e (ap (λ (x : Declaration). x.form) (in_only k.1) ∙ k.2.1)
-
-  pub only_counts : S d.entity → ¬ (d.form ≡ form.derived) → CountsAmong s S (d ∷ []) d
-  only_counts by e = (by, not_in_derive e, alone)
-
-module _ (s : Schema) (well : IsWellFormed s) (S : List ℕ → Type 0) (o : Origin) (d : Declaration) (are : AreDeclarations s o (d ∷ [])) (t : Tree) where
-  counting : ¬ (AnyIn (d ∷ []) (Derives S)) → EachIn (d ∷ []) (FitsCounting s S (d ∷ []) t) ↔ (S d.entity → FitsForm s t d.form)
-  counting none = (
-    λ each by. each d (inl refl) (by, none, alone s well S d),
-    λ fits x among. subst (FitsCounting s S (d ∷ []) t) (in_only among) (λ counts. fits counts.0),
-  )
-
-  fits_alone : ¬ (AnyIn (d ∷ []) (Derives S)) → (S d.entity → FitsForm s t d.form) ↔ FitsSlot s S o t
-  fits_alone none =
-      let each = fits_by_each s S o (d ∷ []) are t (λ h. none (derived_among s S o (d ∷ []) are h)) in
-      let one = counting none in
-      ((λ h. each.0 (one.1 h)), (λ h. one.0 (each.1 h)))
-
-  pub outside_fits : ¬ (S d.entity) → FitsSlot s S o t
-  outside_fits out = (fits_alone (λ k. out (subst (λ (x : Declaration). S x.entity) (sym (in_only k.1)) k.2.0))).0 (λ by. absurd (out by))
-
-  pub derived_fits : S d.entity → d.form ≡ form.derived → (t ≡ tree.derived) ↔ FitsSlot s S o t
-  derived_fits by e = fits_derived s S o (d ∷ []) are t (derived_there s S o (d ∷ []) are (d, inl refl, (by, e)))
-
-  pub explicit_fits : S d.entity → ¬ (d.form ≡ form.derived) → FitsForm s t d.form ↔ FitsSlot s S o t
-  explicit_fits by e = let fits = fits_alone (not_in_derive s well S d e) in ((λ h. fits.0 (λ _. h)), (λ h. fits.1 h by))

@@ -4,7 +4,7 @@ use Rattle.p21_tree.specs.Tree.{Tree}
 use Rattle.p21_tree.specs.Tree as tree
 use Rattle.p21_express.specs.Schema.{Schema, Expr, Underlying}
 use Rattle.p21_express.specs.Schema as type
-use Rattle.p21_express.specs.WellFormed.{IsIn, IsWellFormed, IsSelect}
+use Rattle.p21_express.specs.WellFormed.{IsWellFormed, IsSelect}
 use Rattle.p21_schema.specs.declared.resolved.Target.{Target}
 use Rattle.p21_schema.specs.declared.resolved.ResolvedExpr.{ResolvedExpr}
 use Rattle.p21_schema.specs.declared.resolved.ResolvedExpr.TheVariants.{Named}

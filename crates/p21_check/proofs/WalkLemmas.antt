@@ -6,7 +6,7 @@ use Rattle.p21_express.specs.Schema.{Schema, Expr}
 use Rattle.p21_tree.specs.Tree.{Tree, Trees, reference, items, typed, nil, cons}
 use Rattle.p21_tree.specs.Tree as tree
 use Rattle.p21_tree.specs.Sentence.{Instance}
-use Rattle.p21_tree.specs.declared.params.Param.{Param, Param-F, out-Param, roll-Param, fold-roll-Param, roll-out-Param}
+use Rattle.p21_tree.specs.declared.params.Param.{Param, Param-F, roll-Param, fold-roll-Param}
 use Rattle.p21_tree.specs.declared.params.Param.TheVariants.{Ref, rolls-Ref}
 use Rattle.p21_tree.specs.declared.params.Param.TheOpen as level
 use Rattle.p21_tree.specs.declared.params.Param.TheViews as seen
@@ -144,12 +144,6 @@ leaf_level (level.Real x) a b d = subst IsLeaf (sym (fold-roll-Param Tree plain_
 leaf_level (level.Str x) a b d = subst IsLeaf (sym (fold-roll-Param Tree plain_level (level.Str x))) tt
 leaf_level (level.Enumeration x) a b d = subst IsLeaf (sym (fold-roll-Param Tree plain_level (level.Enumeration x))) tt
 leaf_level (level.Binary x) a b d = subst IsLeaf (sym (fold-roll-Param Tree plain_level (level.Binary x))) tt
-
-pub leaf_answered : (s : Schema) (named : ℕ → Option Instance) (w : Wanted) (p : Param) → ((n : ℕ) → ¬ (p ≡ Ref n)) → ((v : Vec Param Global) → ¬ (p ≡ seen.Items v)) → ((k : Bor (List ℕ)) (q : Box Param Global) → ¬ (p ≡ seen.Typed k q)) → EachIsAnswered s named (Asks s w (plain p))
-leaf_answered s named w p a b d k r h =
-    let same = roll-out-Param p in
-    let leaf = leaf_level (out-Param p) (λ n e. a n (sym same ∙ e)) (λ v e. b v (sym same ∙ e)) (λ j q e. d j q (sym same ∙ e)) in
-    absurd (leaf_asks s w (plain p) k r (subst (λ (q : Param). IsLeaf (plain q)) same leaf) h)
 
 -- the elements of a list, from one on
 

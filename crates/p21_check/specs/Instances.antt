@@ -1,7 +1,7 @@
 -- Instances of each kind, and what may be wrong with their records.
-use Rattle.std.specs.Prelude.{◌≡◌, ◌<◌, ◌↔◌, ℕ, true, false, List, [], ◌∷◌, Option, Some, None, Result, MatchOption, MatchResult, map, length, slice_get}
+use Rattle.std.specs.Prelude.{◌≡◌, ◌<◌, ℕ, Bool, true, false, List, [], ◌∷◌, Option, Some, None, Result, MatchOption, MatchResult, map, length, slice_get}
 use Rattle.p21_express.specs.Schema.{Schema}
-use Rattle.p21_express.specs.WellFormed.{IsIn, IsEntity, IsSupertype, Origin}
+use Rattle.p21_express.specs.WellFormed.{IsEntity, IsSupertype, Origin}
 use Rattle.p21_tree.specs.Tree.{Tree, Trees}
 use Rattle.p21_tree.specs.Grammar.{Entry}
 use Rattle.p21_tree.specs.Sentence.{Instance}
@@ -13,8 +13,6 @@ use Rattle.p21_check.specs.Attributes.{AreAttributes}
 use Rattle.p21_check.specs.Slot.{FitsSlot}
 use Rattle.p21_check.specs.Repeats.{RepeatsInSlot}
 use Rattle.p21_check.specs.LocalFault.{IsLocalFault, tree_get, IsAbstract, HasWrongCount, HasBadAttribute, HasRepeatedReference}
-use Rattle.p21_schema.specs.declared.ids.EntityId.{EntityId}
-use Rattle.p21_schema.specs.Place.{IsEntityOf, entity_name}
 use Rattle.p21_check.specs.Marks.{AreMarksOf}
 use Rattle.p21_check.specs.Sets.{AnyIn}
 
@@ -84,9 +82,9 @@ LacksAbove s InSet r = (m : List ℕ) × (IsSupertype s r.keyword.now m × ¬ (I
 abbrev pub IsSubtypeRecord : Schema → List ℕ → Record → Type 0
 IsSubtypeRecord s n r = IsSupertype s r.keyword.now n
 
--- the marks are of the entities that those of the records name in SUBTYPE OF
-abbrev pub AreMarksAbove : Schema → List ℕ → List Record → Type 0
-AreMarksAbove s marks rs = (es : List EntityId) × AreMarksOf marks es × ((e : EntityId) → IsEntityOf s e → IsIn es e ↔ AnyIn rs (IsSubtypeRecord s (entity_name s e)))
+-- just the entities that those of the records name in SUBTYPE OF are marked
+abbrev pub AreMarksAbove : Schema → List Bool → List Record → Type 0
+AreMarksAbove s marks rs = AreMarksOf s marks (λ n. AnyIn rs (IsSubtypeRecord s n))
 
 -- the record's entity is abstract, and no record is of a subtype
 abbrev pub LacksBelow : Schema → List Record → Record → Type 0

@@ -1,10 +1,9 @@
 -- Entity sets of the code, and the declarations of an attribute by their entities.
-use Rattle.std.specs.Prelude.{◌≡◌, ◌⊎◌, ◌↔◌, ◌<◌, List, ℕ, length, map}
+use Rattle.std.specs.Prelude.{◌≡◌, ◌⊎◌, ◌↔◌, Bool, List, ℕ, map}
 use Rattle.p21_express.specs.Schema.{Schema}
 use Rattle.p21_express.specs.WellFormed.{IsIn, IsEntity, IsAncestor}
 use Rattle.p21_tree.specs.Tree.{Tree}
 use Rattle.p21_tree.specs.declared.instances.Record.{Record}
-use Rattle.p21_schema.specs.declared.ids.EntityId.{EntityId}
 use Rattle.p21_schema.specs.Place.{IsEntityOf, entity_name}
 use Rattle.p21_schema.specs.declared.declarations.Declaration.{Declaration as Coded}
 use Rattle.p21_schema.specs.Declaration.{Declaration, Form, AreResolvedIn}
@@ -22,22 +21,20 @@ keywords_of rs = map (λ r. r.keyword.now) rs
 -- the entities of the set
 abbrev pub HasEntity : Schema → EntitySet → List ℕ → Type 0
 HasEntity s (set.Simple e) n = (entity_name s e ≡ n) ⊎ IsAncestor s (entity_name s e) n
-HasEntity s (set.Complex rs) n = IsIn (keywords_of rs.now) n × IsEntity s n
-HasEntity s (set.Marked rs marks) n = IsIn (keywords_of rs.now) n × IsEntity s n
+HasEntity s (set.Complex rs marks) n = IsIn (keywords_of rs.now) n × IsEntity s n
 
 -- it is the set of what the records name
 abbrev pub IsSetOfRecords : Schema → EntitySet → List Record → Type 0
 IsSetOfRecords s set rs = (n : List ℕ) → HasEntity s set n ↔ (IsIn (keywords_of rs) n × IsEntity s n)
 
--- the marks are of the entities that the records name
-abbrev pub AreMarksOfRecords : Schema → List ℕ → List Record → Type 0
-AreMarksOfRecords s marks rs = (es : List EntityId) × AreMarksOf marks es × ((e : EntityId) → IsEntityOf s e → IsIn es e ↔ IsIn (keywords_of rs) (entity_name s e))
+-- just the entities that the records name are marked
+abbrev pub AreMarksOfRecords : Schema → List Bool → List Record → Type 0
+AreMarksOfRecords s marks rs = AreMarksOf s marks (IsIn (keywords_of rs))
 
--- the ids in it are of this schema, and the marks of its records
+-- its id is of this schema, or its marks are of its records
 abbrev pub IsSetOf : Schema → EntitySet → Type 0
 IsSetOf s (set.Simple e) = IsEntityOf s e
-IsSetOf s (set.Complex rs) = Unit {0}
-IsSetOf s (set.Marked rs marks) = (0 < length marks.now) × AreMarksOfRecords s marks.now rs.now
+IsSetOf s (set.Complex rs marks) = AreMarksOfRecords s marks.now rs.now
 
 -- some element of the list is such
 abbrev pub AnyIn : {X : Type 0} → List X → (X → Type 0) → Type 0

@@ -4,7 +4,7 @@ ghost use Rattle.std.specs.Prelude.{◌≡◌, ◌↔◌, ◌<◌, ℕ, List, tr
 ghost use Rattle.p21_express.specs.WellFormed.{Origin};
 ghost use Rattle.p21_tree.specs.Plain.{plain, plain_all};
 ghost use Rattle.p21_tree.specs.Views.{plain_record};
-ghost use Rattle.p21_schema.specs.Declaration.{Declaration as Declared, Form as DeclaredForm, AreDeclarations, AreResolvedIn, IsResolvedDeclaration, IsResolvedForm};
+ghost use Rattle.p21_schema.specs.Declaration.{Declaration as Declared, Form as DeclaredForm, AreResolvedIn, IsResolvedDeclaration, IsResolvedForm};
 ghost use Rattle.p21_schema.specs.Place.{IsEntityOf, entity_name};
 ghost use Rattle.p21_schema.specs.Row.{IsAttributeOf, attribute_at};
 ghost use Rattle.p21_check.specs.Attributes.{AreAttributes};
@@ -13,13 +13,13 @@ ghost use Rattle.p21_check.specs.Repeats.{RepeatsByForm, RepeatsInSlot};
 ghost use Rattle.p21_check.specs.Sets.{AnyIn, CountsAmong, EachIn, HasEntity, IsNotDerived, IsSetOf, IsSetOfRecords, RepeatsCounting};
 
 use crate::attributes::attribute;
-use crate::binding::binding;
-use crate::complex::known;
+use crate::binding::{Binding, binding_of};
 use crate::entity_set::EntitySet;
 use crate::lists::lists_of;
+use crate::records::known;
 use crate::repeats::{may_have_list, repeats};
-use crate::slot::{counts, is_derived};
-use p21_schema::{AttrId, Binding, Declaration, EntityId, Form, Schema};
+use crate::slot::counts;
+use p21_schema::{AttrId, Declaration, EntityId, Form, Schema};
 use p21_tree::{FaultKind, Param, Record};
 
 /// The first repeated reference of a simple instance, by its record, which is of this entity.
@@ -113,26 +113,14 @@ fn repeats_in_slot(
     if !may_have_list(param) {
         return false;
     }
+    schema.fits();
     let declarations = schema.declarations(attribute);
-    match binding(schema, set, attribute) {
-        Binding::Derived | Binding::Free => false,
+    match binding_of(schema, set, declarations) {
+        Binding::Derived => false,
+        Binding::Free => false,
         Binding::By(lowest) => repeats_by_form(schema, &lowest.form, param),
-        Binding::Unsaid => repeats_by_each(schema, set, declarations, param),
+        Binding::Unsaid => repeats_by_any(schema, set, declarations, param),
     }
-}
-
-/// Whether it does for an attribute that has these declarations, by a look at each of them.
-fn repeats_by_each(
-    schema: &Schema,
-    set: &EntitySet<'_, '_>,
-    declarations: &[Declaration],
-    param: &Param<'_>,
-) -> bool
-    requires set { IsSetOf schema.now set.now }
-    requires declarations { (ds : List Declared) × AreResolvedIn schema.now declarations.now ds }
-    ensures { (o : Origin) → (ds : List Declared) → AreDeclarations schema.now o ds → AreResolvedIn schema.now declarations.now ds → (IsTrue result ↔ RepeatsInSlot schema.now (HasEntity schema.now set.now) o (plain param.now)) }
-{
-    !is_derived(schema, set, declarations) && repeats_by_any(schema, set, declarations, param)
 }
 
 /// Whether it does by one of these declarations that counts, of an attribute that is not derived.

@@ -1,11 +1,10 @@
 //! The entities that an instance is of.
 
-ghost use Rattle.std.specs.Prelude.{◌≡◌, ◌↔◌, ◌<◌, length, IsTrue};
+ghost use Rattle.std.specs.Prelude.{◌≡◌, ◌↔◌, IsTrue};
 ghost use Rattle.p21_express.specs.WellFormed.{IsIn, IsAncestor};
 ghost use Rattle.p21_schema.specs.Place.{IsEntityOf, entity_name};
 ghost use Rattle.p21_check.specs.Sets.{keywords_of, AreMarksOfRecords, HasEntity, IsSetOf};
 
-use crate::marks::{Told, look};
 use p21_schema::{EntityId, Schema};
 use p21_tree::Record;
 
@@ -14,12 +13,10 @@ use p21_tree::Record;
 pub(crate) enum EntitySet<'a, 'b> {
     /// Of a simple instance: its entity, and the ancestors.
     Simple(EntityId),
-    /// Of a complex instance: the entities of its records.
-    Complex(&'a [Record<'b>]),
-    /// The same, with the marks of these entities.
-    Marked {
+    /// Of a complex instance: the entities of its records, with a table of marks of these.
+    Complex {
         records: &'a [Record<'b>],
-        marks: &'a [u8],
+        marks: &'a [bool],
     },
 }
 
@@ -31,32 +28,31 @@ pub(crate) fn is_in_set(schema: &Schema, set: &EntitySet<'_, '_>, entity: Entity
 {
     match *set {
         EntitySet::Simple(own) => schema.is_a(own, entity),
-        EntitySet::Complex(records) => is_named(schema, records, entity),
-        EntitySet::Marked { records, marks } => is_marked(schema, marks, records, entity),
+        EntitySet::Complex { records, marks } => is_named(schema, marks, records, entity),
     }
 }
 
-/// Whether a record names the entity, by the marks of those that they name.
-pub(crate) fn is_marked(
+/// Whether a record names the entity: by its mark, or, where it has none, by a search of the records.
+pub(crate) fn is_named(
     schema: &Schema,
-    marks: &[u8],
+    marks: &[bool],
     records: &[Record<'_>],
     entity: EntityId,
 ) -> bool
-    requires room { 0 < length marks.now }
     requires marked { AreMarksOfRecords schema.now marks.now records.now }
     requires entity { IsEntityOf schema.now entity }
     ensures { IsTrue result ↔ IsIn (keywords_of records.now) (entity_name schema.now entity) }
 {
-    match look(marks, entity) {
-        Told::Absent => false,
-        Told::Present => true,
-        Told::Unknown => is_named(schema, records, entity),
+    let place = entity.place();
+    if place < marks.len() {
+        marks[place]
+    } else {
+        is_keyword(schema, records, entity)
     }
 }
 
-/// Whether a record names the entity.
-fn is_named(schema: &Schema, records: &[Record<'_>], entity: EntityId) -> bool
+/// Whether the keyword of a record is the name of the entity.
+fn is_keyword(schema: &Schema, records: &[Record<'_>], entity: EntityId) -> bool
     requires { IsEntityOf schema.now entity }
     ensures { IsTrue result ↔ IsIn (keywords_of records.now) (entity_name schema.now entity) }
 {

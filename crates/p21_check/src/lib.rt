@@ -1,6 +1,7 @@
 //! Checks of a file against its schema: of its header, of one instance by itself, and of its references.
 #![tactic(auto)]
 
+mod asked;
 mod attributes;
 mod binding;
 mod bounds;
@@ -10,17 +11,19 @@ mod distinct;
 mod entity_of;
 mod entity_set;
 mod header;
-mod judge;
 mod laws;
 mod lists;
 mod local;
 mod marks;
+mod name_judge;
+mod records;
 mod references;
 mod repeated_names;
 mod repeats;
 mod schema_name;
 mod simple;
 mod slot;
+mod supertypes;
 mod walk;
 mod wanted;
 mod width;

@@ -23,7 +23,7 @@ use p21_tree::{FaultKind, RawInstance, Record};
 /// (`Schema::distinct`), `RepeatedReference` where a list in a parameter names one instance twice and stands for a SET or a
 /// LIST OF UNIQUE, by a declaration of the attribute that counts.
 ///
-/// This takes no memory but for the names of such a list of more than 16384 elements, where there is some.
+/// This takes no memory but for the names of such a list that do not rise, where there are more than 16 elements and there is some.
 pub fn check_local(schema: &Schema, instance: &RawInstance<'_>) -> Result<(), FaultKind>
     ensures { MatchResult result (λ _. IsLocalFault schema.now (plain_instance instance.now) None) (λ kind. IsLocalFault schema.now (plain_instance instance.now) (Some kind)) }
 {

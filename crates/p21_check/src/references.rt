@@ -1,34 +1,29 @@
 //! The references of an instance.
 
-ghost use Rattle.std.specs.Prelude.{◌≡◌, ◌<◌, ℕ, List, [], ◌∷◌, Option, Some, None, length, option_map, MatchResult, OnErr};
+ghost use Rattle.std.specs.Prelude.{◌≡◌, ℕ, List, Option, Some, None, length, option_map, MatchResult, OnErr};
 ghost use Rattle.p21_tree.specs.Sentence.{Instance};
 ghost use Rattle.p21_tree.specs.Views.{plain_instance, plain_record};
 ghost use Rattle.p21_express.specs.WellFormed.{Origin};
 ghost use Rattle.p21_check.specs.Attributes.{AreAttributes};
-ghost use Rattle.p21_tree.specs.Plain.{plain, plain_all};
-ghost use Rattle.p21_schema.specs.Declaration.{Declaration as Declared, Form as DeclaredForm, AreDeclarations, AreResolvedIn, IsResolvedDeclaration, IsResolvedForm};
+ghost use Rattle.p21_tree.specs.Plain.{plain_all};
 ghost use Rattle.p21_schema.specs.Place.{IsEntityOf, entity_name};
-ghost use Rattle.p21_schema.specs.Row.{IsAttributeOf, attribute_at};
-ghost use Rattle.p21_check.specs.Sets.{HasEntity, IsSetOfRecords, IsNotDerived, IsSetOf};
-ghost use Rattle.p21_check.specs.Asked.{AsksAsCounted, AsksByForm, AskedBy, FindsFirst, FindsInRecord, IsReferenceAnswer};
+ghost use Rattle.p21_check.specs.Sets.{HasEntity, IsSetOfRecords, IsSetOf};
+ghost use Rattle.p21_check.specs.Asked.{FindsInRecord, IsReferenceAnswer};
 ghost use Rattle.p21_check.specs.Instances.{simple_instance, complex_instance};
 ghost use Rattle.p21_check.specs.EntityOf.{IsSimpleEntity};
 ghost use Rattle.p21_check.specs.LocalFault.{IsLocalFault};
 ghost use Rattle.p21_check.specs.References.{IsReferenceFault};
-ghost use Rattle.p21_check.specs.Wanted.{Asks, IsAsked};
 
+use crate::asked::parameter;
 use crate::attributes::{attribute, attribute_count};
-use crate::binding::binding;
-use crate::complex::{has_unknown, marks_twice};
 use crate::entity_of::{EntityOf, simple_entity};
-use crate::entity_set::{EntitySet, is_in_set};
-use crate::judge::{Entities, Keywords};
-use crate::marks::{FEW, MANY_MARKS, SOME, SOME_MARKS};
-use crate::slot::{counts, is_derived};
-use crate::walk::{Bad, Judge, may_refer, walk};
-use crate::wanted::{Wanted, wanted_by};
-use p21_schema::{AttrId, Binding, Declaration, EntityId, Form, Schema};
-use p21_tree::{FaultKind, Param, RawInstance, Record};
+use crate::entity_set::EntitySet;
+use crate::marks::{FEW, MARKS};
+use crate::name_judge::{Entities, Keywords};
+use crate::records::{has_unknown, marks_twice};
+use crate::walk::NameJudge;
+use p21_schema::{EntityId, Schema};
+use p21_tree::{FaultKind, RawInstance, Record};
 use std::marker::PhantomData;
 
 /// Instances by their names.
@@ -82,7 +77,7 @@ pub fn check_references_among<'m, 'a: 'm, M: EntityOf<'a>>(
 }
 
 /// The first reference of an instance that is at fault, by its own entity and by what judges instance names.
-fn references<J: Judge>(
+fn references<J: NameJudge>(
     schema: &Schema,
     own: Option<EntityId>,
     instance: &RawInstance<'_>,
@@ -101,7 +96,7 @@ fn references<J: Judge>(
 }
 
 /// The first reference at fault of a simple instance, by its record, which is of this entity.
-fn simple_references<J: Judge>(
+fn simple_references<J: NameJudge>(
     schema: &Schema,
     own: EntityId,
     one: &Record<'_>,
@@ -118,7 +113,7 @@ fn simple_references<J: Judge>(
 }
 
 /// The first reference at fault of a complex instance, by its records.
-fn complex_references<J: Judge>(
+fn complex_references<J: NameJudge>(
     schema: &Schema,
     records: &[Record<'_>],
     judge: &J,
@@ -128,18 +123,18 @@ fn complex_references<J: Judge>(
     ensures { (name : ℕ) → (at : ℕ) → IsReferenceAnswer schema.now (J.named judge.now) (complex_instance name at records.now) result }
 {
     if records.len() <= FEW {
-        return records_references(schema, &EntitySet::Complex(records), records, judge);
-    }
-    if records.len() <= SOME {
-        return some_references(schema, records, judge);
+        let set = EntitySet::Complex {
+            records,
+            marks: &[],
+        };
+        return records_references(schema, &set, records, judge);
     }
     many_references(schema, records, judge)
 }
 
-// A function pays at its beginning for its table, so each stands in one of its own, which stays one.
-
+// A function pays at its beginning for its table, so it stands in one of its own, which stays one.
 #[inline(never)]
-fn some_references<J: Judge>(
+fn many_references<J: NameJudge>(
     schema: &Schema,
     records: &[Record<'_>],
     judge: &J,
@@ -148,32 +143,17 @@ fn some_references<J: Judge>(
     requires local { (name : ℕ) × (at : ℕ) × IsLocalFault schema.now (complex_instance name at records.now) None }
     ensures { (name : ℕ) → (at : ℕ) → IsReferenceAnswer schema.now (J.named judge.now) (complex_instance name at records.now) result }
 {
-    let mut marks = [0; SOME_MARKS];
-    marked_references(schema, &mut marks, records, judge)
-}
-
-#[inline(never)]
-fn many_references<J: Judge>(
-    schema: &Schema,
-    records: &[Record<'_>],
-    judge: &J,
-) -> Result<(), FaultKind>
-    requires same { J.table judge.now ≡ schema.now }
-    requires local { (name : ℕ) × (at : ℕ) × IsLocalFault schema.now (complex_instance name at records.now) None }
-    ensures { (name : ℕ) → (at : ℕ) → IsReferenceAnswer schema.now (J.named judge.now) (complex_instance name at records.now) result }
-{
-    let mut marks = [0; MANY_MARKS];
+    let mut marks = [false; MARKS];
     marked_references(schema, &mut marks, records, judge)
 }
 
 /// The first reference at fault of a complex instance, with a table for the marks of the entities that its records name.
-fn marked_references<J: Judge>(
+fn marked_references<J: NameJudge>(
     schema: &Schema,
-    marks: &mut [u8],
+    marks: &mut [bool],
     records: &[Record<'_>],
     judge: &J,
 ) -> Result<(), FaultKind>
-    requires marks { 0 < length marks.old }
     requires same { J.table judge.now ≡ schema.now }
     requires local { (name : ℕ) × (at : ℕ) × IsLocalFault schema.now (complex_instance name at records.now) None }
     ensures { (name : ℕ) → (at : ℕ) → IsReferenceAnswer schema.now (J.named judge.now) (complex_instance name at records.now) result }
@@ -185,12 +165,12 @@ fn marked_references<J: Judge>(
     if marks_twice(schema, marks, records) {
         return Ok(());
     }
-    let set = EntitySet::Marked { records, marks };
+    let set = EntitySet::Complex { records, marks };
     records_references(schema, &set, records, judge)
 }
 
 /// The first reference at fault of a complex instance, by its records and the set of what they name.
-fn records_references<J: Judge>(
+fn records_references<J: NameJudge>(
     schema: &Schema,
     set: &EntitySet<'_, '_>,
     records: &[Record<'_>],
@@ -215,7 +195,7 @@ fn records_references<J: Judge>(
 }
 
 /// Looks for the first reference at fault in a record, which is of this entity and has this place.
-fn entry<J: Judge>(
+fn entry<J: NameJudge>(
     schema: &Schema,
     set: &EntitySet<'_, '_>,
     complex: bool,
@@ -241,167 +221,4 @@ fn entry<J: Judge>(
         }
     }
     Ok(())
-}
-
-/// Looks for the first reference at fault in a parameter for an attribute.
-fn parameter<J: Judge>(
-    schema: &Schema,
-    set: &EntitySet<'_, '_>,
-    attribute: AttrId,
-    param: &Param<'_>,
-    judge: &J,
-) -> Result<(), Bad>
-    requires same { J.table judge.now ≡ schema.now }
-    requires set { IsSetOf schema.now set.now }
-    requires attribute { IsAttributeOf schema.now attribute }
-    ensures { FindsFirst schema.now (J.named judge.now) (AskedBy schema.now (HasEntity schema.now set.now) (attribute_at schema.now attribute) (plain param.now)) result }
-{
-    if !may_refer(param) {
-        return Ok(());
-    }
-    let declarations = schema.declarations(attribute);
-    // Nearly all attributes are declared once.
-    if let [only] = declarations {
-        return against_only(schema, set, only, param, judge);
-    }
-    match binding(schema, set, attribute) {
-        Binding::Derived | Binding::Free => Ok(()),
-        Binding::By(lowest) => {
-            let wanted = asked_by_form(schema, &lowest.form);
-            against(schema, wanted, param, judge)
-        }
-        Binding::Unsaid => against_all(schema, set, declarations, param, judge),
-    }
-}
-
-/// Looks for the first reference at fault in a parameter, of those that are asked for.
-fn against<'s, J: Judge>(
-    schema: &'s Schema,
-    wanted: Wanted<'s>,
-    param: &Param<'_>,
-    judge: &J,
-) -> Result<(), Bad>
-    requires same { J.table judge.now ≡ schema.now }
-    requires wanted { IsAsked schema.now wanted }
-    ensures { FindsFirst schema.entry.now (J.named judge.now) (Asks schema.entry.now wanted.entry (plain param.now)) result }
-{
-    match walk(schema, judge, Wanted::Nothing, wanted, param) {
-        Ok(()) => Ok(()),
-        Err(found) => Err(found.bad),
-    }
-}
-
-/// Looks for the first reference at fault in a parameter for an attribute that is declared once.
-fn against_only<J: Judge>(
-    schema: &Schema,
-    set: &EntitySet<'_, '_>,
-    only: &Declaration,
-    param: &Param<'_>,
-    judge: &J,
-) -> Result<(), Bad>
-    requires same { J.table judge.now ≡ schema.now }
-    requires set { IsSetOf schema.now set.now }
-    requires only { (d : Declared) × IsResolvedDeclaration schema.now only.now d }
-    ensures { (o : Origin) → (d : Declared) → AreDeclarations schema.now o (d ∷ []) → IsResolvedDeclaration schema.now only.now d → FindsFirst schema.now (J.named judge.now) (AskedBy schema.now (HasEntity schema.now set.now) o (plain param.now)) result }
-{
-    let wanted = asked_by_only(schema, set, only);
-    against(schema, wanted, param, judge)
-}
-
-/// Looks for the first reference at fault in a parameter, by a look at each declaration of its attribute.
-fn against_all<J: Judge>(
-    schema: &Schema,
-    set: &EntitySet<'_, '_>,
-    declarations: &[Declaration],
-    param: &Param<'_>,
-    judge: &J,
-) -> Result<(), Bad>
-    requires same { J.table judge.now ≡ schema.now }
-    requires set { IsSetOf schema.now set.now }
-    requires declarations { (ds : List Declared) × AreResolvedIn schema.now declarations.now ds }
-    ensures { (o : Origin) → (ds : List Declared) → AreDeclarations schema.now o ds → AreResolvedIn schema.now declarations.now ds → FindsFirst schema.now (J.named judge.now) (AskedBy schema.now (HasEntity schema.now set.now) o (plain param.now)) result }
-{
-    if is_derived(schema, set, declarations) {
-        return Ok(());
-    }
-    against_each(schema, set, declarations, param, judge)
-}
-
-/// Looks for the first reference at fault in a parameter for an attribute that is not derived, against each declaration that
-/// counts.
-fn against_each<J: Judge>(
-    schema: &Schema,
-    set: &EntitySet<'_, '_>,
-    declarations: &[Declaration],
-    param: &Param<'_>,
-    judge: &J,
-) -> Result<(), Bad>
-    requires same { J.table judge.now ≡ schema.now }
-    requires set { IsSetOf schema.now set.now }
-    requires declarations { (ds : List Declared) × AreResolvedIn schema.now declarations.now ds }
-    requires not_derived { IsNotDerived schema.now set.now declarations.now }
-    ensures { (o : Origin) → (ds : List Declared) → AreDeclarations schema.now o ds → AreResolvedIn schema.now declarations.now ds → FindsFirst schema.now (J.named judge.now) (AskedBy schema.now (HasEntity schema.now set.now) o (plain param.now)) result }
-{
-    let mut first = Ok(());
-    let mut wanted = Wanted::Nothing;
-    for declaration in declarations {
-        let other = asked_by(schema, set, declarations, declaration);
-        if let Err(found) = walk(schema, judge, wanted, other, param) {
-            if found.second {
-                wanted = other;
-            }
-            first = Err(found.bad);
-        }
-    }
-    first
-}
-
-/// What the only declaration of an attribute asks of references: it counts where it is by an entity of the set, and is not in
-/// DERIVE.
-fn asked_by_only<'s>(
-    schema: &'s Schema,
-    set: &EntitySet<'_, '_>,
-    only: &'s Declaration,
-) -> Wanted<'s>
-    requires set { IsSetOf schema.now set.now }
-    requires only { (d : Declared) × IsResolvedDeclaration schema.now only.now d }
-    ensures { (d : Declared) → IsResolvedDeclaration schema.entry.now only.entry.now d → AsksAsCounted schema.entry.now (HasEntity schema.entry.now set.now) (d ∷ []) d result }
-{
-    schema.fits();
-    if is_in_set(schema, set, only.entity) {
-        asked_by_form(schema, &only.form)
-    } else {
-        Wanted::Nothing
-    }
-}
-
-/// What a declaration asks of references, where it counts, of an attribute that is not derived.
-fn asked_by<'s>(
-    schema: &'s Schema,
-    set: &EntitySet<'_, '_>,
-    declarations: &[Declaration],
-    declaration: &'s Declaration,
-) -> Wanted<'s>
-    requires set { IsSetOf schema.now set.now }
-    requires declarations { (ds : List Declared) × AreResolvedIn schema.now declarations.now ds }
-    requires not_derived { IsNotDerived schema.now set.now declarations.now }
-    requires declaration { (d : Declared) × IsResolvedDeclaration schema.now declaration.now d }
-    ensures { (ds : List Declared) → (d : Declared) → AreResolvedIn schema.entry.now declarations.now ds → IsResolvedDeclaration schema.entry.now declaration.entry.now d → AsksAsCounted schema.entry.now (HasEntity schema.entry.now set.now) ds d result }
-{
-    if counts(schema, set, declarations, declaration.entity) {
-        asked_by_form(schema, &declaration.form)
-    } else {
-        Wanted::Nothing
-    }
-}
-
-/// What a declaration of this form asks of references: nothing in DERIVE.
-fn asked_by_form<'s>(schema: &'s Schema, form: &'s Form) -> Wanted<'s>
-    requires form { (f : DeclaredForm) × IsResolvedForm schema.now form.now f }
-    ensures { (f : DeclaredForm) → IsResolvedForm schema.entry.now form.entry.now f → AsksByForm schema.entry.now f result }
-{
-    match form {
-        Form::Derived => Wanted::Nothing,
-        Form::Explicit { texpr, .. } => wanted_by(schema, texpr),
-    }
 }

@@ -1,20 +1,20 @@
 //! Whether a parameter may be given for an attribute.
 
-ghost use Rattle.std.specs.Prelude.{◌≡◌, ◌↔◌, List, [], ◌∷◌, IsTrue};
-ghost use Rattle.p21_express.specs.WellFormed.{IsAncestor, Origin};
+ghost use Rattle.std.specs.Prelude.{◌≡◌, ◌↔◌, List, IsTrue};
+ghost use Rattle.p21_express.specs.WellFormed.{IsAncestor};
 ghost use Rattle.p21_tree.specs.Plain.{plain};
 ghost use Rattle.p21_tree.specs.Bodies.{HasBodies};
-ghost use Rattle.p21_schema.specs.Declaration.{Declaration as Declared, Form as DeclaredForm, AreDeclarations, AreResolvedIn, IsResolvedDeclaration, IsResolvedForm};
+ghost use Rattle.p21_schema.specs.Declaration.{Declaration as Declared, Form as DeclaredForm, AreResolvedIn, IsResolvedDeclaration, IsResolvedForm};
 ghost use Rattle.p21_schema.specs.Place.{IsEntityOf, entity_name};
 ghost use Rattle.p21_schema.specs.Row.{IsAttributeOf, attribute_at};
 ghost use Rattle.p21_check.specs.Slot.{FitsSlot};
-ghost use Rattle.p21_check.specs.Sets.{HasEntity, IsSetOf, AnyIn, Derives, IsNotDerived, IsAgainBelow, FitsForm, CountsAmong, FitsCounting, EachIn};
+ghost use Rattle.p21_check.specs.Sets.{HasEntity, IsSetOf, AnyIn, IsNotDerived, IsAgainBelow, FitsForm, CountsAmong, FitsCounting, EachIn};
 
-use crate::binding::binding;
+use crate::binding::{Binding, binding_of};
 use crate::conform::is_element;
 use crate::entity_set::{EntitySet, is_below, is_in_set};
 use crate::simple;
-use p21_schema::{AttrId, Binding, Declaration, EntityId, Form, Schema};
+use p21_schema::{AttrId, Declaration, EntityId, Form, Schema};
 use p21_tree::Param;
 
 /// Whether a parameter may be given for an attribute of an instance with this entity set: `*` alone for a derived one; for
@@ -30,87 +30,13 @@ pub(crate) fn fits_slot(
     requires bodies { HasBodies (plain param.now) }
     ensures { IsTrue result ↔ FitsSlot schema.now (HasEntity schema.now set.now) (attribute_at schema.now attribute) (plain param.now) }
 {
+    schema.fits();
     let declarations = schema.declarations(attribute);
-    // Nearly all attributes are declared once.
-    if let [only] = declarations {
-        return fits_only(schema, set, only, param);
-    }
-    match binding(schema, set, attribute) {
+    match binding_of(schema, set, declarations) {
         Binding::Derived => simple::is_derived(param),
         Binding::By(lowest) => fits_form(schema, &lowest.form, param),
         Binding::Free => true,
-        Binding::Unsaid => fits_by_each(schema, set, declarations, param),
-    }
-}
-
-/// Whether a parameter may be given for an attribute that has one declaration, which nothing declares again.
-fn fits_only(
-    schema: &Schema,
-    set: &EntitySet<'_, '_>,
-    only: &Declaration,
-    param: &Param<'_>,
-) -> bool
-    requires set { IsSetOf schema.now set.now }
-    requires only { (d : Declared) × IsResolvedDeclaration schema.now only.now d }
-    requires bodies { HasBodies (plain param.now) }
-    ensures { (o : Origin) → (d : Declared) → AreDeclarations schema.now o (d ∷ []) → IsResolvedDeclaration schema.now only.now d → (IsTrue result ↔ FitsSlot schema.now (HasEntity schema.now set.now) o (plain param.now)) }
-{
-    schema.fits();
-    if !is_in_set(schema, set, only.entity) {
-        return true;
-    }
-    match &only.form {
-        Form::Derived => simple::is_derived(param),
-        Form::Explicit { optional, texpr } => is_element(schema, texpr, *optional, param),
-    }
-}
-
-/// Whether a parameter may be given for an attribute that has these declarations, by a look at each of them.
-fn fits_by_each(
-    schema: &Schema,
-    set: &EntitySet<'_, '_>,
-    declarations: &[Declaration],
-    param: &Param<'_>,
-) -> bool
-    requires set { IsSetOf schema.now set.now }
-    requires declarations { (ds : List Declared) × AreResolvedIn schema.now declarations.now ds }
-    requires bodies { HasBodies (plain param.now) }
-    ensures { (o : Origin) → (ds : List Declared) → AreDeclarations schema.now o ds → AreResolvedIn schema.now declarations.now ds → (IsTrue result ↔ FitsSlot schema.now (HasEntity schema.now set.now) o (plain param.now)) }
-{
-    if is_derived(schema, set, declarations) {
-        simple::is_derived(param)
-    } else {
-        fits_each(schema, set, declarations, param)
-    }
-}
-
-/// Whether an entity of the set declares the attribute in DERIVE.
-pub(crate) fn is_derived(
-    schema: &Schema,
-    set: &EntitySet<'_, '_>,
-    declarations: &[Declaration],
-) -> bool
-    requires set { IsSetOf schema.now set.now }
-    requires declarations { (ds : List Declared) × AreResolvedIn schema.now declarations.now ds }
-    ensures { (ds : List Declared) → AreResolvedIn schema.now declarations.now ds → (IsTrue result ↔ AnyIn ds (Derives (HasEntity schema.now set.now))) }
-{
-    for declaration in declarations {
-        if derives(schema, set, declaration) {
-            return true;
-        }
-    }
-    false
-}
-
-/// Whether the declaration is in DERIVE, by an entity of the set.
-fn derives(schema: &Schema, set: &EntitySet<'_, '_>, declaration: &Declaration) -> bool
-    requires set { IsSetOf schema.now set.now }
-    requires declaration { (d : Declared) × IsResolvedDeclaration schema.now declaration.now d }
-    ensures { (d : Declared) → IsResolvedDeclaration schema.now declaration.now d → (IsTrue result ↔ Derives (HasEntity schema.now set.now) d) }
-{
-    match &declaration.form {
-        Form::Derived => is_in_set(schema, set, declaration.entity),
-        Form::Explicit { .. } => false,
+        Binding::Unsaid => fits_each(schema, set, declarations, param),
     }
 }
 

@@ -45,7 +45,7 @@ pub(crate) struct FirstBad {
 }
 
 /// What judges an instance name. `walk` calls itself, so its bound names no lifetime.
-pub(crate) trait Judge {
+pub(crate) trait NameJudge {
     ghost table: { Self → Declared };
 
     ghost named: { Self → ℕ → Option Instance };
@@ -65,7 +65,7 @@ pub(crate) trait Judge {
 }
 
 /// Looks for the first reference in a parameter that is at fault against one of two types.
-pub(crate) fn walk<'s, J: Judge>(
+pub(crate) fn walk<'s, J: NameJudge>(
     schema: &'s Schema,
     judge: &J,
     first: Wanted<'s>,

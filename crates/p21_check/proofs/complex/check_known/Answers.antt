@@ -10,14 +10,14 @@ pub returns-then-marks_twice : goal.returns-then-marks_twice
 returns-then-marks_twice c = λ name at.
     let s = c.args.schema.now in
     let rs = c.args.records.now in
-    bad_complex s (complex_instance name at rs) (complex_known s name at rs c.requires.known) (complex_concrete s name at rs)
+    bad_complex s (complex_instance name at rs) (complex_known s name at rs c.requires) (complex_concrete s name at rs)
     ((bad_by s name at rs).0 (inl ((twice_by s name at rs).0 (c.marks_twice.ensures.twice.0 c.if-marks_twice.true))))
 
 pub returns-then-lacks_entity : goal.returns-then-lacks_entity
 returns-then-lacks_entity c = λ name at.
     let s = c.args.schema.now in
     let rs = c.args.records.now in
-    bad_complex s (complex_instance name at rs) (complex_known s name at rs c.requires.known) (complex_concrete s name at rs)
+    bad_complex s (complex_instance name at rs) (complex_known s name at rs c.requires) (complex_concrete s name at rs)
     ((bad_by s name at rs).0 (inr ((c.lacks_entity.ensures name at).0 c.if-lacks_entity.true)))
 
 pub check_whole-requires-clause-whole : goal.check_whole-requires-clause-whole

@@ -9,8 +9,3 @@ pub returns-in-Complex : goal.returns-in-Complex
 returns-in-Complex c =
     subst (λ (u : EntitySet). IsTrue c.is_named.result ↔ HasEntity c.args.schema.now u (entity_name c.args.schema.now c.args.entity)) (sym c.in-Complex.is)
     (λ t. (c.is_named.ensures.0 t, is_entity c.args.schema.now c.args.entity c.requires.entity), λ h. c.is_named.ensures.1 h.0)
-
-pub returns-in-Marked : goal.returns-in-Marked
-returns-in-Marked c =
-    subst (λ (u : EntitySet). IsTrue c.is_marked.result ↔ HasEntity c.args.schema.now u (entity_name c.args.schema.now c.args.entity)) (sym c.in-Marked.is)
-    (λ t. (c.is_marked.ensures.0 t, is_entity c.args.schema.now c.args.entity c.requires.entity), λ h. c.is_marked.ensures.1 h.0)

@@ -1,14 +1,16 @@
-use Rattle.std.proofs.Common.{◌+◌, ◌++◌, length, take, ◌∙◌}
-use Rattle.p21_schema.specs.declared.ids.EntityId.{EntityId}
-use Rattle.p21_check.proofs.MarkLemmas.{marks_alike, taken}
+use Rattle.std.proofs.Common.{subst, ◌∙◌}
+use Rattle.std.proofs.lemmas.List.{take_all}
+use Rattle.p21_check.specs.Marks.{AreAdded}
+use Rattle.p21_check.proofs.MarkLemmas.{added_more}
 use Rattle.p21_check.proofs.marks.put_all.Goals as goal
 
 pub loop-entity-preserved : goal.loop-entity-preserved
 loop-entity-preserved c =
-    let ids = c.args.entities.now in
-    let i = c.loop-entity.entity-index in
-    let d : EntityId = record { index = 0 } in
+    let kept = c.loop-entity.invariant in
     record {
-      long = c.put.ensures.length ∙ c.loop-entity.invariant.long;
-      marked = λ es kept. marks_alike (length c.put.new.marks) c.put.new.marks _ (take (i + 1) ids ++ es) (λ e. taken ids es i d e c.loop-entity-test.true) (c.put.ensures.marked (take i ids ++ es) (c.loop-entity.invariant.marked es kept));
+      long = c.put.ensures.length ∙ kept.long;
+      added = added_more c.args.marks.now c.loop-entity.marks c.put.new.marks c.args.entities.now c.loop-entity.entity-index (record { index = 0 }) c.loop-entity-test.true c.put.ensures.length kept.added c.put.ensures.added;
     }
+
+pub returns-clause-added : goal.returns-clause-added
+returns-clause-added c = subst (AreAdded c.args.marks.now c.loop-entity.marks) (take_all c.loop-entity.entity-index c.args.entities.now c.loop-entity-test.false) c.loop-entity.invariant.added

@@ -16,7 +16,7 @@ loop-attr-preserved g c os are =
     let less = subst (λ (xs : List Param). i < length xs) e c.loop-attr-test.true in
     let is = subst (λ (xs : List Param). d ≡ get_or xs i d) e c.param-item.is in
     let there = c.attribute-attribute.ensures.there os (subst (λ n. AreAttributes s c.args.complex n os) (sym c.requires.named) are) in
-    faultless_more s (g.J.Judge.named c.args.judge.now) (HasEntity s c.args.set.now) os ps i d (attribute_at s c.attribute-attribute.result) less is there c.in_default.ensures (c.loop-attr.invariant os are)
+    faultless_more s (g.J.NameJudge.named c.args.judge.now) (HasEntity s c.args.set.now) os ps i d (attribute_at s c.attribute-attribute.result) less is there c.in_default.ensures (c.loop-attr.invariant os are)
 
 pub returns-in-Err-clause-found : goal.returns-in-Err-clause-found
 returns-in-Err-clause-found g c os are =
@@ -28,14 +28,14 @@ returns-in-Err-clause-found g c os are =
     let less = subst (λ (xs : List Param). i < length xs) e c.loop-attr-test.true in
     let is = subst (λ (xs : List Param). d ≡ get_or xs i d) e c.param-item.is in
     let there = c.attribute-attribute.ensures.there os (subst (λ n. AreAttributes s c.args.complex n os) (sym c.requires.named) are) in
-    faulty_here s (g.J.Judge.named c.args.judge.now) (HasEntity s c.args.set.now) os ps i d (attribute_at s c.attribute-attribute.result) c.args.rec c.in-Err.bad c.at.result less is there c.in-Err.ensures c.at.ensures (c.loop-attr.invariant os are)
+    faulty_here s (g.J.NameJudge.named c.args.judge.now) (HasEntity s c.args.set.now) os ps i d (attribute_at s c.attribute-attribute.result) c.args.rec c.in-Err.bad c.at.result less is there c.in-Err.ensures c.at.ensures (c.loop-attr.invariant os are)
 
 pub returns-clause-found : goal.returns-clause-found
 returns-clause-found g c os are =
     let s = c.args.schema.now in
     let ps = c.args.one.now.params in
     let e = c.as_slice-param-items.ensures in
-    faultless_all s (g.J.Judge.named c.args.judge.now) (HasEntity s c.args.set.now) os ps c.loop-attr.attr (length os) (subst (λ (xs : List Param). length xs ≤ c.loop-attr.attr) e c.loop-attr-test.false) (c.loop-attr.invariant os are)
+    faultless_all s (g.J.NameJudge.named c.args.judge.now) (HasEntity s c.args.set.now) os ps c.loop-attr.attr (length os) (subst (λ (xs : List Param). length xs ≤ c.loop-attr.attr) e c.loop-attr-test.false) (c.loop-attr.invariant os are)
 
 pub attribute-attribute-requires-clause-position : goal.attribute-attribute-requires-clause-position
 attribute-attribute-requires-clause-position g c =

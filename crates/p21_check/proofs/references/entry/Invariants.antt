@@ -8,4 +8,4 @@ use Rattle.p21_check.proofs.references.entry.Given as goal
 
 -- the parameters before this one have no fault
 abbrev pub invariant-loop-attr : goal.invariant-loop-attr
-invariant-loop-attr g l = (os : List Origin) → AreAttributes l.schema l.complex l.one.keyword.now os → AreFaultless l.schema (g.J.Judge.named l.judge) (HasEntity l.schema l.set) os (plain_all l.one.params) l.attr
+invariant-loop-attr g l = (os : List Origin) → AreAttributes l.schema l.complex l.one.keyword.now os → AreFaultless l.schema (g.J.NameJudge.named l.judge) (HasEntity l.schema l.set) os (plain_all l.one.params) l.attr

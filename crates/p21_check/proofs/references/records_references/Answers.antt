@@ -41,7 +41,7 @@ returns-in-Err g c name at =
     let q = c.loop-rec.rec in
     let there : slice_get i.records q ≡ Some e = record_at rs q d c.loop-rec-test.true ∙ ap (λ r. Some (plain_record r)) (sym c.index-records-rec.is) in
     let some = c.in-Err.ensures.attributes in
-    first_in_record s c.fits.ensures (g.J.Judge.named c.args.judge.now) i (HasEntity s c.args.set.now) (set_by s name at rs c.args.set.now c.requires.of) q e there some.0 c.in-Err.kind some.1 (c.loop-rec.invariant name at) (c.in-Err.ensures.found some.0 some.1)
+    first_in_record s c.fits.ensures (g.J.NameJudge.named c.args.judge.now) i (HasEntity s c.args.set.now) (set_by s name at rs c.args.set.now c.requires.of) q e there some.0 c.in-Err.kind some.1 (c.loop-rec.invariant name at) (c.in-Err.ensures.found some.0 some.1)
 
 pub loop-rec-preserved : goal.loop-rec-preserved
 loop-rec-preserved g c name at =
@@ -51,11 +51,11 @@ loop-rec-preserved g c name at =
     let e = plain_record d in
     let i = complex_instance name at rs in
     let q = c.loop-rec.rec in
-    let named = g.J.Judge.named c.args.judge.now in
+    let named = g.J.NameJudge.named c.args.judge.now in
     let there : slice_get i.records q ≡ Some e = record_at rs q d c.loop-rec-test.true ∙ ap (λ r. Some (plain_record r)) (sym c.index-records-rec.is) in
     one_more s named i q (c.loop-rec.invariant name at) (none_in_record s c.fits.ensures named i (HasEntity s c.args.set.now) (set_by s name at rs c.args.set.now c.requires.of) q e there c.in_default-entry.ensures.found)
 
 pub returns : goal.returns
 returns g c name at =
     let rs = c.args.records.now in
-    all_before c.args.schema.now (g.J.Judge.named c.args.judge.now) (complex_instance name at rs) c.loop-rec.rec (subst (λ n. n ≤ c.loop-rec.rec) (sym (length-map rs plain_record)) c.loop-rec-test.false) (c.loop-rec.invariant name at)
+    all_before c.args.schema.now (g.J.NameJudge.named c.args.judge.now) (complex_instance name at rs) c.loop-rec.rec (subst (λ n. n ≤ c.loop-rec.rec) (sym (length-map rs plain_record)) c.loop-rec-test.false) (c.loop-rec.invariant name at)

@@ -6,4 +6,4 @@ use Rattle.p21_check.proofs.references.records_references.Given as goal
 
 -- the records before this one have no fault
 abbrev pub invariant-loop-rec : goal.invariant-loop-rec
-invariant-loop-rec g l = (name at r a p : ℕ) (f : FaultKind) → r < l.rec → ¬ (HasFaultAt l.schema (g.J.Judge.named l.judge) (complex_instance name at l.records) r a p f)
+invariant-loop-rec g l = (name at r a p : ℕ) (f : FaultKind) → r < l.rec → ¬ (HasFaultAt l.schema (g.J.NameJudge.named l.judge) (complex_instance name at l.records) r a p f)

@@ -32,13 +32,13 @@ returns-in-Some g c =
     let x = c.index-records-0.result in
     let first = subst (λ (l : List Record). x ≡ get_or l 0 x) c.as_slice-records.ensures c.index-records-0.is in
     let same = is_simple s i x c.in-Some.entity first (subst (IsSimpleEntity s (plain_instance i)) c.in-Some.is c.requires.own) in
-    subst (λ (j : Instance). IsReferenceAnswer s (g.J.Judge.named c.args.judge.now) j c.simple_references.result) (sym same) (c.simple_references.ensures i.name i.at)
+    subst (λ (j : Instance). IsReferenceAnswer s (g.J.NameJudge.named c.args.judge.now) j c.simple_references.result) (sym same) (c.simple_references.ensures i.name i.at)
 
 pub returns-in-None : goal.returns-in-None
 returns-in-None g c =
     let s = c.args.schema.now in
     let i = c.args.instance.now in
-    let named = g.J.Judge.named c.args.judge.now in
+    let named = g.J.NameJudge.named c.args.judge.now in
     let same = is_complex i (complex_of s i c.requires.local (subst (IsSimpleEntity s (plain_instance i)) c.in-None.is c.requires.own)) in
     let answer = subst (λ (l : List Record). IsReferenceAnswer s named (complex_instance i.name i.at l) c.complex_references.result) c.as_slice-records.ensures (c.complex_references.ensures i.name i.at) in
     subst (λ (j : Instance). IsReferenceAnswer s named j c.complex_references.result) (sym same) answer

@@ -19,4 +19,4 @@ returns g c name at =
     let s = c.args.schema.now in
     let e = plain_record c.args.one.now in
     let own = c.args.own in
-    last_answer s c.fits.ensures (g.J.Judge.named c.args.judge.now) (simple_instance name at e) (HasEntity s (set.Simple own)) (simple_set s name at e own c.requires.entity c.requires.named) 0 e refl (omega arith) (λ r a p f less. absurd (omega (arith, less))) c.entry.result c.entry.ensures.attributes c.entry.ensures.found
+    last_answer s c.fits.ensures (g.J.NameJudge.named c.args.judge.now) (simple_instance name at e) (HasEntity s (set.Simple own)) (simple_set s name at e own c.requires.entity c.requires.named) 0 e refl (omega arith) (λ r a p f less. absurd (omega (arith, less))) c.entry.result c.entry.ensures.attributes c.entry.ensures.found

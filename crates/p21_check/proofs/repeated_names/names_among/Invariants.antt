@@ -1,7 +1,7 @@
-use Rattle.std.proofs.Common.{◌≡◌, take}
+use Rattle.std.proofs.Common.{◌≡◌, ◌++◌, drop}
 use Rattle.p21_check.specs.RepeatedNames.{names_of}
 use Rattle.p21_check.proofs.repeated_names.names_among.Given as goal
 
--- the names so far
+-- the names so far, and those that are left
 abbrev pub invariant-loop-element : goal.invariant-loop-element
-invariant-loop-element l = l.names.items ≡ names_of (take l.element-index l.elements)
+invariant-loop-element l = l.names.items ++ names_of (drop l.element-index l.elements) ≡ names_of l.elements

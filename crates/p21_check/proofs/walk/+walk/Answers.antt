@@ -6,7 +6,7 @@ use Rattle.p21_check.proofs.walk.+walk.Goals as goal
 pub loop-item-preserved : goal.loop-item-preserved
 loop-item-preserved g t c found h =
     let s = c.args.schema.now in
-    let named = g.J.Judge.named c.args.judge.now in
+    let named = g.J.NameJudge.named c.args.judge.now in
     let v = c.elements-of_first.result in
     let w = c.elements-of_second.result in
     let d = c.item-item.result in
@@ -15,7 +15,7 @@ loop-item-preserved g t c found h =
 pub returns-in-Err : goal.returns-in-Err
 returns-in-Err g t c =
     let s = c.args.schema.now in
-    let named = g.J.Judge.named c.args.judge.now in
+    let named = g.J.NameJudge.named c.args.judge.now in
     let v = c.elements-of_first.result in
     let w = c.elements-of_second.result in
     let xs = c.deref-item-items.result.now in
@@ -26,7 +26,7 @@ returns-in-Err g t c =
 pub returns-after-loop-item : goal.returns-after-loop-item
 returns-after-loop-item g t c =
     let s = c.args.schema.now in
-    let named = g.J.Judge.named c.args.judge.now in
+    let named = g.J.NameJudge.named c.args.judge.now in
     let v = c.elements-of_first.result in
     let w = c.elements-of_second.result in
     let xs = c.deref-item-items.result.now in
@@ -36,7 +36,7 @@ returns-after-loop-item g t c =
 pub returns-then-is_nothing-4 : goal.returns-then-is_nothing-4
 returns-then-is_nothing-4 g t c =
     let s = c.args.schema.now in
-    let named = g.J.Judge.named c.args.judge.now in
+    let named = g.J.NameJudge.named c.args.judge.now in
     let v = c.elements-of_first.result in
     let w = c.elements-of_second.result in
     let xs = c.in-Items.items.items in

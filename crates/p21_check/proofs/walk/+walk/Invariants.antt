@@ -13,5 +13,5 @@ decreases-walk g l = goal.size-walk g l
 abbrev pub invariant-loop-item : goal.invariant-loop-item
 invariant-loop-item g l =
     (found : Result (Unit {0}) FirstBad) →
-    FindsBad l.schema (g.J.Judge.named l.judge) (AsksAmong l.schema l.of_first (plain_all (drop l.item-index l.item-items))) (AsksAmong l.schema l.of_second (plain_all (drop l.item-index l.item-items))) found →
-    FindsBad l.schema (g.J.Judge.named l.judge) (AsksAmong l.schema l.of_first (plain_all l.item-items)) (AsksAmong l.schema l.of_second (plain_all l.item-items)) found
+    FindsBad l.schema (g.J.NameJudge.named l.judge) (AsksAmong l.schema l.of_first (plain_all (drop l.item-index l.item-items))) (AsksAmong l.schema l.of_second (plain_all (drop l.item-index l.item-items))) found →
+    FindsBad l.schema (g.J.NameJudge.named l.judge) (AsksAmong l.schema l.of_first (plain_all l.item-items)) (AsksAmong l.schema l.of_second (plain_all l.item-items)) found
