@@ -5,6 +5,8 @@ import pathlib
 import subprocess
 import tempfile
 
+from report import Report
+
 TOP = pathlib.Path(__file__).resolve().parent.parent
 TESTS = TOP / 'tests'
 ROWS = TESTS / 'rows'
@@ -62,35 +64,3 @@ def refuse_in_turn(report, name, library, command, is_right, folder):
 def scratch():
     """A folder that lasts as long as the `with` that it is made for."""
     return tempfile.TemporaryDirectory()
-
-
-class Report:
-    """What a script reports of its cases, and the status that it ends with."""
-
-    def __init__(self, name):
-        self.name = name
-        self.passed = 0
-        self.failed = 0
-
-    def case(self, faults):
-        """Counts a case, and prints what is wrong with it, a line each."""
-        if faults:
-            self.failed += 1
-        else:
-            self.passed += 1
-        for fault in faults:
-            print('%s: %s' % (self.name, fault), flush=True)
-
-    def expect(self, right, what):
-        """Counts a case, and prints what is wrong with it, where it is not right."""
-        self.case([] if right else [what])
-
-    def end(self):
-        """Prints how many cases there were."""
-        print('%s: %d passed, %d failed' % (self.name, self.passed, self.failed))
-        return 1 if self.failed or not self.passed else 0
-
-    def skip(self, why):
-        """Prints why nothing was run."""
-        print('%s: 0 passed, 0 failed, not run: %s' % (self.name, why))
-        return 0
