@@ -6,13 +6,13 @@ use Rattle.std.proofs.lemmas.List.{map_push, take_more, get_or_append_left, get_
 use Rattle.std.specs.List.{AllByRecursion}
 use Rattle.p21_express.specs.Schema.{Schema, Entity, Defined}
 use Rattle.p21_express.specs.WellFormed.{IsIn, AreDistinct, Leads, HasNoCycle, IsSupertype, IsAncestor, IsEntity, HasNoRepeated, HasNoUnknown}
-use Rattle.p21_graph.specs.Graph.{one, more, HasEdge, AreEdgesBelow, Reaches, here, through, rows_of, plain_graph}
-use Rattle.p21_graph.specs.Reach.{IsTurned, IsReach, IsWithin, itself, through as inside}
-use Rattle.p21_graph.specs.declared.reach.Reach.{Reach}
-use Rattle.p21_graph.specs.GraphLaws.{rows_push, row_is, row_count, leads_behind}
+use Rattle.p21_graph.specs.Graph.{one, more, HasEdge, AreEdgesBelow, rows_of, plain_graph}
+use Rattle.p21_graph.specs.Reach.{IsReach, IsWithin, itself, through as inside}
+use Rattle.p21_graph.specs.declared.bits.Bits.{Bits}
+use Rattle.p21_graph.specs.GraphLaws.{rows_push, row_is, row_count}
 use Rattle.p21_graph.specs.MemberLaws.{place_of, at_place, in_either, in_map, from_map, same_place, holds_of, distinct_left}
 use Rattle.p21_schema.specs.Place.{no_entity, entity_name, IsEntityOf}
-use Rattle.p21_schema.specs.Ancestry.{entity_id, AreNamed, AreSupertypesNamed, NameEntities, IsSupertypeTable, IsDescentTable, IsA}
+use Rattle.p21_schema.specs.Ancestry.{entity_id, AreNamed, AreSupertypesNamed, NameEntities, IsSupertypeTable, IsAncestryTable, IsA}
 use Rattle.p21_schema.specs.declared.ids.EntityId.{EntityId}
 
 pub named_push : (names ns : List (List ℕ)) (places : List ℕ) (i : ℕ) (n : List ℕ) → AreNamed names places ns → i < length names → get_or names i [] ≡ n → AreNamed names (places ++ i ∷ []) (ns ++ n ∷ [])
@@ -62,15 +62,6 @@ name_at s i = ⊎_elim
 pub same_entity : (s : Schema) → AreDistinct (all_names s) → (a b : ℕ) → a < length s.entities → b < length s.entities → entity_name s (entity_id a) ≡ entity_name s (entity_id b) → a ≡ b
 same_entity s distinct a b la lb e = same_place (all_names s) a b [] distinct (subst (λ u. a < u) (sym (name_count s)) la) (subst (λ u. b < u) (sym (name_count s)) lb) (name_at s a ∙ e ∙ sym (name_at s b))
 
--- what is reached by edges is reached back by the edges turned round
-within_behind : (graph : List (List ℕ)) {a b c : ℕ} → IsWithin graph a b → HasEdge graph b c → IsWithin graph a c
-within_behind graph {a} {b} {c} (itself e) edge = inside (subst (λ u. HasEdge graph u c) (sym e) edge) (itself refl)
-within_behind graph (inside e r) edge = inside e (within_behind graph r edge)
-
-turned_reach : (graph turned : List (List ℕ)) → IsTurned graph turned → {a b : ℕ} → Reaches graph graph a b → IsWithin turned b a
-turned_reach graph turned t {a} {b} (here e) = inside ((t.edges b a).1 e) (itself refl)
-turned_reach graph turned t {a} {b} (through {b = w} e r) = within_behind turned (turned_reach graph turned t r) ((t.edges w a).1 e)
-
 module _ (s : Schema) (graph : List (List ℕ)) (h : AreSupertypesNamed (map (λ (e : Entity). e.name) s.entities) graph s.entities) where
   abbrev name_of : ℕ → List ℕ
   name_of i = entity_name s (entity_id i)
@@ -102,11 +93,11 @@ module _ (s : Schema) (graph : List (List ℕ)) (h : AreSupertypesNamed (map (λ
   pub no_cycle : HasNoCycle (IsSupertype s) → HasNoCycle (HasEdge graph)
   no_cycle none a l = none (name_of a) (leads_names l)
 
-  descends : (turned : List (List ℕ)) → IsTurned graph turned → {a b : ℕ} → IsWithin turned b a → IsA s (entity_id a) (entity_id b)
-  descends turned t (itself e) = inl (ap name_of (sym e))
-  descends turned t {a} {b} (inside {b = w} e r) =
-      let step : IsSupertype s (name_of w) (name_of b) = edge_names w b ((t.edges b w).0 e) in
-      ⊎_elim (λ (same : name_of a ≡ name_of w). inr (one (subst (λ u. IsSupertype s u (name_of b)) (sym same) step))) (λ (n : IsAncestor s (name_of a) (name_of w)). inr (leads_behind n step)) (descends turned t r)
+  within_is_a : {a b : ℕ} → IsWithin graph a b → IsA s (entity_id a) (entity_id b)
+  within_is_a (itself e) = inl (ap name_of e)
+  within_is_a {a} {b} (inside {b = w} edge r) =
+      let step : IsSupertype s (name_of a) (name_of w) = edge_names a w edge in
+      ⊎_elim (λ (same : name_of w ≡ name_of b). inr (one (subst (λ u. IsSupertype s (name_of a) u) same step))) (λ (up : IsAncestor s (name_of w) (name_of b)). inr (more step up)) (within_is_a r)
 
   module _ (distinct : AreDistinct (all_names s)) where
     -- a supertype by name is one by place
@@ -120,23 +111,24 @@ module _ (s : Schema) (graph : List (List ℕ)) (h : AreSupertypesNamed (map (λ
         let f = from_map (λ j. get_or (all_names s) j []) (get_or graph a []) n (subst (λ (u : List (List ℕ)). IsIn u n) (sym (h.rows a la).named) i) in
         (f.0, (f.1.0, sym (name_at s f.0) ∙ f.1.1))
 
-    names_reach : {x y : List ℕ} → IsAncestor s x y → (a b : ℕ) → a < length s.entities → b < length s.entities → x ≡ name_of a → y ≡ name_of b → Reaches graph graph a b
-    names_reach {x} {y} (one st) a b la lb ex ey =
+    names_within : {x y : List ℕ} → IsAncestor s x y → (a b : ℕ) → a < length s.entities → b < length s.entities → x ≡ name_of a → y ≡ name_of b → IsWithin graph a b
+    names_within {x} {y} (one st) a b la lb ex ey =
         let w = names_edge a y la (subst (λ u. IsSupertype s u y) ex st) in
         let lw : w.0 < length s.entities = subst (λ u. w.0 < u) (name_count s) ((h.rows a la).below w.0 w.1.0) in
         let e : w.0 ≡ b = same_entity s distinct w.0 b lw lb (w.1.1 ∙ ey) in
-        here (subst (λ u. HasEdge graph a u) e w.1.0)
-    names_reach {x} {y} (more {b = m} st l) a b la lb ex ey =
+        inside w.1.0 (itself e)
+    names_within {x} {y} (more {b = m} st l) a b la lb ex ey =
         let w = names_edge a m la (subst (λ u. IsSupertype s u m) ex st) in
         let lw : w.0 < length s.entities = subst (λ u. w.0 < u) (name_count s) ((h.rows a la).below w.0 w.1.0) in
-        through w.1.0 (names_reach l w.0 b lw lb (sym w.1.1) ey)
+        inside w.1.0 (names_within l w.0 b lw lb (sym w.1.1) ey)
 
-    pub descent_table : (turned : List (List ℕ)) → IsTurned graph turned → (reach : Reach) → IsReach turned reach → IsDescentTable s reach
-    descent_table turned t reach r = record {
-      graph = turned;
-      count = t.count ∙ h.count;
-      reaches = r;
-      descents = λ a b la lb. (descends turned t, λ i. ⊎_elim (λ (e : name_of a ≡ name_of b). itself (sym (same_entity s distinct a b la lb e))) (λ (n : IsAncestor s (name_of a) (name_of b)). turned_reach graph turned t (names_reach n a b la lb refl refl)) i);
+    pub ancestry_table : (table : Bits) → IsReach graph table → IsAncestryTable s table
+    ancestry_table table t = record {
+      rows = t.rows ∙ h.count;
+      columns = t.columns ∙ h.count;
+      holds = λ a b la lb.
+          let row = t.holds a b (subst (λ u. a < u) (sym h.count) la) in
+          (λ m. within_is_a (row.0 m), λ i. row.1 (⊎_elim (λ (e : name_of a ≡ name_of b). itself (same_entity s distinct a b la lb e)) (λ (n : IsAncestor s (name_of a) (name_of b)). names_within n a b la lb refl refl) i));
     }
 
   pub supertype_table : IsSupertypeTable s (map (map entity_id) graph)
@@ -163,12 +155,6 @@ ids_more {A} {B} old new graph row places now k less at is ids pushed h =
     let less' : k < length (plain_graph graph) = rw (row_count graph, graph.ok.0) less in
     let e : get_or (plain_graph graph) k [] ≡ now = row_is graph k places less at ∙ sym is in
     rows_push old new row pushed ∙ (λ j. h j ++ ids j ∷ []) ∙ sym (map_push (map entity_id) (take k (plain_graph graph)) now) ∙ ap (λ (xs : List (List ℕ)). map (map entity_id) xs) (ap (λ (u : List ℕ). take k (plain_graph graph) ++ u ∷ []) (sym e) ∙ sym (take_more (plain_graph graph) k [] less'))
-
-pub descends_by : (s : Schema) (reach : Reach) (a b : ℕ) → IsDescentTable s reach → (result : Type 0) → ((g : List (List ℕ)) → IsReach g reach → b < length g → a < length g → result ↔ IsWithin g b a) → a < length s.entities → b < length s.entities → result ↔ IsA s (entity_id a) (entity_id b)
-descends_by s reach a b t result h la lb =
-    let w = h t.graph t.reaches (subst (λ u. b < u) (sym t.count) lb) (subst (λ u. a < u) (sym t.count) la) in
-    let d = t.descents a b la lb in
-    (λ r. d.0 (w.0 r), λ i. w.1 (d.1 i))
 
 -- the names of entities differ, and each supertype is an entity
 pub distinct_entities : (s : Schema) → HasNoRepeated s → AreDistinct (map (λ (e : Entity). e.name) s.entities)

@@ -2,7 +2,7 @@
 use denote.Param.Send.{IsSync, sendable}
 use Rattle.std.proofs.Crossing.{crosses}
 use Rattle.p21_express.proofs.Crossing.{Declarations-sync}
-use Rattle.p21_graph.specs.contracts.reach.Reach as Reach
+use Rattle.p21_graph.specs.contracts.bits.Bits as Bits
 use Rattle.p21_schema.proofs.resolved.ResolvedExpr.TheLaws.TheKnot as expr
 use Rattle.p21_schema.specs.contracts.declarations.Declaration as Declaration
 use Rattle.p21_schema.specs.contracts.names.Names as Names
@@ -15,8 +15,8 @@ use Rattle.p21_schema.specs.contracts.schema.Schema.TheInside as Inside
 Names-sync : IsSync Names.the_field.row
 Names-sync = search (sendable, crosses) depth 80 fits 20000
 
-Reach-sync : IsSync Reach.the_field.row
-Reach-sync = search (sendable, crosses) depth 80 fits 20000
+Bits-sync : IsSync Bits.the_field.row
+Bits-sync = search (sendable, crosses) depth 80 fits 20000
 
 Rows-sync : IsSync Rows.the_field.row
 Rows-sync = search (sendable, crosses) depth 80 fits 20000
@@ -29,7 +29,7 @@ Resolved-sync : IsSync Resolved.the_row
 Resolved-sync = search (sendable, crosses, expr.crosses) depth 80 fits 20000
 
 Inside-sync : IsSync Inside.the_row
-Inside-sync = search (sendable, crosses, Declarations-sync, Names-sync, Reach-sync, Rows-sync, Declaration-sync, Resolved-sync) depth 80 fits 20000
+Inside-sync = search (sendable, crosses, Declarations-sync, Names-sync, Bits-sync, Rows-sync, Declaration-sync, Resolved-sync) depth 80 fits 20000
 
 pub Schema-sync : IsSync Schema.the_row
 Schema-sync = search (sendable, Inside-sync) depth 10

@@ -146,14 +146,6 @@ module _ (s : Schema) (formed : IsWellFormed s) where
       let same : d ≡ o.entity = sym (one_is.only o.entity h.origin) in
       (h.below, again of self (sym h.name) (subst (λ (u : List ℕ). DeclaresAgain s w.entity (record { of = of; name = w.name; explicit = is_explicit w.form }) u) same one_is))
 
-  -- an attribute of DERIVE without SELF declares lone explicit attribute
-  pub not_declared : (e : List ℕ) (a : Derived) → a.of ≡ None → IsDeclared s (written_derived e a) None
-  not_declared e a lone = λ o i. by o
-    where
-      by : (o : Origin) → ¬ (Declares s o (written_derived e a))
-      by o (newly b x f form en n) = absurd (let bad : derived ≡ explicit b x = form in cc)
-      by o (again of f n r) = absurd (let bad : None ≡ Some of = sym lone ∙ f in cc)
-
   -- it declares one attribute at most
   one_declared : {o p : Origin} {w : Written} → Declares s o w → Declares s p w → o ≡ p
   one_declared (newly b x lone f e n) (newly c y lone' f' e' n') = λ j. record { entity = (sym e ∙ e') j; name = (sym n ∙ n') j }
@@ -208,13 +200,6 @@ module _ (s : Schema) (formed : IsWellFormed s) where
         (among_dropped o ws (get_or table i []) w (t.rows i less) (λ p. ne (same_place all i k no_attribute (attributes_distinct s.entities (distinct_entities s formed.repeated) formed.repeated.attributes) less this.0 (one_declared p this.1)))))
         (cases_eq i k);
   }
-
--- what stands in a list of empty lists
-pub empty_at : {X : Type 0} (n i : ℕ) → get_or (replicate {A = List X} n []) i [] ≡ []
-empty_at n i = ⊎_elim
-    (λ (l : i < n). get_or-replicate n i [] [] l)
-    (λ (h : n ≤ i). get_or_past (replicate n []) i [] (subst (λ u. u ≤ i) (sym (length-replicate n [])) h))
-    (cases_lt i n)
 
 -- an empty list has none
 pub table_none : (s : Schema) (table : List (List Coded)) → length table ≡ length (attributes_of s.entities) → ((i : ℕ) → get_or table i [] ≡ []) → IsDeclarationTable s [] table

@@ -11,9 +11,6 @@ use Rattle.p21_schema.specs.declared.ids.AttrId.{AttrId}
 use Rattle.p21_schema.specs.Draft.{AreMarks, IsDraft, IsMade}
 use Rattle.p21_schema.specs.RowTable.{same_id, kept, all_kept, ids_from, joined, row_of, BeginsWithFirst}
 
-pub made_draft : (size number : ℕ) (row : List AttrId) (d : Draft) → IsMade size number row d → IsDraft d
-made_draft size number row d h = subst (λ (u : List AttrId). AreMarks d.marks.items d.number u) (sym h.ids) (subst (λ (n : ℕ). AreMarks d.marks.items n row) (sym h.numbered) h.marks)
-
 either_true : (b : Bool) → (b || true) ≡ true
 either_true true = refl
 either_true false = refl
@@ -96,14 +93,6 @@ made_next size number before after grown old new h this is =
       numbered = this.numbered ∙ h.numbered;
       count = this.count ∙ h.count;
     }
-
--- a row under a further number has nothing in it
-pub empty_marks : (marks : List ℕ) (number : ℕ) → ((k : ℕ) → get_or marks k 0 < number) → AreMarks marks number []
-empty_marks marks number less = record {
-  marked = λ a _. ne_eqb (get_or marks a.index 0) number (λ e. let l = less a.index in absurd (omega (arith, l, e)));
-  known = λ a i. absurd i;
-  upto = λ k. let l = less k in omega (arith, l);
-}
 
 -- ---- several rows
 

@@ -4,8 +4,8 @@ use Rattle.std.specs.Prelude.{slice_get}
 use Rattle.std.specs.List.{list_any, filter, AllByRecursion}
 use Rattle.std.specs.Cmp.Lexicographic.{bytes_decides}
 use Rattle.std.specs.Str.{bytes_eq}
-use Rattle.std.proofs.lemmas.Bool.{cases_eq, cases_Bool, false≢true, eqb-true, eq-eqb, ne_eqb, and_parts, and_from}
-use Rattle.std.proofs.lemmas.List.{map-append, take_more, drop_more, drop_all, append-nil, length-append, length-map, get_or_append_left, get_or-append-add, get_or-map, get_or_push, take-append-drop, replicate-append-replicate}
+use Rattle.std.proofs.lemmas.Bool.{cases_eq, cases_lt, cases_Bool, false≢true, eqb-true, eq-eqb, ne_eqb, and_parts, and_from}
+use Rattle.std.proofs.lemmas.List.{map-append, take_more, drop_more, drop_all, append-nil, length-append, length-map, get_or_append_left, get_or-append-add, get_or-map, get_or_push, take-append-drop, replicate-append-replicate, get_or-replicate, get_or_past, length-replicate}
 use Rattle.std.proofs.Math.Seq.{get_or-append_seam}
 use Rattle.std.proofs.lemmas.Option.{get_or_from_slice_get}
 use Rattle.p21_express.specs.Schema.{Schema, Entity, Attribute}
@@ -101,16 +101,18 @@ module _ {X Y : Type 0} (f : X → Y) (same : X → X → Bool) (other : Y → Y
       let ih = first_map xs (λ w i. all w (inr i)) in
       ap (λ (u : List Y). f x ∷ u) (without_map x (first_places same xs) (all x (inl refl)) (λ z i. all z (inr (in_first same xs z i))) ∙ ap (λ (u : List Y). filter (λ z. not (other (f x) z)) u) ih)
 
+-- a list of one element over and over, read by it
+pub all_alike : {X : Type 0} (n i : ℕ) (x : X) → get_or (replicate n x) i x ≡ x
+all_alike n i x = ⊎_elim
+    (λ (l : i < n). get_or-replicate n i x x l)
+    (λ (h : n ≤ i). get_or_past (replicate n x) i x (subst (λ u. u ≤ i) (sym (length-replicate n x)) h))
+    (cases_lt i n)
+
 -- ---- own attributes
 
 pub with_new_append : (o : Option (List ℕ)) (n : List ℕ) (xs ys : List (List ℕ)) → with_new o n (xs ++ ys) ≡ with_new o n xs ++ ys
 with_new_append None n xs ys = refl
 with_new_append (Some e) n xs ys = refl
-
--- a further name, where it is new, hides none of the others
-pub later_new : (o : Option (List ℕ)) (n m : List ℕ) (ns : List (List ℕ)) → IsIn ns m → IsIn (with_new o n ns) m
-later_new None n m ns i = inr i
-later_new (Some p) n m ns i = i
 
 pub new_append : (xs ys : List Attribute) → new_explicit (xs ++ ys) ≡ new_explicit xs ++ new_explicit ys
 new_append [] ys = refl

@@ -5,12 +5,10 @@ use Rattle.std.proofs.lemmas.Bool.{cases_eq, cases_lt}
 use Rattle.std.proofs.lemmas.List.{length-map, get_or-map, get_or_past, get_or_append_left, get_or_push}
 use Rattle.p21_express.specs.Schema.{Schema, Defined, Underlying, items, select, plain}
 use Rattle.p21_express.specs.WellFormed.{IsIn, IsEntity, IsType, IsSelect, IsSelectType, IsInnerSelect, IsWellFormed, Leads, HasNoCycle}
-use Rattle.p21_graph.specs.Graph.{one, more, HasEdge, AreEdgesBelow, Reaches, here, through as onward, IsMarked}
-use Rattle.p21_graph.specs.Ranges.{Covers}
-use Rattle.p21_graph.specs.Rows.{table_of}
-use Rattle.p21_graph.specs.Reach.{IsEachAlone}
-use Rattle.p21_graph.specs.declared.ranges.Range.{Range}
-use Rattle.p21_graph.specs.declared.reach.Reach.{Reach}
+use Rattle.p21_graph.specs.Graph.{one, more, HasEdge, AreEdgesBelow, Reaches, here, through as onward}
+use Rattle.p21_graph.specs.Bits.{Holds}
+use Rattle.p21_graph.specs.Reach.{IsReachTable}
+use Rattle.p21_graph.specs.declared.bits.Bits.{Bits}
 use Rattle.p21_graph.specs.MemberLaws.{place_of as place_in, at_place, in_left, in_right, in_either, in_map, from_map, same_place, distinct_apart, front_more, front_in, last_in}
 use Rattle.p21_schema.specs.declared.resolved.Target.{Target}
 use Rattle.p21_schema.specs.declared.resolved.Target.TheVariants as target
@@ -21,9 +19,9 @@ use Rattle.p21_schema.specs.declared.selects.Item.TheVariants as item_kind
 use Rattle.p21_schema.specs.Place.{no_type}
 use Rattle.p21_schema.specs.Resolved.{target_name}
 use Rattle.p21_schema.specs.Under.{IsResolved, AreResolved}
-use Rattle.p21_schema.specs.Select.{IsItem, SelectReaches, item, through, ReachesType}
+use Rattle.p21_schema.specs.Select.{IsItem, SelectReaches, item, through, ReachesType, ReachesEntity}
 use Rattle.p21_schema.specs.SelectItems.{IsItemAt, kind_under, kind_of, place_of, targets_of, IsItemRow, IsItemGraph}
-use Rattle.p21_schema.specs.SelectTable.{entity_named, type_named, AreSelectRows, IsSelectTable, AreEntityMarks}
+use Rattle.p21_schema.specs.SelectTable.{entity_named, type_named, IsSelectTable}
 use Rattle.p21_schema.proofs.AncestryLemmas.{all_names, name_count, name_at, same_entity, distinct_entities}
 use Rattle.p21_schema.proofs.UnderLemmas.{type_names, distinct_types}
 
@@ -72,16 +70,6 @@ graph_more unders wanted graph row k u less is long rows this i d l =
     (λ (ne : (i ≡ k) → ⊥).
     let before : i < k = omega arith in
     subst (λ (v : List ℕ). IsItemRow unders wanted (targets_of (get_or unders i d)) v) (sym (get_or_append_left graph (row ∷ []) [] i (omega arith))) (rows i d before))
-    (cases_eq i k)
-
--- ---- marks
-
-pub marks_more : (rows : List (List Range)) (marks : List Bool) (mark : Bool) (k : ℕ) → length marks ≡ k → (mark ≡ true) ↔ ((j : ℕ) × Covers (get_or rows k []) j) → ((i : ℕ) → i < k → IsMarked marks i ↔ ((j : ℕ) × Covers (get_or rows i []) j))
-    → (i : ℕ) → i < k + 1 → IsMarked (marks ++ mark ∷ []) i ↔ ((j : ℕ) × Covers (get_or rows i []) j)
-marks_more rows marks mark k long this before i l =
-    ⊎_elim
-    (λ (e : i ≡ k). rw (e, get_or_push marks mark false k long) this)
-    (λ (ne : (i ≡ k) → ⊥). let less : i < k = omega arith in rw (get_or_append_left marks (mark ∷ []) false i (omega arith)) (before i less))
     (cases_eq i k)
 
 -- ---- what a target is
@@ -332,47 +320,34 @@ module _ (s : Schema) (formed : IsWellFormed s) (unders : List Resolved) (r : Ar
           let p = edge_inner i b li (subst (λ (u : List ℕ). IsInnerSelect s u b) ex h) in
           onward p.1.1.1 (names_reach l p.0 k p.1.0 lk (sym p.1.1.0) ey w)
 
-      pub select_table : (reach : Reach) (table : Reach) → IsEachAlone size reach → AreSelectRows direct inner reach table → IsSelectTable s Wanted size named table
-      select_table reach table alone t = record {
-        count = t.reached.count ∙ g.count ∙ r.count;
-        places = ap length t.places ∙ alone.places;
-        rows = t.rows;
-        within = λ i p less c. let h = (t.reached.rows i (subst (λ u. i < u) (sym (g.count ∙ r.count)) less) p).0 c in (h.0, reaches_names h.1.0);
-        covers = λ i k li lk.
-            let row = t.reached.rows i (subst (λ u. i < u) (sym (g.count ∙ r.count)) li) (get_or table.places.items k 0) in
-            let at : get_or table.places.items k 0 ≡ get_or reach.places.items k 0 = ap (λ (u : List ℕ). get_or u k 0) t.places in (
-              λ c.
-                  let h = row.0 c in
-                  let p = reaches_names h.1.0 in
-                  let is : k ≡ h.0 = (alone.alone h.0 k p.0 lk).0 (subst (λ u. Covers (get_or (table_of reach.rows) h.0 []) u) at h.1.1) in
-                  subst (λ u. Wanted (named u) × SelectReaches s (type_named s i) (named u)) (sym is) p.1,
-              λ p. row.1 (k, (names_reach p.1 i k li lk refl refl p.0, subst (λ u. Covers (get_or (table_of reach.rows) k []) u) (sym at) ((alone.alone k k lk lk).1 refl))),
-            );
+      pub select_table : (table : Bits) → IsReachTable direct size inner table → IsSelectTable s Wanted size named table
+      select_table table t = record {
+        rows = t.rows ∙ g.count ∙ r.count;
+        columns = t.columns;
+        holds = λ i k less.
+            let row = t.holds i k (subst (λ u. i < u) (sym (g.count ∙ r.count)) less) in
+            (λ m. reaches_names (row.0 m), λ p. row.1 (names_reach p.1.1 i k less p.0 refl refl p.1.0));
       }
 
 pub entity_at_place : (s : Schema) (k : ℕ) → k < length s.entities → IsEntity s (entity_named s k)
 entity_at_place s k lk = subst (λ (u : List ℕ). IsIn (all_names s) u) (name_at s k) (at_place (all_names s) k [] (subst (λ u. k < u) (sym (name_count s)) lk))
 
-pub entity_marks : (s : Schema) (table : Reach) (marks : List Bool) → IsSelectTable s (IsEntity s) (length s.entities) (entity_named s) table → length marks ≡ length (table_of table.rows) → ((i : ℕ) → i < length (table_of table.rows) → IsMarked marks i ↔ ((k : ℕ) × Covers (get_or (table_of table.rows) i []) k)) → AreEntityMarks s marks
-entity_marks s table marks t count h = record {
-  count = count ∙ t.count;
-  rows = λ i less.
-      let row = h i (subst (λ u. i < u) (sym t.count) less) in (
-        λ m. let c = row.0 m in let k = t.within i c.0 less c.1 in (entity_named s k.0, k.1.1),
-        λ e.
-            let p = place_in (all_names s) e.0 e.1.0 in
-            let lk : p.0 < length s.entities = subst (λ u. p.0 < u) (name_count s) p.1.0 in
-            let is : entity_named s p.0 ≡ e.0 = sym (name_at s p.0) ∙ p.1.1 [] in
-            row.1 (get_or table.places.items p.0 0, (t.covers i p.0 less lk).1 (subst (λ (u : List ℕ). IsEntity s u) (sym is) e.1.0, subst (λ (u : List ℕ). SelectReaches s (type_named s i) u) (sym is) e.1.1)),
-      );
-}
-
 -- ---- what the tables tell
 
-pub entity_reached : (s : Schema) (table : Reach) (i k : ℕ) → IsSelectTable s (IsEntity s) (length s.entities) (entity_named s) table → i < length s.types → k < length s.entities → Covers (get_or (table_of table.rows) i []) (get_or table.places.items k 0) ↔ SelectReaches s (type_named s i) (entity_named s k)
+pub entity_reached : (s : Schema) (table : Bits) (i k : ℕ) → IsSelectTable s (IsEntity s) (length s.entities) (entity_named s) table → i < length s.types → k < length s.entities → Holds table i k ↔ SelectReaches s (type_named s i) (entity_named s k)
 entity_reached s table i k t li lk =
-    let row = t.covers i k li lk in
-    (λ m. (row.0 m).1, λ h. row.1 (entity_at_place s k lk, h))
+    let row = t.holds i k li in
+    (λ m. (row.0 m).1.1, λ h. row.1 (lk, (entity_at_place s k lk, h)))
+
+pub some_reached : (s : Schema) (table : Bits) (i : ℕ) → IsSelectTable s (IsEntity s) (length s.entities) (entity_named s) table → i < length s.types → ((k : ℕ) × Holds table i k) ↔ ReachesEntity s (type_named s i)
+some_reached s table i t li = (
+  λ m. let h = (t.holds i m.0 li).0 m.1 in (entity_named s m.0, h.1),
+  λ e.
+      let p = place_in (all_names s) e.0 e.1.0 in
+      let lk : p.0 < length s.entities = subst (λ u. p.0 < u) (name_count s) p.1.0 in
+      let is : entity_named s p.0 ≡ e.0 = sym (name_at s p.0) ∙ p.1.1 [] in
+      (p.0, (t.holds i p.0 li).1 (lk, (subst (λ (u : List ℕ). IsEntity s u) (sym is) e.1.0, subst (λ (u : List ℕ). SelectReaches s (type_named s i) u) (sym is) e.1.1))),
+)
 
 -- the place of a type's name
 pub placed : (s : Schema) (names : List (List ℕ)) (k : ℕ) (n : List ℕ) → names ≡ map (λ (t : Defined). t.name) s.types → (k < length names) × (get_or names k [] ≡ n) → (k < length s.types) × (type_named s k ≡ n)
@@ -384,12 +359,12 @@ placed s names k n is h =
 type_at_place : (s : Schema) (k : ℕ) → k < length s.types → IsType s (type_named s k)
 type_at_place s k less = in_map (λ (t : Defined). t.name) s.types (get_or s.types k no_type) (at_place s.types k no_type less)
 
-pub type_reached : (s : Schema) (table : Reach) (i k : ℕ) (n : List ℕ) → IsSelectTable s (λ n. ¬ (IsSelect s n)) (length s.types) (type_named s) table → i < length s.types → k < length s.types → type_named s k ≡ n → Covers (get_or (table_of table.rows) i []) (get_or table.places.items k 0) → ReachesType s (type_named s i) n
+pub type_reached : (s : Schema) (table : Bits) (i k : ℕ) (n : List ℕ) → IsSelectTable s (λ n. ¬ (IsSelect s n)) (length s.types) (type_named s) table → i < length s.types → k < length s.types → type_named s k ≡ n → Holds table i k → ReachesType s (type_named s i) n
 type_reached s table i k n t li lk is m =
-    let h = (t.covers i k li lk).0 m in
-    subst (λ (u : List ℕ). ReachesType s (type_named s i) u) is (record { type = type_at_place s k lk; plain = h.0; reached = h.1 })
+    let h = (t.holds i k li).0 m in
+    subst (λ (u : List ℕ). ReachesType s (type_named s i) u) is (record { type = type_at_place s k lk; plain = h.1.0; reached = h.1.1 })
 
-pub type_not_reached : (s : Schema) (table : Reach) (i k : ℕ) (n : List ℕ) → IsSelectTable s (λ n. ¬ (IsSelect s n)) (length s.types) (type_named s) table → i < length s.types → k < length s.types → type_named s k ≡ n → ¬ (Covers (get_or (table_of table.rows) i []) (get_or table.places.items k 0)) → ¬ (ReachesType s (type_named s i) n)
+pub type_not_reached : (s : Schema) (table : Bits) (i k : ℕ) (n : List ℕ) → IsSelectTable s (λ n. ¬ (IsSelect s n)) (length s.types) (type_named s) table → i < length s.types → k < length s.types → type_named s k ≡ n → ¬ (Holds table i k) → ¬ (ReachesType s (type_named s i) n)
 type_not_reached s table i k n t li lk is m h =
     let g : ReachesType s (type_named s i) (type_named s k) = subst (λ (u : List ℕ). ReachesType s (type_named s i) u) (sym is) h in
-    m ((t.covers i k li lk).1 (g.plain, g.reached))
+    m ((t.holds i k li).1 (lk, (g.plain, g.reached)))

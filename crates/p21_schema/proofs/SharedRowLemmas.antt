@@ -14,46 +14,12 @@ use Rattle.p21_schema.specs.declared.ids.AttrId.{AttrId}
 use Rattle.p21_schema.specs.declared.rows.Row.{Row}
 use Rattle.p21_schema.specs.RowTable.{no_own, IsOwnTable, IsRowAt, BeginsWithFirst, all_kept, ids_from, joined, row_of, from_of, rest_of, IsBegun, IsBeginning, IsRowOver, AreRowsOver, AreWithin, IsSamePosition}
 use Rattle.p21_schema.proofs.AncestryLemmas.{all_names, distinct_entities}
-use Rattle.p21_schema.proofs.RowLemmas.{row_at, attributes_distinct}
-use Rattle.p21_schema.proofs.DeclarationLemmas.{empty_at}
+use Rattle.p21_schema.proofs.RowLemmas.{row_at, attributes_distinct, all_alike}
 use Rattle.p21_schema.proofs.DraftLemmas.{begins_with_first, kept_distinct}
 
--- ---- places in a row that begins with another
-
-at_taken : {X : Type 0} (n : ℕ) (xs ys : List X) (k : ℕ) → k < n → n ≤ length xs → slice_get (take n xs ++ ys) k ≡ slice_get xs k
-at_taken zero xs ys k l m = absurd (omega arith)
-at_taken (suc n) [] ys k l m = absurd (omega arith)
-at_taken (suc n) (x ∷ xs) ys zero l m = refl
-at_taken (suc n) (x ∷ xs) ys (suc k) l m = at_taken n xs ys k (omega arith) (omega arith)
-
-at_rest : {X : Type 0} (n : ℕ) (xs ys : List X) (k : ℕ) → n ≤ k → n ≤ length xs → slice_get (take n xs ++ ys) k ≡ slice_get ys (k - n)
-at_rest zero xs ys k l m = ap (λ u. slice_get ys u) (let e : k ≡ k - 0 = omega arith in e)
-at_rest (suc n) [] ys k l m = absurd (omega arith)
-at_rest (suc n) (x ∷ xs) ys zero l m = absurd (omega arith)
-at_rest (suc n) (x ∷ xs) ys (suc k) l m = at_rest n xs ys k (omega arith) (omega arith) ∙ ap (λ u. slice_get ys u) (let e : k - n ≡ suc k - suc n = omega arith in e)
-
-rest_length : {X : Type 0} (n : ℕ) (xs ys : List X) → n ≤ length xs → length (take n xs ++ ys) ≡ n + length ys
-rest_length zero xs ys m = let e : length ys ≡ 0 + length ys = omega arith in e
-rest_length (suc n) [] ys m = absurd (omega arith)
-rest_length (suc n) (x ∷ xs) ys m = let h = rest_length n xs ys (omega arith) in omega (arith, h)
-
-got : {X : Type 0} (xs : List X) (k : ℕ) (x : X) → k < length xs → x ≡ get_or xs k x → slice_get xs k ≡ Some x
-got [] k x l e = absurd (omega arith)
-got (y ∷ ys) zero x l e = ap Some (sym e)
-got (y ∷ ys) (suc k) x l e = got ys k x (omega arith) e
-
-nothing : {X : Type 0} (xs : List X) → length xs ≡ 0 → xs ≡ []
-nothing [] e = refl
-nothing (x ∷ xs) e = absurd (omega (arith, e))
-
-take_front : {X : Type 0} (xs ys : List X) → take (length xs) (xs ++ ys) ≡ xs
-take_front [] ys = refl
-take_front (x ∷ xs) ys = ap (λ u. x ∷ u) (take_front xs ys)
+-- ---- the parts of a row
 
 module _ (rows : List Row) (e : ℕ) (row : Row) (less : e < length rows) (at : row ≡ get_or rows e row) where
-  from_at : from_of rows e ≡ row.from
-  from_at = get_or-map (λ (r : Row). r.from) rows e row 0 less ∙ ap (λ (r : Row). r.from) (sym at)
-
   pub rest_at : rest_of rows e ≡ row.rest.items
   rest_at = get_or-map (λ (r : Row). r.rest.items) rows e row [] less ∙ ap (λ (r : Row). r.rest.items) (sym at)
 
@@ -61,17 +27,8 @@ module _ (all : List (List AttrId)) (rows : List Row) (t : AreRowsOver all rows)
   over : IsRowOver all rows (row_of all e) row
   over = t.each e row less at
 
-  upto : row.from ≤ length (row_of all row.above)
-  upto = ⊎_elim (λ (l : 0 < row.from). let c = (over.begun l).count in omega (arith, c)) (λ (z : row.from ≤ 0). omega arith) (cases_lt 0 row.from)
-
   pub above_below : 0 < row.from → row.above < length rows
   above_below l = (over.begun l).below
-
-  pub fewer_above : 0 < row.from → from_of rows row.above < from_of rows e
-  fewer_above l = subst (λ u. from_of rows row.above < u) (sym (from_at rows e row less at)) (over.begun l).fewer
-
-  pub count_is : row.from + length row.rest.items ≡ length (row_of all e)
-  count_is = sym (ap length over.whole ∙ rest_length row.from (row_of all row.above) row.rest.items upto)
 
   pub whole_above : 0 < row.from → row_of all e ≡ row_of all row.above ++ rest_of rows e
   whole_above l =
@@ -80,72 +37,6 @@ module _ (all : List (List AttrId)) (rows : List Row) (t : AreRowsOver all rows)
 
   pub whole_rest : row.from ≤ 0 → row_of all e ≡ rest_of rows e
   whole_rest z = let none : row.from ≡ 0 = omega (arith, z) in over.whole ∙ ap (λ (n : ℕ). take n (row_of all row.above) ++ row.rest.items) none ∙ sym (rest_at rows e row less at)
-
-  module _ (position : ℕ) where
-    pub same_above : position < row.from → IsSamePosition all e row.above position
-    same_above l inside = (let m = upto in omega (arith, m), subst (λ u. slice_get u position ≡ slice_get (row_of all row.above) position) (sym over.whole) (at_taken row.from (row_of all row.above) row.rest.items position l upto))
-
-    pub in_rest : row.from ≤ position → position < length (row_of all e) → position - row.from < length row.rest.items
-    in_rest l inside = let c = count_is in omega (arith, c)
-
-    pub found_in_rest : (a : AttrId) → row.from ≤ position → position < length (row_of all e) → a ≡ get_or row.rest.items (position - row.from) a → slice_get (row_of all e) position ≡ Some a
-    found_in_rest a l inside is =
-        ap (λ u. slice_get u position) over.whole ∙ at_rest row.from (row_of all row.above) row.rest.items position l upto ∙ got row.rest.items (position - row.from) a (in_rest l inside) is
-
--- ---- with what a row begins
-
-module _ (all : List (List AttrId)) (rows : List Row) (t : AreRowsOver all rows) (e : ℕ) (row : Row) (less : e < length rows) (at : row ≡ get_or rows e row) where
-  -- where there is no rest, with what the row itself begins
-  pub begins_above : length row.rest.items ≡ 0 → IsBeginning all rows (row_of all e) row.above row.from × (row.from ≡ length (row_of all e))
-  begins_above none =
-      let h = t.each e row less at in
-      let c = count_is all rows t e row less at in
-      let count : row.from ≡ length (row_of all e) = omega (arith, c, none) in
-      let empty : row.rest.items ≡ [] = nothing row.rest.items none in (
-        record {
-          within = omega (arith, count);
-          same = take_all row.from (row_of all e) (omega (arith, count)) ∙ h.whole ∙ ap (λ (u : List AttrId). take row.from (row_of all row.above) ++ u) empty ∙ append-nil (take row.from (row_of all row.above));
-          begun = h.begun;
-        },
-        count,
-      )
-
-  -- where there is a rest, with the row
-  pub begins_itself : (n : ℕ) → n ≡ row.from + length row.rest.items → ¬ (length row.rest.items ≡ 0) → IsBeginning all rows (row_of all e) e n × (n ≡ length (row_of all e))
-  begins_itself n is some =
-      let c = count_is all rows t e row less at in
-      let count : n ≡ length (row_of all e) = is ∙ c in (
-        record {
-          within = omega (arith, count);
-          same = refl;
-          begun = λ _. record { below = less; count = count; fewer = subst (λ u. u < n) (sym (from_at rows e row less at)) (omega (arith, is, some)) };
-        },
-        count,
-      )
-
--- what begins with the row of the first
-pub begins_so : (all : List (List AttrId)) (rows : List Row) (ids rest : List AttrId) (e above from : ℕ) → ids ≡ row_of all e ++ rest → IsBeginning all rows (row_of all e) above from × (from ≡ length (row_of all e)) → IsBeginning all rows ids above from
-begins_so all rows ids rest e above from is h =
-    let count = h.1 in
-    let long : length ids ≡ length (row_of all e) + length rest = ap length is ∙ length-append (row_of all e) rest in
-    let front : take from ids ≡ row_of all e = (λ j. take (count j) (is j)) ∙ take_front (row_of all e) rest in
-    record {
-      within = omega (arith, count, long);
-      same = front ∙ sym (take_all from (row_of all e) (omega (arith, count))) ∙ h.0.same;
-      begun = h.0.begun;
-    }
-
-pub begins_not : (all : List (List AttrId)) (rows : List Row) (ids : List AttrId) (above : ℕ) → IsBeginning all rows ids above 0
-begins_not all rows ids above = record { within = omega arith; same = refl; begun = λ l. absurd (omega (arith, l)) }
-
-pub row_over : (all : List (List AttrId)) (rows : List Row) (ids : List AttrId) (row : Row) → length ids < 2 ^ 64 → row.rest.items ≡ drop row.from ids → IsBeginning all rows ids row.above row.from → IsRowOver all rows ids row
-row_over all rows ids row fits is h = record {
-  whole = sym (take-append-drop row.from ids) ∙ (λ j. h.same j ++ sym is j);
-  begun = h.begun;
-  fits = fits;
-}
-
--- ---- the parts of a row
 
 pub joined_front : (row : ℕ → List AttrId) (es : List ℕ) (e : ℕ) → joined row (reverse (es ++ e ∷ [])) ≡ row e ++ joined row (reverse es)
 joined_front row es e = ap (λ (u : List ℕ). joined row u) (reverse-append es (e ∷ []))
@@ -222,8 +113,8 @@ pub none_done : (graph : List (List ℕ)) (own : List Own) (rows : List Row) (n 
 none_done graph own rows n h = record {
   all = replicate n [];
   over = h;
-  distinct = λ v. subst (λ (u : List AttrId). AreDistinct u) (sym (empty_at n v)) tt;
-  waiting = λ v _. empty_at n v;
+  distinct = λ v. subst (λ (u : List AttrId). AreDistinct u) (sym (all_alike n v [])) tt;
+  waiting = λ v _. all_alike n v [];
   are = λ s formed named owns v i. absurd i;
 }
 
@@ -268,9 +159,3 @@ module _ (graph : List (List ℕ)) (own : List Own) (order : List ℕ) (i : ℕ)
             (λ (ne : (v ≡ next) → ⊥). rw (get_or-set_other all next v ids [] ne) (before v (⊎_elim (λ (f : IsIn (take i order) v). f) (λ (e : next ≡ v). absurd (ne (sym e))) (front_more order i 0 v less m))))
             (cases_eq v next);
       }
-
-pub zero_at : (n k : ℕ) → ◌≡◌ {A = ℕ} (get_or (replicate n 0) k 0) 0
-zero_at n k = ⊎_elim
-    (λ (l : k < n). get_or-replicate n k 0 0 l)
-    (λ (h : n ≤ k). get_or_past (replicate n 0) k 0 (subst (λ u. u ≤ k) (sym (length-replicate n 0)) h))
-    (cases_lt k n)

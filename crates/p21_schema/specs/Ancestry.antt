@@ -2,8 +2,8 @@
 use Rattle.std.specs.Prelude.{◌≡◌, ◌<◌, ◌↔◌, ◌⊎◌, ℕ, List, [], map, length, get_or}
 use Rattle.p21_express.specs.Schema.{Schema, Entity}
 use Rattle.p21_express.specs.WellFormed.{IsIn, IsAncestor}
-use Rattle.p21_graph.specs.declared.reach.Reach.{Reach}
-use Rattle.p21_graph.specs.Reach.{IsReach, IsWithin}
+use Rattle.p21_graph.specs.declared.bits.Bits.{Bits}
+use Rattle.p21_graph.specs.Bits.{Holds}
 use Rattle.p21_schema.specs.declared.ids.EntityId.{EntityId}
 use Rattle.p21_schema.specs.Place.{no_entity, entity_name, IsEntityOf}
 
@@ -34,9 +34,8 @@ pub record IsSupertypeTable (s : Schema) (table : List (List EntityId)) : Type 0
 abbrev pub IsA : Schema → EntityId → EntityId → Type 0
 IsA s a b = (entity_name s a ≡ entity_name s b) ⊎ IsAncestor s (entity_name s a) (entity_name s b)
 
--- what the entities reach downwards: themselves, and those whose ancestors they are
-pub record IsDescentTable (s : Schema) (reach : Reach) : Type 0 where
-  pub graph : List (List ℕ)
-  pub count : length graph ≡ length s.entities
-  pub reaches : IsReach graph reach
-  pub descents : (a b : ℕ) → a < length s.entities → b < length s.entities → IsWithin graph b a ↔ IsA s (entity_id a) (entity_id b)
+-- a row for each entity, which holds itself and its ancestors
+pub record IsAncestryTable (s : Schema) (table : Bits) : Type 0 where
+  pub rows : table.rows ≡ length s.entities
+  pub columns : table.columns ≡ length s.entities
+  pub holds : (a b : ℕ) → a < length s.entities → b < length s.entities → Holds table a b ↔ IsA s (entity_id a) (entity_id b)

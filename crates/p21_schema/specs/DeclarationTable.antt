@@ -5,7 +5,7 @@ use Rattle.p21_express.specs.Schema.{Schema}
 use Rattle.p21_express.specs.WellFormed.{IsIn, IsWellFormed, IsOrigin, Origin, new_explicit}
 use Rattle.p21_schema.specs.declared.declarations.Declaration.{Declaration as Coded}
 use Rattle.p21_schema.specs.declared.declarations.Known.{Known}
-use Rattle.p21_schema.specs.Ancestry.{IsDescentTable}
+use Rattle.p21_schema.specs.Ancestry.{IsAncestryTable}
 use Rattle.p21_schema.specs.Declaration.{Declaration, Written, Declares, Chosen, declaration, AreResolvedIn}
 use Rattle.p21_schema.specs.Place.{no_entity}
 use Rattle.p21_schema.specs.Row.{attributes_of, no_attribute}
@@ -52,5 +52,5 @@ pub record IsFitting (k : Known) : Type 0 where
   pub well_formed : IsWellFormed (known_schema k)
   pub entities : k.entities.now ≡ map (λ e. e.name) (known_schema k).entities
   pub types : k.types.now ≡ map (λ t. t.name) (known_schema k).types
-  pub descents : IsDescentTable (known_schema k) k.descents.now
+  pub ancestry : IsAncestryTable (known_schema k) k.ancestry.now
   pub own : IsOwnTable (known_schema k) k.own.now

@@ -8,7 +8,7 @@ use Rattle.p21_schema.specs.declared.schema.Schema.TheInside.{Inside}
 use Rattle.p21_schema.specs.Rules.{with_rules}
 use Rattle.p21_schema.specs.RowTable.{IsOwnTable, IsRowTable}
 use Rattle.p21_schema.specs.Under.{AreEnds, AreResolved}
-use Rattle.p21_schema.specs.Ancestry.{IsSupertypeTable, IsDescentTable}
+use Rattle.p21_schema.specs.Ancestry.{IsSupertypeTable, IsAncestryTable}
 use Rattle.p21_schema.specs.Declaration.{written}
 use Rattle.p21_schema.specs.DeclarationTable.{IsDeclarationTable}
 use Rattle.p21_schema.specs.SelectTable.{AreSelectTables}
@@ -22,10 +22,10 @@ pub record AreTables (a : Inside) : Type 0 where
   pub names : a.entity_names ≡ map (λ e. e.name) (schema_of a).entities
   pub types : a.type_names ≡ map (λ t. t.name) (schema_of a).types
   pub supertypes : IsSupertypeTable (schema_of a) (rows_of a.supertypes)
-  pub descents : IsDescentTable (schema_of a) a.descents
+  pub ancestry : IsAncestryTable (schema_of a) a.ancestry
   pub own : IsOwnTable (schema_of a) a.own.items
   pub rows : IsRowTable (schema_of a) a.rows
   pub attributes : IsDeclarationTable (schema_of a) (written (schema_of a).entities) (rows_of a.attributes)
   pub ends : AreEnds (schema_of a) a.ends.items
   pub resolved : AreResolved (map (λ e. e.name) (schema_of a).entities) (map (λ t. t.name) (schema_of a).types) a.unders.items (schema_of a).types
-  pub selects : AreSelectTables (schema_of a) (record { entities = a.reached_entities; admitted = a.admitted_entities; types = a.reached_types; any_entity = a.any_entity })
+  pub selects : AreSelectTables (schema_of a) a.selects

@@ -1,16 +1,16 @@
-//! The supertypes of each entity, by their places, and all descendants.
+//! The supertypes of each entity, by their places.
 
-ghost use Rattle.std.specs.Prelude.{◌≡◌, ◌<◌, ℕ, List, [], length, get_or, map, IfOk};
-ghost use Rattle.p21_express.specs.Schema.{Schema, Entity};
+ghost use Rattle.std.specs.Prelude.{◌≡◌, ℕ, List, map, IfOk};
+ghost use Rattle.p21_express.specs.Schema.{Entity};
 ghost use Rattle.p21_express.specs.Plain.{plain_entity};
-ghost use Rattle.p21_express.specs.WellFormed.{IsIn, IsWellFormed, HasNoCycle};
-ghost use Rattle.p21_graph.specs.Graph.{rows_of, plain_graph, HasEdge, AreEdgesBelow};
-ghost use Rattle.p21_schema.specs.Ancestry.{AreNamed, AreSupertypesNamed, IsDescentTable, entity_id};
+ghost use Rattle.p21_express.specs.WellFormed.{IsIn};
+ghost use Rattle.p21_graph.specs.Graph.{rows_of, plain_graph};
+ghost use Rattle.p21_schema.specs.Ancestry.{AreNamed, AreSupertypesNamed, entity_id};
 
 use crate::ids::EntityId;
 use crate::names::Names;
 use p21_express::EntityDecl;
-use p21_graph::{Graph, Reach, order_from_above, turned};
+use p21_graph::Graph;
 use std::alloc::{AllocError, Global};
 
 /// The places of an entity's supertypes.
@@ -64,15 +64,4 @@ pub(crate) fn supertype_ids(alloc: Global, graph: &Graph) -> Result<Vec<Vec<Enti
         table.push(ids(alloc, places)?)?;
     }
     Ok(table)
-}
-
-/// For each entity which entities descend from it.
-pub(crate) fn descents(alloc: Global, supertypes: &Graph) -> Result<Reach, AllocError>
-    requires edges { AreEdgesBelow (plain_graph supertypes.now) (length (plain_graph supertypes.now)) }
-    requires cycles { HasNoCycle (HasEdge (plain_graph supertypes.now)) }
-    ensures { IfOk result (λ reach. (s : Schema) → IsWellFormed s → AreSupertypesNamed (map (λ e. e.name) s.entities) (plain_graph supertypes.now) s.entities → IsDescentTable s reach) }
-{
-    let subtypes = turned(alloc, supertypes)?;
-    let order = order_from_above(alloc, &subtypes)?;
-    Reach::new(alloc, &subtypes, &order)
 }

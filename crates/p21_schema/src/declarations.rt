@@ -16,7 +16,7 @@ use crate::resolved::{ResolvedExpr, resolve};
 use crate::rows::Own;
 use crate::rules::Rules;
 use p21_express::{AttrDecl, Declarations, DeriveDecl, EntityDecl};
-use p21_graph::Reach;
+use p21_graph::Bits;
 use std::alloc::{AllocError, Global};
 
 /// What a declaration makes of an attribute.
@@ -47,7 +47,7 @@ pub(crate) struct Known<'a> {
     pub(crate) rules: Rules,
     pub(crate) entities: &'a Names,
     pub(crate) types: &'a Names,
-    pub(crate) descents: &'a Reach,
+    pub(crate) ancestry: &'a Bits,
     pub(crate) own: &'a [Own],
 }
 
@@ -85,7 +85,7 @@ fn is_over(known: &Known, entity: usize, other: usize) -> bool
     requires other { other < length (known_schema known.now).entities }
     ensures { IsTrue result ↔ IsA (known_schema known.now) (entity_id entity) (entity_id other) }
 {
-    known.descents.has(other, entity)
+    known.ancestry.has(entity, other)
 }
 
 /// The attribute of this name that an entity or an ancestor of it newly declares as an explicit one.

@@ -2,17 +2,17 @@
 
 ghost use Rattle.std.specs.Prelude.{◌≡◌, ◌<◌, ◌↔◌, List, Some, length, slice_get, IfOk, IsTrue, MatchOption};
 
-use crate::ancestry::{descents, supertype_ids, supertypes};
+use crate::ancestry::{supertype_ids, supertypes};
 use crate::declarations::{Declaration, Known, all_declarations};
 use crate::ids::{AttrId, EntityId, TypeId};
 use crate::names::{Names, entity_names, type_names};
 use crate::resolved::Resolved;
 use crate::rows::{Own, Rows, own_attributes};
 use crate::rules::Rules;
-use crate::selects::{has, select_tables};
+use crate::selects::{Selects, select_tables};
 use crate::under::{is_among, resolved, type_ends};
 use p21_express::Declarations;
-use p21_graph::{Reach, order};
+use p21_graph::{Bits, order, reached_with_itself};
 use p21_hash::HashKey;
 use std::alloc::{AllocError, Global};
 use std::marker::Model;
@@ -24,8 +24,8 @@ pub struct Schema {
     entity_names: Names,
     type_names: Names,
     supertypes: Vec<Vec<EntityId>>,
-    /// For each entity which entities descend from it.
-    descents: Reach,
+    /// For each entity which is it or an ancestor of it.
+    ancestry: Bits,
     /// Where the attributes that each entity newly declares stand among those of all entities.
     own: Vec<Own>,
     rows: Rows,
@@ -34,14 +34,7 @@ pub struct Schema {
     /// The place of the type at which the way from each type ends, by the names that alone stand under types.
     ends: Vec<usize>,
     unders: Vec<Resolved>,
-    /// For each type which entities it reaches, where it is a SELECT.
-    reached_entities: Reach,
-    /// For each type the entities that it reaches, where it is a SELECT, and their descendants.
-    admitted_entities: Reach,
-    /// For each type which types that are no SELECT it reaches, where it is one.
-    reached_types: Reach,
-    /// For each type whether it is a SELECT that reaches an entity.
-    any_entity: Vec<bool>,
+    selects: Selects,
 }
 
 impl Model for Schema {
@@ -69,16 +62,13 @@ impl Drop for Schema {
             entity_names: _,
             type_names: _,
             supertypes: _,
-            descents: _,
+            ancestry: _,
             own: _,
             rows: _,
             attributes: _,
             ends: _,
             unders: _,
-            reached_entities: _,
-            admitted_entities: _,
-            reached_types: _,
-            any_entity: _,
+            selects: _,
         } = self;
     }
 }
@@ -125,7 +115,7 @@ impl Schema {
         let entity_names = entity_names(alloc, key, &declarations.entities)?;
         let graph = supertypes(alloc, &entity_names, &declarations.entities)?;
         let order = order(alloc, &graph)?;
-        let descents = descents(alloc, &graph)?;
+        let ancestry = reached_with_itself(alloc, &graph, &order)?;
         let (own, lists) = own_attributes(alloc, &declarations)?;
         let rows = Rows::new(alloc, &graph, lists.len(), &own, &order)?;
         let supertypes = supertype_ids(alloc, &graph)?;
@@ -137,27 +127,24 @@ impl Schema {
             rules,
             entities: &entity_names,
             types: &type_names,
-            descents: &descents,
+            ancestry: &ancestry,
             own: &own,
         };
         let attributes = all_declarations(alloc, &known, lists)?;
-        let selects = select_tables(alloc, &unders, &descents)?;
+        let selects = select_tables(alloc, &unders, declarations.entities.len())?;
         Ok(Schema {
             declarations,
             rules,
             entity_names,
             type_names,
             supertypes,
-            descents,
+            ancestry,
             own,
             rows,
             attributes,
             ends,
             unders,
-            reached_entities: selects.entities,
-            admitted_entities: selects.admitted,
-            reached_types: selects.types,
-            any_entity: selects.any_entity,
+            selects,
         })
     }
 
@@ -242,7 +229,7 @@ impl Schema {
         requires other { IsEntityOf self.now other }
         ensures { IsTrue result ↔ IsA self.now entity other }
     {
-        self.descents.has(other.index, entity.index)
+        self.ancestry.has(entity.index, other.index)
     }
 
     /// The number of attributes in the entity's row.
@@ -321,7 +308,7 @@ impl Schema {
         ensures { MatchOption result (¬ (ReachesType self.now (type_name self.now select) name.now)) (λ t. IsTypeOf self.now t × ((type_name self.now t ≡ name.now) × ReachesType self.now (type_name self.now select) name.now)) }
     {
         let index = self.type_names.place(name)?;
-        if has(&self.reached_types, select.index, index) {
+        if self.selects.types.has(select.index, index) {
             Some(TypeId { index })
         } else {
             None
@@ -334,7 +321,7 @@ impl Schema {
         requires entity { IsEntityOf self.now entity }
         ensures { IsTrue result ↔ SelectReaches self.now (type_name self.now select) (entity_name self.now entity) }
     {
-        has(&self.reached_entities, select.index, entity.index)
+        self.selects.entities.has(select.index, entity.index)
     }
 
     /// Whether the SELECT reaches the entity or an ancestor of it.
@@ -343,7 +330,9 @@ impl Schema {
         requires entity { IsEntityOf self.now entity }
         ensures { IsTrue result ↔ ReachesA self.now (type_name self.now select) (entity_name self.now entity) }
     {
-        has(&self.admitted_entities, select.index, entity.index)
+        self.selects
+            .entities
+            .meets(select.index, &self.ancestry, entity.index)
     }
 
     /// Whether the SELECT reaches an entity.
@@ -351,6 +340,6 @@ impl Schema {
         requires { IsTypeOf self.now select }
         ensures { IsTrue result ↔ ReachesEntity self.now (type_name self.now select) }
     {
-        self.any_entity[select.index]
+        self.selects.entities.holds_some(select.index)
     }
 }

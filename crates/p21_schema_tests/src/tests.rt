@@ -167,6 +167,57 @@ fn rows(rt: HostRuntime) -> Result<(), Fail> {
     check_rows(&rt, &toy)
 }
 
+/// A has more attributes than a row that is kept whole; below it B and D have one more each, and C and E none.
+const LONG_ROWS: &[u8] = b"SCHEMA s;\n\
+ENTITY a;\n\
+x0 : REAL; x1 : REAL; x2 : REAL; x3 : REAL; x4 : REAL; x5 : REAL;\n\
+x6 : REAL; x7 : REAL; x8 : REAL; x9 : REAL; x10 : REAL; x11 : REAL;\n\
+x12 : REAL; x13 : REAL; x14 : REAL; x15 : REAL; x16 : REAL; x17 : REAL;\n\
+x18 : REAL; x19 : REAL; x20 : REAL; x21 : REAL; x22 : REAL; x23 : REAL;\n\
+x24 : REAL; x25 : REAL; x26 : REAL; x27 : REAL; x28 : REAL; x29 : REAL;\n\
+x30 : REAL; x31 : REAL; x32 : REAL;\n\
+END_ENTITY;\n\
+ENTITY b SUBTYPE OF (a); y : REAL; END_ENTITY;\n\
+ENTITY c SUBTYPE OF (b); END_ENTITY;\n\
+ENTITY d SUBTYPE OF (c); z : REAL; END_ENTITY;\n\
+ENTITY e SUBTYPE OF (d, c, a); END_ENTITY;\n\
+END_SCHEMA;\n";
+
+/// Positions in the rows of D and E, and the attributes that stand there.
+const LONG_ROW: &[(usize, Attribute)] = &[
+    (0, (b"A", 0)),
+    (32, (b"A", 32)),
+    (33, (b"B", 0)),
+    (34, (b"D", 0)),
+];
+
+/// Whether an attribute stands at a position of the row of an entity.
+fn stands_at(
+    schema: &Schema,
+    name: &[u8],
+    position: usize,
+    attribute: Attribute,
+) -> Result<bool, Fail> {
+    let id = entity(schema, name)?;
+    let (owner, own) = attribute;
+    let owner = entity(schema, owner)?;
+    Ok(position < schema.row_count(id)
+        && own < schema.own_count(owner)
+        && schema.row(id, position) == schema.own(owner, own))
+}
+
+#[test]
+fn long_rows(rt: HostRuntime) -> Result<(), Fail> {
+    let schema = table(rt.alloc(), LONG_ROWS)?;
+    for (position, attribute) in LONG_ROW {
+        assert!(rt; stands_at(&schema, b"D", *position, *attribute)?, "{position}");
+        assert!(rt; stands_at(&schema, b"E", *position, *attribute)?, "{position}");
+    }
+    let last = entity(&schema, b"E")?;
+    assert_eq!(rt; schema.row_count(last), 35);
+    Ok(())
+}
+
 #[test]
 fn one_name_in_two_supertypes(rt: HostRuntime) -> Result<(), Fail> {
     let text =

@@ -1,12 +1,13 @@
-use Rattle.std.proofs.Common.{◌<◌, true, sym, subst, ◌≡◌}
-use Rattle.p21_schema.specs.DeclarationTable.{known_schema}
-use Rattle.p21_schema.proofs.AncestryLemmas.{descends_by}
+use Rattle.std.proofs.Common.{◌<◌, sym, subst}
 use Rattle.p21_schema.proofs.declarations.is_over.Goals as goal
 
-pub has-requires : goal.has-requires
-has-requires c =
-    let t = c.requires.known.descents in
-    (t.graph, (t.reaches, (subst (λ u. c.args.other < u) (sym t.count) c.requires.other, subst (λ u. c.args.entity < u) (sym t.count) c.requires.entity)))
+pub has-requires-clause-row : goal.has-requires-clause-row
+has-requires-clause-row c = subst (λ u. c.args.entity < u) (sym c.requires.known.ancestry.rows) c.requires.entity
+
+pub has-requires-clause-column : goal.has-requires-clause-column
+has-requires-clause-column c = subst (λ u. c.args.other < u) (sym c.requires.known.ancestry.columns) c.requires.other
 
 pub returns : goal.returns
-returns c = descends_by (known_schema c.args.known.now) c.args.known.now.descents.now c.args.entity c.args.other c.requires.known.descents (c.has.result ≡ true) c.has.ensures c.requires.entity c.requires.other
+returns c =
+    let row = c.requires.known.ancestry.holds c.args.entity c.args.other c.requires.entity c.requires.other in
+    (λ r. row.0 (c.has.ensures.0 r), λ i. c.has.ensures.1 (row.1 i))

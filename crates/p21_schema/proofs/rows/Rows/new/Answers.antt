@@ -5,7 +5,8 @@ use Rattle.p21_graph.specs.Graph.{plain_graph}
 use Rattle.p21_graph.specs.GraphLaws.{row_is, row_count}
 use Rattle.p21_schema.specs.declared.ids.AttrId.{AttrId}
 use Rattle.p21_schema.specs.RowTable.{no_own, joined, row_of, all_kept, ids_from, BeginsWithFirst, IsRowOver}
-use Rattle.p21_schema.proofs.SharedRowLemmas.{none_done, begins_next, supertypes_below, one_done, within_set, zero_at}
+use Rattle.p21_schema.proofs.SharedRowLemmas.{none_done, begins_next, supertypes_below, one_done, within_set}
+use Rattle.p21_schema.proofs.RowLemmas.{all_alike}
 use Rattle.p21_schema.proofs.rows.Rows.new.Goals as goal
 
 pub loop-place-init : goal.loop-place-init
@@ -15,7 +16,7 @@ loop-place-init c =
       count = c.in_ok-rows.ensures.count ∙ c.len.ensures ∙ sym (row_count c.args.supertypes.now);
       within = λ e a i. let l = c.in_ok-rows.ensures.within e a i in absurd (omega (arith, l));
       size = ap length c.in_ok-draft.ensures ∙ length-replicate c.args.count 0;
-      upto = λ k. let z : get_or c.in_ok-draft.draft.marks.items k 0 ≡ 0 = ap (λ (u : List ℕ). get_or u k 0) c.in_ok-draft.ensures ∙ zero_at c.args.count k in omega (arith, z);
+      upto = λ k. let z : get_or c.in_ok-draft.draft.marks.items k 0 ≡ 0 = ap (λ (u : List ℕ). get_or u k 0) c.in_ok-draft.ensures ∙ all_alike c.args.count k 0 in omega (arith, z);
       done = none_done (plain_graph c.args.supertypes.now) c.args.own.now rows _ c.in_ok-rows.ensures.over;
     }
 
