@@ -19,4 +19,3 @@ pub mod Walk
 pub mod Lists
 pub mod Asked
 pub mod EntityOf
-pub mod AmongTests

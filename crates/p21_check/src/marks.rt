@@ -5,10 +5,10 @@ ghost use Rattle.p21_check.specs.Marks.{AreAdded};
 
 use p21_schema::EntityId;
 
-/// How many records an instance has at most whose records are searched, in place of a table of marks.
+/// Up to so many records are searched one by one, without a table of marks.
 pub(crate) const FEW: usize = 64;
 
-/// How many marks a table has. Of an entity behind so many others there is none.
+/// How many marks a table has: one for each of the first so many entities of the schema. The records are searched for any other.
 pub(crate) const MARKS: usize = 16384;
 
 /// Marks some entities.

@@ -1,4 +1,4 @@
-//! Complex instances of many records, by example.
+//! Complex instances of many records, some of whose entities stand behind so many others of the schema that no mark is theirs.
 
 use crate::tables::table;
 use p21_check::check_local;
@@ -7,8 +7,8 @@ use p21_tree::{FaultKind, Piece, read_piece};
 use std::alloc::{AllocError, Global};
 use std::test::Fail;
 
-/// More than the marks of an instance of few records.
-const ENTITIES: u64 = 1100;
+/// More than there are marks in a table.
+const ENTITIES: u64 = 16500;
 
 /// A text with these numbers, each behind the one text and before the other.
 fn numbered(
@@ -21,7 +21,7 @@ fn numbered(
     let mut text = Vec::new(alloc);
     for number in from..to {
         text.extend_from_slice(front)?;
-        for unit in [1000, 100, 10, 1] {
+        for unit in [10000, 1000, 100, 10, 1] {
             text.push(b'0' + (number / unit % 10) as u8)?;
         }
         text.extend_from_slice(back)?;
@@ -29,7 +29,7 @@ fn numbered(
     Ok(text)
 }
 
-/// The table of many entities below one, and of an abstract one with its subtype.
+/// The table of many entities below one, and of an abstract one and its subtype before and behind them.
 fn many(alloc: Global) -> Result<Schema, Fail> {
     let entities = numbered(
         alloc,
@@ -39,23 +39,20 @@ fn many(alloc: Global) -> Result<Schema, Fail> {
         ENTITIES,
     )?;
     let mut text = Vec::new(alloc);
-    text.extend_from_slice(
-        b"SCHEMA MANY; ENTITY A; END_ENTITY; ENTITY P ABSTRACT SUPERTYPE; END_ENTITY;",
-    )?;
+    text.extend_from_slice(b"SCHEMA MANY; ENTITY A; END_ENTITY; ENTITY P ABSTRACT SUPERTYPE; END_ENTITY; ENTITY C SUBTYPE OF (P); END_ENTITY;")?;
     text.extend_from_slice(&entities)?;
-    text.extend_from_slice(b"ENTITY C SUBTYPE OF (P); END_ENTITY; END_SCHEMA;")?;
+    text.extend_from_slice(b"ENTITY Q ABSTRACT SUPERTYPE; END_ENTITY; ENTITY D SUBTYPE OF (Q); END_ENTITY; END_SCHEMA;")?;
     Ok(table(alloc, &text).ok_or("a schema")?)
 }
 
-/// The fault of an instance of these records, of the entities from the one number to before the other, and of these.
+/// The fault of an instance of the last 200 of the many entities, between these records.
 fn fault(
     alloc: Global,
     schema: &Schema,
     front: &[u8],
-    (from, to): (u64, u64),
     back: &[u8],
 ) -> Result<Option<FaultKind>, Fail> {
-    let records = numbered(alloc, b"E", b"()", from, to)?;
+    let records = numbered(alloc, b"E", b"()", ENTITIES - 200, ENTITIES)?;
     let mut text = Vec::new(alloc);
     text.extend_from_slice(b"#1=(")?;
     text.extend_from_slice(front)?;
@@ -76,26 +73,23 @@ fn many_records(rt: HostRuntime) -> Result<(), Fail> {
     let alloc = rt.alloc();
     let schema = many(alloc)?;
     let bad = Some(FaultKind::BadComplex);
-    let rows: [(&[u8], (u64, u64), &[u8], Option<FaultKind>); 12] = [
-        (b"A()", (0, 17), b"", None),
-        (b"A()", (0, 100), b"", None),
-        (b"A()", (0, ENTITIES), b"", None),
-        (b"", (0, ENTITIES), b"A()", None),
-        (b"", (0, ENTITIES), b"", bad),
-        (b"A()", (0, ENTITIES), b"E0000()", bad),
-        (b"A()", (0, ENTITIES), b"E1099()", bad),
-        (b"A()P()", (0, ENTITIES), b"C()", None),
-        (b"A()P()", (0, ENTITIES), b"", bad),
-        (b"A()C()", (0, ENTITIES), b"", bad),
-        // These share a place among the marks of an instance of few records.
-        (b"E1024()E1025()", (0, 17), b"A()", None),
-        (b"E1024()A()", (0, 17), b"E0000()", bad),
+    let rows: [(&[u8], &[u8], Option<FaultKind>); 10] = [
+        (b"A()", b"", None),
+        (b"", b"", bad),
+        (b"A()", b"E16300()", bad),
+        (b"A()", b"E16499()", bad),
+        (b"A()P()", b"C()", None),
+        (b"A()P()", b"", bad),
+        (b"A()C()", b"", bad),
+        (b"A()Q()", b"D()", None),
+        (b"A()Q()", b"", bad),
+        (b"A()D()", b"", bad),
     ];
-    for (front, numbers, back, want) in rows {
+    for (front, back, want) in rows {
         assert_eq!(rt;
-            fault(alloc, &schema, front, numbers, back)?,
+            fault(alloc, &schema, front, back)?,
             want,
-            "{front:?} {numbers:?} {back:?}"
+            "{front:?} {back:?}"
         );
     }
     Ok(())

@@ -6,11 +6,6 @@ use std::alloc::Global;
 
 /// The table of a schema's text.
 pub(crate) fn table(alloc: Global, text: &[u8]) -> Option<Schema> {
-    table_under(alloc, text, Rules::default())
-}
-
-/// The table of a schema's text, under these rules.
-pub(crate) fn table_under(alloc: Global, text: &[u8], rules: Rules) -> Option<Schema> {
     let declarations = read_declarations(alloc, text).ok()?;
-    Schema::build(alloc, declarations, rules).ok()
+    Schema::build(alloc, declarations, Rules::default()).ok()
 }
