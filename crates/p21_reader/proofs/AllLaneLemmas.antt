@@ -10,7 +10,7 @@ use Rattle.p21_reader.specs.declared.judged.Judgement.{Judgement}
 use Rattle.p21_reader.specs.declared.reading.ReadError.{ReadError}
 use Rattle.p21_reader.specs.declared.stop.Stop.{Stop}
 use Rattle.p21_reader.specs.declared.stop.Stop.TheVariants as stop
-use Rattle.p21_reader.specs.AllAnswer.{IsStoppedWithAll, plain_all}
+use Rattle.p21_reader.specs.AllAnswer.{AllAnswerReturned, IsStoppedWithAll, plain_all}
 use Rattle.p21_reader.specs.AllFaults.{IsReadingWithAll}
 use Rattle.p21_reader.specs.AllFaults as faults
 use Rattle.p21_reader.specs.Judged.{value_of, values_of}
@@ -34,6 +34,11 @@ pub stopped_pieces : (s : Schema) (file : List ℕ) (lanes : ℕ) (e : Stop) (r 
 stopped_pieces s file lanes e (Err x) fault stopped = tt
 stopped_pieces s file lanes (stop.Fault f) (Ok r) fault stopped = record { pieces = []; of_file = pieces.none fault; as_dealt = dealing.none fault stopped.2 stopped.1 }
 stopped_pieces s file lanes stop.Memory (Ok r) fault stopped = absurd stopped
+
+pub stopped_all_returned : (s : Schema) (file : List ℕ) (lanes : ℕ) (e : Stop) (r : Result AllFaults ReadError) → OnFault e (IsOpeningFault s file) → IfOk r (IsStoppedWithAll e) → IfOk r (AllAnswerReturned s file lanes)
+stopped_all_returned s file lanes e (Err x) fault stopped = tt
+stopped_all_returned s file lanes (stop.Fault f) (Ok r) fault stopped = dealing.nothing fault stopped.3
+stopped_all_returned s file lanes stop.Memory (Ok r) fault stopped = absurd stopped
 
 -- what was stated of the pieces is what they are by themselves
 pub judged_stated : (s : Schema) (ps : List Piece) (js : List Judgement) → AllZip (IsStated (λ p j. IsJudged s p (value_of j)) s) ps js → AllZip (IsJudged s) ps (values_of js)

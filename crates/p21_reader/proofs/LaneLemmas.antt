@@ -9,6 +9,10 @@ use Rattle.p21_tree.specs.declared.faults.FaultKind.{FaultKind}
 use Rattle.p21_tree.specs.declared.pieces.Piece.{Piece}
 use Rattle.p21_tree.specs.Sentence.{Instance}
 use Rattle.p21_tree.specs.Views.{plain_instance}
+use Rattle.p21_cut.specs.Pieces.{PiecesAre}
+use Rattle.p21_cut.specs.Pieces.{Piece as Cut}
+use Rattle.p21_cut.specs.Cutter.{Gives, file_of, number_of, place_of}
+use Rattle.p21_cut.specs.declared.cutter.Cutter.{Cutter}
 use Rattle.p21_check.specs.EntityOf.{AreSimpleEntities, IsSimpleEntity}
 use Rattle.p21_check.specs.LocalFault.{IsLocalFault}
 use Rattle.p21_refs.specs.FirstReferenceFault.{AreSound}
@@ -22,7 +26,7 @@ use Rattle.p21_reader.specs.declared.reading.ReadError.{ReadError}
 use Rattle.p21_reader.specs.declared.stop.Stop.{Stop}
 use Rattle.p21_reader.specs.declared.stop.Stop.TheVariants as stop
 use Rattle.p21_reader.specs.Answer.{plain_answer}
-use Rattle.p21_reader.specs.Lanes.{IsStated, FindsEachFault, IsReadBy, PiecesAreDealt}
+use Rattle.p21_reader.specs.Lanes.{AnswersReturned, IsStated, FindsEachFault, IsReadBy, PiecesAreDealt}
 use Rattle.p21_reader.specs.Lanes as dealing
 use Rattle.p21_reader.specs.Laws.{LocalReadingIsReading}
 use Rattle.p21_reader.specs.LocalFault.{IsOpeningFault}
@@ -111,6 +115,19 @@ stopped_before judges s file lanes (stop.Fault f) (Ok r) fault stopped =
     let Answered : Result (List Instance) Fault → Type 0 = λ answer. IsReadingBy s file judges [] answer in
     record { pieces = []; answer = subst Answered (sym (ap plain_answer stopped.0)) (before_instances fault); dealt = dealing.none fault stopped.2 stopped.1 }
 stopped_before judges s file lanes stop.Memory (Ok r) fault stopped = absurd stopped
+
+-- nothing was returned to a reading that stopped before the instances
+pub stopped_returned : (judges : Piece → Judged → Type 0) (s : Schema) (file : List ℕ) (lanes : ℕ) (e : Stop) (r : Result Reading ReadError) → OnFault e (IsOpeningFault s file) → IfOk r (IsStopped e) → IfOk r (AnswersReturned judges s file lanes)
+stopped_returned judges s file lanes e (Err x) fault stopped = tt
+stopped_returned judges s file lanes (stop.Fault f) (Ok r) fault stopped = dealing.nothing fault stopped.3
+stopped_returned judges s file lanes stop.Memory (Ok r) fault stopped = absurd stopped
+
+-- what a cutter gives that was made of this file at this place, with no piece given, are the file's pieces from there on
+pub cut_behind : (cutter : Cutter) (file : List ℕ) (at : ℕ) (ps : List Cut) (tail : ℕ) → file_of cutter ≡ file → place_of cutter ≡ at → number_of cutter ≡ 0 → Gives cutter ps tail → PiecesAre file at 0 ps tail
+cut_behind cutter file at ps tail of_file of_place of_number gives =
+    let numbered = subst (λ n. PiecesAre (file_of cutter) (place_of cutter) n ps tail) of_number gives in
+    let placed = subst (λ p. PiecesAre (file_of cutter) p 0 ps tail) of_place numbered in
+    subst (λ f. PiecesAre f at 0 ps tail) of_file placed
 
 -- by judges that judge against the schema
 abbrev IsReadLocally : Schema → List ℕ → ℕ → Reading → Type 0

@@ -9,12 +9,15 @@ use Rattle.p21_tree.specs.Sentence.{Opening}
 use Rattle.p21_tree.specs.Texts.{BeginsPreface}
 use Rattle.p21_tree.specs.Views.{plain_instance}
 use Rattle.p21_cut.specs.Cutter.{plain_piece}
+use Rattle.p21_cut.specs.Pieces.{PiecesAre}
 use Rattle.p21_check.specs.Header.{IsHeaderFault}
 use Rattle.p21_check.specs.LocalFault.{IsLocalFault}
 use Rattle.p21_lanes.specs.declared.receipt.Receipt.{Receipt}
 use Rattle.p21_lanes.specs.Receipt.{passed}
 use Rattle.p21_desk.specs.Dealing.{share, IsDealing}
+use Rattle.p21_crew.specs.declared.returned.Returned.{Returned}
 use Rattle.p21_crew.specs.Each.{EachAt}
+use Rattle.p21_crew.specs.Run.{IsRun}
 use Rattle.p21_reader.specs.declared.judged.Judged.{Judged}
 use Rattle.p21_reader.specs.declared.judged.Judged.TheVariants as judged
 use Rattle.p21_reader.specs.declared.judged.Judgement.{Judgement}
@@ -22,10 +25,11 @@ use Rattle.p21_reader.specs.declared.reading.Reading.{Reading}
 use Rattle.p21_reader.specs.Answer.{plain_answer}
 use Rattle.p21_reader.specs.declared.gathering.Gathering.{Gathering}
 use Rattle.p21_reader.specs.Gathering.{IsGathered}
-use Rattle.p21_reader.specs.Judged.{HasOwnEntity}
+use Rattle.p21_reader.specs.Judged.{HasOwnEntity, value_of, values_of}
 use Rattle.p21_reader.specs.LocalFault.{IsOpeningFault}
 use Rattle.p21_reader.specs.PiecesOf.{ArePiecesOf}
 use Rattle.p21_reader.specs.ReadingBy.{IsReadingBy}
+use Rattle.p21_reader.specs.Values.{IsAnswerTo, IsJudged}
 
 -- what a worker may say of a piece: what its judge may, and beside it the instance's own entity
 abbrev pub IsStated : (Piece → Judged → Type 0) → Schema → Piece → Judgement → Type 0
@@ -63,3 +67,19 @@ pub record PiecesAreDealt (s : Schema) (file : List ℕ) (lanes : ℕ) (dealt : 
   pub pieces : List Piece
   pub of_file : ArePiecesOf s file (map plain_piece pieces)
   pub as_dealt : AreDealtIn s file lanes dealt receipts pieces
+
+-- What the lanes of a reading returned, by what may be said of a piece, and what an answer to it is. Where a fault stands before the
+-- instances nothing was returned. Else there is a result of each piece, which may be said of it; each lane received its share of the
+-- pieces and returned its share of these results; and the answer is one to these.
+pub data HaveReturned (judges : Piece → Judged → Type 0) (IsAnswer : ℕ → List Judgement → Type 0) (s : Schema) (file : List ℕ) (lanes : ℕ) (dealt : List ℕ) (receipts : List (Receipt Piece)) (returned : List (Receipt (Returned Judgement))) : Type 0 where
+  nothing : {f : Fault} → IsOpeningFault s file f → returned ≡ [] → HaveReturned judges IsAnswer s file lanes dealt receipts returned
+  results : {o : Opening} {tail : ℕ} (pieces : List Piece) (outs : List Judgement) → BeginsPreface file o → IsHeaderFault s o None → PiecesAre file o.data_at 0 (map plain_piece pieces) tail
+      → IsRun (IsStated judges s) lanes pieces outs dealt receipts returned → IsAnswer tail outs → HaveReturned judges IsAnswer s file lanes dealt receipts returned
+
+-- The answer of a reading is that to the results that its lanes returned.
+abbrev pub AnswersReturned : (Piece → Judged → Type 0) → Schema → List ℕ → ℕ → Reading → Type 0
+AnswersReturned judges s file lanes r = HaveReturned judges (λ tail outs. IsAnswerTo s file tail (values_of outs) (plain_answer r.answer)) s file lanes r.dealt.items r.receipts.items r.returned.items
+
+-- pieces are judged as they are by themselves
+abbrev pub JudgesLocally : Schema → Piece → Judged → Type 0
+JudgesLocally s p j = IsJudged s p (value_of j)

@@ -6,5 +6,5 @@ use Rattle.p21_reader.specs.declared.stop.Stop.TheVariants as stop
 
 -- It is the fault at which reading stopped, and nothing was dealt.
 abbrev pub IsStopped : Stop → Reading → Type 0
-IsStopped (stop.Fault f) r = (r.answer ≡ Err f) × (r.receipts.items ≡ []) × (r.dealt.items ≡ [])
+IsStopped (stop.Fault f) r = (r.answer ≡ Err f) × (r.receipts.items ≡ []) × (r.dealt.items ≡ []) × (r.returned.items ≡ [])
 IsStopped stop.Memory r = ⊥

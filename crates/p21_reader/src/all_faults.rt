@@ -7,7 +7,7 @@ ghost use Rattle.p21_check.specs.EntityOf.{AreSimpleEntities};
 ghost use Rattle.p21_join.specs.Model.{instances_of, plain_instances};
 ghost use Rattle.p21_refs.specs.AllReferenceFaults.{AreReferenceFaults};
 ghost use Rattle.p21_refs.specs.FirstReferenceFault.{AreSound};
-ghost use Rattle.p21_reader.specs.AllAnswer.{plain_all};
+ghost use Rattle.p21_reader.specs.AllAnswer.{AllAnswerReturned, plain_all};
 ghost use Rattle.p21_reader.specs.AllByValues.{IsAllAnswerTo};
 ghost use Rattle.p21_reader.specs.AllFaults.{IsReadingWithAll};
 ghost use Rattle.p21_reader.specs.FaultGathering.{AreFaultsGathered};
@@ -18,13 +18,13 @@ ghost use Rattle.p21_reader.specs.declared.judged.Judgement.{Judgement};
 
 use crate::all_laws::values_give_all_faults;
 use crate::fault_gathering::FaultGathering;
-use crate::judged::Locally;
+use crate::judged::{Judgement, Locally};
 use crate::judging::{Judging, judge_pieces};
 use crate::local::checked_preface;
 use crate::pieces::Pieces;
 use crate::reading::ReadError;
 use crate::stop::Stop;
-use p21_crew::Gate;
+use p21_crew::{Gate, Returned};
 use p21_cut::Cutter;
 use p21_desk::LaneCount;
 use p21_join::{Model, ModelEntities};
@@ -43,6 +43,8 @@ pub struct AllFaults<'a> {
     pub answer: Result<Model<'a>, Vec<Fault>>,
     /// What each lane received, by its number; none of a file that has a fault before its instances.
     pub receipts: Vec<Receipt<Piece<'a>>>,
+    /// What each lane returned, by its number: its history, and no values. None where there are no receipts.
+    pub returned: Vec<Receipt<Returned<Judgement<'a>>>>,
     /// The lane that each piece of the file was dealt to; none where there are no receipts.
     pub dealt: Vec<u32>,
 }
@@ -66,6 +68,7 @@ pub fn read_all_faults<'a, G: Gate + Sync, R: Threads + Wait + Sync>(
     capacity: Capacity,
 ) -> Result<AllFaults<'a>, ReadError>
     ensures pieces { IfOk result (λ all. PiecesAreDealt schema.now file.now lanes all.dealt.items all.receipts.items) }
+    ensures returned { IfOk result (AllAnswerReturned schema.now file.now lanes) }
     ensures answer { IfOk result (λ all. IsReadingWithAll schema.now file.now (plain_all all.answer)) }
 {
     values_give_all_faults();
@@ -91,6 +94,7 @@ pub fn read_all_faults<'a, G: Gate + Sync, R: Threads + Wait + Sync>(
     Ok(AllFaults {
         answer,
         receipts: run.receipts,
+        returned: run.returned,
         dealt: run.dealt,
     })
 }
@@ -112,6 +116,7 @@ impl<'a> AllFaults<'a> {
         Ok(AllFaults {
             answer: Err(faults),
             receipts: Vec::new(alloc),
+            returned: Vec::new(alloc),
             dealt: Vec::new(alloc),
         })
     }

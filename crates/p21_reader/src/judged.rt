@@ -56,10 +56,11 @@ impl Judge for LocalReader<'_> {
 
 /// What a piece is by itself, and the entity of its instance.
 #[derive(Drop)]
-pub(crate) struct Judgement<'a> {
-    pub(crate) judged: Judged<'a>,
+pub struct Judgement<'a> {
+    /// What the piece is by itself.
+    pub judged: Judged<'a>,
     /// The entity of the instance; none of a complex one, nor where its keyword names none.
-    pub(crate) entity: Option<EntityId>,
+    pub entity: Option<EntityId>,
 }
 
 /// Reads a piece as an instance, and checks it by itself against a schema. The keyword of an instance without a fault is looked

@@ -9,7 +9,7 @@ ghost use Rattle.p21_refs.specs.FirstReferenceFault.{AreAnswered, AreSound, IsFi
 ghost use Rattle.p21_reader.specs.Answer.{plain_answer};
 ghost use Rattle.p21_reader.specs.Gathering.{IsGathered};
 ghost use Rattle.p21_reader.specs.Judged.{values_of};
-ghost use Rattle.p21_reader.specs.Lanes.{AreGathered, IsStated, FindsEachFault, IsReadBy, PiecesAreDealt};
+ghost use Rattle.p21_reader.specs.Lanes.{AnswersReturned, AreGathered, IsStated, FindsEachFault, IsReadBy, JudgesLocally, PiecesAreDealt};
 ghost use Rattle.p21_reader.specs.Reading.{IsReading};
 ghost use Rattle.p21_reader.specs.Values.{IsAnswerTo};
 ghost use Rattle.p21_reader.specs.declared.judged.Judgement.{Judgement};
@@ -36,9 +36,10 @@ use std::thread::Threads;
 /// Reads a whole file against a schema, by so many lanes.
 ///
 /// Each piece of the data section is dealt to one lane, and read and checked there by a worker in a thread of its own, while on
-/// no lane more pieces are out than the capacity. Behind a fault too all pieces are dealt. `dealt` has the lane of each piece
-/// and `receipts` what each lane received; both are empty where a fault stands before the data section. The answer is that of
-/// `read_serial`, whatever the lanes. An error is want of memory, or of a thread.
+/// no lane more pieces are out than the capacity. Behind a fault too all pieces are dealt. `dealt` has the lane of each piece,
+/// `receipts` what each lane received and `returned` what it returned; all are empty where a fault stands before the data section. The
+/// answer is made of what the lanes returned, and is that of `read_serial`, whatever the lanes. An error is want of memory, or of a
+/// thread.
 pub fn read_lanes<'a, G: Gate + Sync, R: Threads + Wait + Sync>(
     rt: &R,
     alloc: Global,
@@ -49,6 +50,7 @@ pub fn read_lanes<'a, G: Gate + Sync, R: Threads + Wait + Sync>(
     capacity: Capacity,
 ) -> Result<Reading<'a>, ReadError>
     ensures pieces { IfOk result (λ reading. PiecesAreDealt schema.now file.now lanes reading.dealt.items reading.receipts.items) }
+    ensures returned { IfOk result (AnswersReturned (JudgesLocally schema.now) schema.now file.now lanes) }
     ensures answer { IfOk result (λ reading. IsReading schema.now file.now (plain_answer reading.answer)) }
 {
     values_give_reading();
@@ -71,7 +73,8 @@ pub fn read_lanes_by<'a, J: Judge + Sync, G: Gate + Sync, R: Threads + Wait + Sy
     capacity: Capacity,
 ) -> Result<Reading<'a>, ReadError>
     requires { FindsEachFault (J.judges judge.now) schema.now }
-    ensures { IfOk result (IsReadBy (J.judges judge.now) schema.now file.now lanes) }
+    ensures reading { IfOk result (IsReadBy (J.judges judge.now) schema.now file.now lanes) }
+    ensures returned { IfOk result (AnswersReturned (J.judges judge.now) schema.now file.now lanes) }
 {
     read_pieces(
         rt,
@@ -97,7 +100,8 @@ fn read_pieces<'a, E: EntityJudge + Sync, G: Gate + Sync, R: Threads + Wait + Sy
     capacity: Capacity,
 ) -> Result<Reading<'a>, ReadError>
     requires { FindsEachFault (E.judges judge.now schema.now) schema.now }
-    ensures { IfOk result (IsReadBy (E.judges judge.now schema.now) schema.now file.now lanes) }
+    ensures reading { IfOk result (IsReadBy (E.judges judge.now schema.now) schema.now file.now lanes) }
+    ensures returned { IfOk result (AnswersReturned (E.judges judge.now schema.now) schema.now file.now lanes) }
 {
     let preface = match checked_preface(alloc, schema, file) {
         Ok(preface) => preface,
@@ -116,6 +120,7 @@ fn read_pieces<'a, E: EntityJudge + Sync, G: Gate + Sync, R: Threads + Wait + Sy
     Ok(Reading {
         answer,
         receipts: run.receipts,
+        returned: run.returned,
         dealt: run.dealt,
     })
 }

@@ -1,6 +1,8 @@
 //! What reading a file gives.
 
+use crate::judged::Judgement;
 use crate::stop::Stop;
+use p21_crew::Returned;
 use p21_join::Model;
 use p21_lanes::Receipt;
 use p21_tree::{Fault, Piece};
@@ -13,6 +15,8 @@ pub struct Reading<'a> {
     pub answer: Result<Model<'a>, Fault>,
     /// What each lane received, by its number; none of a file that was read by one thread, or has a fault before its instances.
     pub receipts: Vec<Receipt<Piece<'a>>>,
+    /// What each lane returned, by its number: its history, and no values. None where there are no receipts.
+    pub returned: Vec<Receipt<Returned<Judgement<'a>>>>,
     /// The lane that each piece of the file was dealt to; none where there are no receipts.
     pub dealt: Vec<u32>,
 }
@@ -24,11 +28,12 @@ impl<'a> Reading<'a> {
     /// An answer without lanes. This takes no memory.
     pub(crate) fn without_lanes(alloc: Global, answer: Result<Model<'a>, Fault>) -> Reading<'a>
         ensures answer { result.answer ≡ answer.entry }
-        ensures lanes { (result.receipts.items ≡ []) × (result.dealt.items ≡ []) }
+        ensures lanes { (result.receipts.items ≡ []) × (result.dealt.items ≡ []) × (result.returned.items ≡ []) }
     {
         Reading {
             answer,
             receipts: Vec::new(alloc),
+            returned: Vec::new(alloc),
             dealt: Vec::new(alloc),
         }
     }

@@ -30,7 +30,7 @@ pub fn read_serial<'a>(
     file: &'a [u8],
 ) -> Result<Reading<'a>, ReadError>
     ensures answer { IfOk result (λ reading. IsReading schema.now file.now (plain_answer reading.answer)) }
-    ensures lanes { IfOk result (λ reading. (reading.receipts.items ≡ []) × (reading.dealt.items ≡ [])) }
+    ensures lanes { IfOk result (λ reading. (reading.receipts.items ≡ []) × (reading.dealt.items ≡ []) × (reading.returned.items ≡ [])) }
 {
     match checked_model(alloc, schema, file) {
         Ok(model) => Ok(Reading::without_lanes(alloc, Ok(model))),
