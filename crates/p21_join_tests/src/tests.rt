@@ -107,40 +107,6 @@ fn joins_each_name_once_by_any_key(rt: HostRuntime) -> Result<(), Fail> {
 }
 
 #[test]
-fn tells_names_in_a_row_apart(rt: HostRuntime) -> Result<(), Fail> {
-    let alloc = rt.alloc();
-    let rows: [Row; 9] = [
-        (b"#15=MARK('a');", Answer::Joined),
-        (b"#16=MARK('b');", Answer::Joined),
-        (b"#17=MARK('c');", Answer::Joined),
-        (b"#31=MARK('d');", Answer::Joined),
-        (b"#16=MARK('e');", Answer::Duplicate(16)),
-        (b"#0=MARK('f');", Answer::Joined),
-        (b"#15=MARK('g');", Answer::Duplicate(15)),
-        (b"#32=MARK('h');", Answer::Joined),
-        (b"#31=MARK('i');", Answer::Duplicate(31)),
-    ];
-    let model = model_of_rows(&rt, alloc, &rows)?;
-    let places = [
-        (0, Some(4)),
-        (1, None),
-        (14, None),
-        (15, Some(0)),
-        (16, Some(1)),
-        (17, Some(2)),
-        (18, None),
-        (31, Some(3)),
-        (32, Some(5)),
-        (48, None),
-        (u64::MAX, None),
-    ];
-    for (name, place) in places {
-        assert_eq!(rt; model.position(name), place, "of {name}");
-    }
-    Ok(())
-}
-
-#[test]
 fn keeps_the_names_of_what_was_joined(rt: HostRuntime) -> Result<(), Fail> {
     let alloc = rt.alloc();
     let mut joiner = Joiner::new(alloc);

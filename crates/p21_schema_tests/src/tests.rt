@@ -4,63 +4,11 @@ ghost use Rattle.p21_schema.specs.Row.{IsAttributeOf};
 
 use p21_express::{SchemaError, read_declarations};
 use p21_schema::{
-    AttrId, EntityId, Form, Resolved, ResolvedExpr, Rules, Schema, Target, TypeId,
+    AttrId, EntityId, Form, ResolvedExpr, Rules, Schema, Target, TypeId,
 };
 use std::alloc::Global;
 use std::process::Abort;
 use std::test::*;
-
-/// A small schema of two dozen declarations.
-const TOY: &[u8] = b"SCHEMA TOY;\n\
-(* small schema (* with a nested remark *) *)\n\
-TYPE Code = STRING(4) FIXED; END_TYPE;\n\
-TYPE Label = STRING; WHERE wr1 : LENGTH(SELF) > 0; END_TYPE;\n\
-TYPE Tag = STRING(1); END_TYPE;\n\
-TYPE Tally = INTEGER; END_TYPE;\n\
-TYPE Colour = ENUMERATION OF (Red, Green); END_TYPE;\n\
-TYPE Unit_Name = ENUMERATION OF (Metre, Second); END_TYPE;\n\
-TYPE Simple = SELECT (Label, Tally); END_TYPE;\n\
-TYPE Any_Value = SELECT (Simple, Colour, Item); END_TYPE;\n\
-ENTITY Root ABSTRACT SUPERTYPE OF (Item); -- the root\n\
-  Id : Code;\n\
-  Name : OPTIONAL Label;\n\
-END_ENTITY;\n\
-ENTITY Item SUBTYPE OF (Root);\n\
-  Next : OPTIONAL Item;\n\
-INVERSE\n\
-  Held : SET [0:?] OF Group FOR Members;\n\
-END_ENTITY;\n\
-ENTITY Special SUBTYPE OF (Item); END_ENTITY;\n\
-ENTITY Extra SUBTYPE OF (Special); END_ENTITY;\n\
-ENTITY Chain SUBTYPE OF (Item);\n\
-  SELF\\Item.Next : Special;\n\
-END_ENTITY;\n\
-ENTITY Owner; Owns : Special; END_ENTITY;\n\
-ENTITY Group; Members : SET [1:3] OF Item; END_ENTITY;\n\
-ENTITY Mark; Text : Tag; END_ENTITY;\n\
-ENTITY Note; Text : Label; END_ENTITY;\n\
-ENTITY Prop; Holds : Any_Value; END_ENTITY;\n\
-ENTITY Named_Unit; Dims : Mark; Kind : Unit_Name; END_ENTITY;\n\
-ENTITY Siunit SUBTYPE OF (Named_Unit);\n\
-DERIVE\n\
-  SELF\\Named_Unit.Dims : Mark := ?;\n\
-END_ENTITY;\n\
-ENTITY Base ABSTRACT SUPERTYPE; B : INTEGER; END_ENTITY;\n\
-ENTITY Left SUBTYPE OF (Base); L : INTEGER; END_ENTITY;\n\
-ENTITY Right SUBTYPE OF (Base); R : BOOLEAN; END_ENTITY;\n\
-ENTITY Both SUBTYPE OF (Left, Right); D : INTEGER; END_ENTITY;\n\
-ENTITY Sizes;\n\
-  N : NUMBER;\n\
-  X : REAL;\n\
-  G : LOGICAL;\n\
-  A : ARRAY [0:1] OF OPTIONAL INTEGER;\n\
-  M : BINARY(6);\n\
-END_ENTITY;\n\
-FUNCTION f(x : INTEGER) : INTEGER;\n\
-  FUNCTION g : INTEGER; RETURN (1); END_FUNCTION;\n\
-  RETURN (g);\n\
-END_FUNCTION;\n\
-END_SCHEMA;\n";
 
 /// The table of a schema's text.
 fn table(alloc: Global, text: &[u8]) -> Result<Schema, Fail> {
@@ -77,59 +25,8 @@ fn entity(schema: &Schema, name: &[u8]) -> Result<EntityId, Fail>
     Ok(schema.entity(name).ok_or("an entity")?)
 }
 
-/// Two entities, and whether the first is the second one.
-const ANCESTRY: &[(&[u8], &[u8], bool)] = &[
-    (b"EXTRA", b"ROOT", true),
-    (b"ROOT", b"ITEM", false),
-    (b"ITEM", b"ITEM", true),
-    (b"BOTH", b"BASE", true),
-    (b"BOTH", b"LEFT", true),
-    (b"LEFT", b"RIGHT", false),
-];
-
-/// Whether the one entity is the other, by their names.
-fn is_a(schema: &Schema, sub: &[u8], sup: &[u8]) -> Result<bool, Fail> {
-    let sub = entity(schema, sub)?;
-    let sup = entity(schema, sup)?;
-    Ok(schema.is_a(sub, sup))
-}
-
-fn check_ancestry(rt: &impl Abort, schema: &Schema) -> Result<(), Fail> {
-    for (sub, sup, expected) in ANCESTRY {
-        assert_eq!(rt; is_a(schema, sub, sup)?, *expected, "{sub:?} {sup:?}");
-    }
-    Ok(())
-}
-
-#[test]
-fn ancestry(rt: HostRuntime) -> Result<(), Fail> {
-    let toy = table(rt.alloc(), TOY)?;
-    assert_eq!(rt; toy.name(), b"TOY".as_slice());
-    assert_eq!(rt; toy.entity(b"LABEL"), None);
-    check_ancestry(&rt, &toy)
-}
-
 /// An attribute, by the entity that newly declares it and its place among the own ones.
 type Attribute = (&'static [u8], usize);
-
-/// An entity, and the attributes of its row.
-type EntityRow = (&'static [u8], &'static [Attribute]);
-
-const ITEM: &[Attribute] = &[(b"ROOT", 0), (b"ROOT", 1), (b"ITEM", 0)];
-
-const NAMED_UNIT: &[Attribute] = &[(b"NAMED_UNIT", 0), (b"NAMED_UNIT", 1)];
-
-const BOTH: &[Attribute] = &[(b"BASE", 0), (b"LEFT", 0), (b"RIGHT", 0), (b"BOTH", 0)];
-
-const ROWS: &[EntityRow] = &[
-    (b"ITEM", ITEM),
-    (b"SPECIAL", ITEM),
-    (b"EXTRA", ITEM),
-    (b"CHAIN", ITEM),
-    (b"NAMED_UNIT", NAMED_UNIT),
-    (b"SIUNIT", NAMED_UNIT),
-    (b"BOTH", BOTH),
-];
 
 /// Whether the row of an entity is these attributes.
 fn has_row(schema: &Schema, name: &[u8], expected: &[Attribute]) -> Result<bool, Fail> {
@@ -146,25 +43,6 @@ fn has_row(schema: &Schema, name: &[u8], expected: &[Attribute]) -> Result<bool,
         }
     }
     Ok(true)
-}
-
-/// How many attributes an entity newly declares.
-fn own_count(schema: &Schema, name: &[u8]) -> Result<usize, Fail> {
-    Ok(schema.own_count(entity(schema, name)?))
-}
-
-fn check_rows(rt: &impl Abort, schema: &Schema) -> Result<(), Fail> {
-    for (name, expected) in ROWS {
-        assert!(rt; has_row(schema, name, expected)?, "{name:?}");
-    }
-    assert_eq!(rt; own_count(schema, b"SIUNIT")?, 0);
-    Ok(())
-}
-
-#[test]
-fn rows(rt: HostRuntime) -> Result<(), Fail> {
-    let toy = table(rt.alloc(), TOY)?;
-    check_rows(&rt, &toy)
 }
 
 /// A has more attributes than a row that is kept whole; below it B and D have one more each, and C and E none.
@@ -273,29 +151,6 @@ fn is_declared(schema: &Schema, owner: &[u8], expected: &[Declared]) -> Result<b
     Ok(true)
 }
 
-#[test]
-fn declarations(rt: HostRuntime) -> Result<(), Fail> {
-    let toy = table(rt.alloc(), TOY)?;
-    assert!(rt;
-        is_declared(
-            &toy,
-            b"ITEM",
-            &[
-                (b"ITEM", Some((true, b"ITEM"))),
-                (b"CHAIN", Some((false, b"SPECIAL")))
-            ]
-        )?
-    );
-    assert!(rt;
-        is_declared(
-            &toy,
-            b"NAMED_UNIT",
-            &[(b"NAMED_UNIT", Some((false, b"MARK"))), (b"SIUNIT", None)]
-        )?
-    );
-    Ok(())
-}
-
 /// C declares again what B declares again, and stands before both; D is a sibling of B, with an attribute X of its own.
 const AGAIN: &[u8] = b"SCHEMA s;\n\
 ENTITY c SUBTYPE OF (b); SELF\\b.x : u; END_ENTITY;\n\
@@ -347,23 +202,6 @@ fn type_of(schema: &Schema, owner: &[u8]) -> Result<TypeId, Fail>
     Ok(*id)
 }
 
-/// The type that is the first item of a SELECT.
-fn first_item(schema: &Schema, select: TypeId) -> Result<TypeId, Fail>
-    requires { IsTypeOf schema.now select }
-    ensures { IfOk result (λ id. IsTypeOf schema.now id) }
-{
-    let Resolved::Select(items) = schema.under(select) else {
-        return Err("a SELECT")?;
-    };
-    if items.is_empty() {
-        return Err("an item")?;
-    }
-    let Target::Defined(id) = items[0] else {
-        return Err("a type")?;
-    };
-    Ok(id)
-}
-
 /// Whether the SELECT that is the type of an entity's first own attribute reaches a type and an entity of this name, and an
 /// entity.
 fn reach(schema: &Schema, owner: &[u8], name: &[u8]) -> Result<(bool, bool, bool), Fail> {
@@ -389,33 +227,6 @@ fn check_reached(rt: &impl Abort, schema: &Schema, rows: &[Reached]) -> Result<(
         );
     }
     Ok(())
-}
-
-const REACHED_BY_ANY_VALUE: &[Reached] = &[
-    (b"PROP", b"LABEL", (true, false, true)),
-    (b"PROP", b"TALLY", (true, false, true)),
-    (b"PROP", b"COLOUR", (true, false, true)),
-    (b"PROP", b"SIMPLE", (false, false, true)),
-    (b"PROP", b"ANY_VALUE", (false, false, true)),
-    (b"PROP", b"UNIT_NAME", (false, false, true)),
-    (b"PROP", b"ITEM", (false, true, true)),
-    (b"PROP", b"SPECIAL", (false, false, true)),
-];
-
-/// Of the SELECT that is the first item of that of PROP.
-fn check_first_item(rt: &impl Abort, schema: &Schema) -> Result<(), Fail> {
-    let simple = first_item(schema, type_of(schema, b"PROP")?)?;
-    assert!(rt; schema.select_has(simple, b"TALLY").is_some());
-    assert_eq!(rt; schema.select_has(simple, b"COLOUR"), None);
-    assert!(rt; !schema.select_has_entity(simple));
-    Ok(())
-}
-
-#[test]
-fn selects(rt: HostRuntime) -> Result<(), Fail> {
-    let toy = table(rt.alloc(), TOY)?;
-    check_reached(&rt, &toy, REACHED_BY_ANY_VALUE)?;
-    check_first_item(&rt, &toy)
 }
 
 /// Selects of selects; what stands in an aggregate or in a defined type is not reached.
@@ -481,15 +292,6 @@ fn check_admitted(rt: &impl Abort, schema: &Schema, rows: &[Admitted]) -> Result
     Ok(())
 }
 
-const ADMITTED_BY_ANY_VALUE: &[Admitted] = &[
-    (b"PROP", b"ITEM", true),
-    (b"PROP", b"SPECIAL", true),
-    (b"PROP", b"EXTRA", true),
-    (b"PROP", b"CHAIN", true),
-    (b"PROP", b"ROOT", false),
-    (b"PROP", b"OWNER", false),
-];
-
 const ADMITTED: &[Admitted] = &[
     (b"A", b"A", true),
     (b"A", b"B", true),
@@ -502,8 +304,6 @@ const ADMITTED: &[Admitted] = &[
 
 #[test]
 fn admitted_entities(rt: HostRuntime) -> Result<(), Fail> {
-    let toy = table(rt.alloc(), TOY)?;
-    check_admitted(&rt, &toy, ADMITTED_BY_ANY_VALUE)?;
     let schema = table(rt.alloc(), SELECTS)?;
     check_admitted(&rt, &schema, ADMITTED)
 }
