@@ -39,9 +39,13 @@ fn many(alloc: Global) -> Result<Schema, Fail> {
         ENTITIES,
     )?;
     let mut text = Vec::new(alloc);
-    text.extend_from_slice(b"SCHEMA MANY; ENTITY A; END_ENTITY; ENTITY P ABSTRACT SUPERTYPE; END_ENTITY; ENTITY C SUBTYPE OF (P); END_ENTITY;")?;
+    text.extend_from_slice(
+        b"SCHEMA MANY; ENTITY A; END_ENTITY; ENTITY P ABSTRACT SUPERTYPE; END_ENTITY; ENTITY C SUBTYPE OF (P); END_ENTITY;",
+    )?;
     text.extend_from_slice(&entities)?;
-    text.extend_from_slice(b"ENTITY Q ABSTRACT SUPERTYPE; END_ENTITY; ENTITY D SUBTYPE OF (Q); END_ENTITY; END_SCHEMA;")?;
+    text.extend_from_slice(
+        b"ENTITY Q ABSTRACT SUPERTYPE; END_ENTITY; ENTITY D SUBTYPE OF (Q); END_ENTITY; END_SCHEMA;",
+    )?;
     Ok(table(alloc, &text).ok_or("a schema")?)
 }
 

@@ -3,9 +3,7 @@ ghost use Rattle.p21_schema.specs.Place.{IsEntityOf, IsTypeOf};
 ghost use Rattle.p21_schema.specs.Row.{IsAttributeOf};
 
 use p21_express::{SchemaError, read_declarations};
-use p21_schema::{
-    AttrId, EntityId, Form, ResolvedExpr, Rules, Schema, Target, TypeId,
-};
+use p21_schema::{AttrId, EntityId, Form, ResolvedExpr, Rules, Schema, Target, TypeId};
 use std::alloc::Global;
 use std::process::Abort;
 use std::test::*;
@@ -79,17 +77,25 @@ fn stands_at(
     let id = entity(schema, name)?;
     let (owner, own) = attribute;
     let owner = entity(schema, owner)?;
-    Ok(position < schema.row_count(id)
-        && own < schema.own_count(owner)
-        && schema.row(id, position) == schema.own(owner, own))
+    Ok(
+        position < schema.row_count(id)
+            && own < schema.own_count(owner)
+            && schema.row(id, position) == schema.own(owner, own),
+    )
 }
 
 #[test]
 fn long_rows(rt: HostRuntime) -> Result<(), Fail> {
     let schema = table(rt.alloc(), LONG_ROWS)?;
     for (position, attribute) in LONG_ROW {
-        assert!(rt; stands_at(&schema, b"D", *position, *attribute)?, "{position}");
-        assert!(rt; stands_at(&schema, b"E", *position, *attribute)?, "{position}");
+        assert!(rt;
+            stands_at(&schema, b"D", *position, *attribute)?,
+            "{position}"
+        );
+        assert!(rt;
+            stands_at(&schema, b"E", *position, *attribute)?,
+            "{position}"
+        );
     }
     let last = entity(&schema, b"E")?;
     assert_eq!(rt; schema.row_count(last), 35);
