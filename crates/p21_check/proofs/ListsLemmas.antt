@@ -25,7 +25,7 @@ use Rattle.p21_check.specs.declared.lists.Lists.{Lists}
 use Rattle.p21_check.specs.declared.lists.Lists.TheVariants as lists
 use Rattle.p21_check.specs.Repeats.{Repeats, RepeatsAmong, is_of_unique, HasTwice, names_among}
 use Rattle.p21_check.specs.Repeats as repeats
-use Rattle.p21_check.specs.Lists.{AreKnownLists, AreListsOf, AreListsOfElements, AreListsInside, IsRepeatingTyped, IsRepeatingList, RepeatsHere, RepeatsBy, RepeatsAmongBy, is_unique}
+use Rattle.p21_check.specs.Lists.{AreListsOf, AreListsOfElements, AreListsInside, IsRepeatingTyped, IsRepeatingList, RepeatsHere, RepeatsBy, RepeatsAmongBy, is_unique}
 use Rattle.p21_check.specs.Lists as by
 use Rattle.p21_check.specs.RepeatedNames.{names_of}
 use Rattle.p21_check.specs.Wanted.{by_names}
@@ -205,12 +205,6 @@ pub listless : (p : Param) → ((v : Vec Param Global) → ¬ (p ≡ seen.Items 
 listless p b d =
     let same = roll-out-Param p in
     subst (λ (q : Param). HasNoList (plainly.plain q)) same (listless_level (out-Param p) (λ v e. b v (sym same ∙ e)) (λ j q e. d j q (sym same ∙ e)))
-
--- lists repeat no name in such a parameter
-pub listless_by : (s : Schema) (l : Lists) (t : Tree) → HasNoList t → ¬ (RepeatsBy s l t)
-listless_by s lists.Nowhere t h a = a
-listless_by s (lists.InTyped u) t h a = subst HasNoList a.typed_ h
-listless_by s (lists.Here u e) t h a = subst HasNoList a.listed h
 
 -- a list, by its elements
 pub by_elements : (s : Schema) (l inner : Lists) (t : Tree) (ps : List Param) → t ≡ tree.items (plainly.plain_all ps) → AreListsOfElements s l inner → RepeatsBy s l t ↔ (((is_unique l ≡ true) × HasTwice (names_of ps)) ⊎ RepeatsAmongBy s inner (plainly.plain_all ps))

@@ -2,11 +2,11 @@
 use Rattle.std.proofs.Common.{◌≡◌, ◌⊎◌, ◌↔◌, ⊎_elim, inl, inr, ℕ, List, [], ◌∷◌, ◌++◌, map, refl, sym, ap, subst, ◌∙◌}
 use Rattle.p21_tree.specs.Tree.{Tree}
 use Rattle.p21_tree.specs.Tree as tree
-use Rattle.p21_express.specs.Schema.{Schema, Expr, Entity, Defined, Underlying}
+use Rattle.p21_express.specs.Schema.{Schema, Entity, Defined, Underlying}
 use Rattle.p21_express.specs.Schema as type
 use Rattle.p21_express.specs.WellFormed.{IsIn, AreDistinct, IsEntity, IsSelect, IsSelectType, IsWellFormed, IsKnownUnder}
 use Rattle.std.specs.List.{AllByRecursion}
-use Rattle.p21_schema.specs.Under.{StandsUnder, IsNoName}
+use Rattle.p21_schema.specs.Under.{StandsUnder}
 use Rattle.p21_schema.specs.Under as under
 use Rattle.p21_schema.specs.Select.{ReachesType, ReachesEntity}
 use Rattle.p21_check.specs.Conforms.{Conforms}
@@ -57,9 +57,6 @@ no_type_too : (s : Schema) → IsWellFormed s → (n : List ℕ) (t : Defined) �
 no_type_too s w n t a b e = apart (map (λ (e : Entity). e.name) s.entities) (map (λ (t : Defined). t.name) s.types) n w.repeated.declarations a (subst (IsIn (map (λ (t : Defined). t.name) s.types)) e (in_map (λ (t : Defined). t.name) s.types t b))
 
 -- ---- entities
-
-IsReference : Tree → Type 0
-IsReference t = (r : ℕ) × (t ≡ tree.reference r)
 
 entity_parts : {s : Schema} {n : List ℕ} {t : Tree} → IsWellFormed s → IsEntity s n → Conforms s (type.named n) t → (r : ℕ) × (t ≡ tree.reference r)
 entity_parts {s} {n} w e (conforms.enumeration d a b c i) = absurd (no_type_too s w n d e a b)

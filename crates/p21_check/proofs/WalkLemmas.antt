@@ -6,8 +6,7 @@ use Rattle.p21_express.specs.Schema.{Schema, Expr}
 use Rattle.p21_tree.specs.Tree.{Tree, Trees, reference, items, typed, nil, cons}
 use Rattle.p21_tree.specs.Tree as tree
 use Rattle.p21_tree.specs.Sentence.{Instance}
-use Rattle.p21_tree.specs.declared.params.Param.{Param, Param-F, roll-Param, fold-roll-Param}
-use Rattle.p21_tree.specs.declared.params.Param.TheVariants.{Ref, rolls-Ref}
+use Rattle.p21_tree.specs.declared.params.Param.{Param, fold-roll-Param}
 use Rattle.p21_tree.specs.declared.params.Param.TheOpen as level
 use Rattle.p21_tree.specs.declared.params.Param.TheViews as seen
 use Rattle.p21_tree.specs.Plain.{plain, plain_all, plain_level}
@@ -125,25 +124,6 @@ IsLeaf (reference n) = ⊥
 IsLeaf (items ts) = ⊥
 IsLeaf (typed k t) = ⊥
 IsLeaf _ = Unit {0}
-
-leaf_asks : (s : Schema) (w : Wanted) (t : Tree) (k : ℕ) (r : Reference) → IsLeaf t → Asks s w t k r → ⊥
-leaf_asks s asked.Nothing t k r h a = a
-leaf_asks s (asked.Entity e) t k r h a = subst IsLeaf a.name h
-leaf_asks s (asked.Select u) t k r h (inl a) = subst IsLeaf a.name h
-leaf_asks s (asked.Select u) t k r h (inr a) = subst IsLeaf a.typed_ h
-leaf_asks s (asked.Elements e) t k r h a = subst IsLeaf a.listed h
-
-leaf_level : (l : Param-F Param) → ((n : ℕ) → ¬ (roll-Param l ≡ Ref n)) → ((v : Vec Param Global) → ¬ (roll-Param l ≡ seen.Items v)) → ((k : Bor (List ℕ)) (p : Box Param Global) → ¬ (roll-Param l ≡ seen.Typed k p)) → IsLeaf (plain (roll-Param l))
-leaf_level (level.Ref n) a b d = absurd (a n (rolls-Ref n))
-leaf_level (level.Items v) a b d = absurd (b v (seen.rolls-Items v))
-leaf_level (level.Typed k p) a b d = absurd (d k p (seen.rolls-Typed k p))
-leaf_level level.Absent a b d = subst IsLeaf (sym (fold-roll-Param Tree plain_level level.Absent)) tt
-leaf_level level.Derived a b d = subst IsLeaf (sym (fold-roll-Param Tree plain_level level.Derived)) tt
-leaf_level (level.Int x) a b d = subst IsLeaf (sym (fold-roll-Param Tree plain_level (level.Int x))) tt
-leaf_level (level.Real x) a b d = subst IsLeaf (sym (fold-roll-Param Tree plain_level (level.Real x))) tt
-leaf_level (level.Str x) a b d = subst IsLeaf (sym (fold-roll-Param Tree plain_level (level.Str x))) tt
-leaf_level (level.Enumeration x) a b d = subst IsLeaf (sym (fold-roll-Param Tree plain_level (level.Enumeration x))) tt
-leaf_level (level.Binary x) a b d = subst IsLeaf (sym (fold-roll-Param Tree plain_level (level.Binary x))) tt
 
 -- the elements of a list, from one on
 

@@ -1,27 +1,16 @@
 -- The value of digits, as a loop finds it.
-use Rattle.std.proofs.Common.{◌≡◌, ℕ, zero, suc, ◌+◌, ◌-◌, ◌*◌, ◌^◌, ◌<◌, ◌≤◌, List, [], ◌∷◌, length, drop, get_or, take, true, refl, arith, drop-cons, rules}
+use Rattle.std.proofs.Common.{◌≡◌, ℕ, zero, suc, ◌+◌, ◌-◌, ◌*◌, ◌^◌, ◌<◌, ◌≤◌, List, [], ◌∷◌, length, get_or, take, true, arith, rules}
 use borrow.Author.Tests.{tests}
 use Rattle.std.proofs.Math.Nat.{pow-succ'}
 use Rattle.std.specs.List.{AllByRecursion, prefix_len}
 use Rattle.p21_express.specs.Lexer.{digit}
 use Rattle.p21_express.proofs.RunLemmas.{run_holds}
-use Rattle.p21_express.specs.Words.{IsDigit, decimal_from}
+use Rattle.p21_express.specs.Words.{IsDigit}
 
 pub digit_at : (ds : List ℕ) (i : ℕ) → AllByRecursion IsDigit ds → i < length ds → IsDigit (get_or ds i 0)
 digit_at [] i all lt = absurd (omega arith)
 digit_at (d ∷ ds) zero all lt = all.0
 digit_at (d ∷ ds) (suc i) all lt = digit_at ds i all.1 (omega arith)
-
-pub decimal_step : (v : ℕ) (ds : List ℕ) (i : ℕ) → i < length ds → decimal_from v (drop i ds) ≡ decimal_from (10 * v + (get_or ds i 0 - 48)) (drop (i + 1) ds)
-decimal_step v ds i lt =
-    let a : i + 1 ≡ suc i = omega arith in
-    rw (drop-cons ds i 0 lt, a) refl
-
-pub value_below : (v i d : ℕ) → v < 10 ^ i → d < 10 → 10 * v + d < 10 ^ (i + 1)
-value_below v i d lt small =
-    let a : i + 1 ≡ suc i = omega arith in
-    let p : 10 ^ suc i ≡ 10 * 10 ^ i = pow-succ' 10 i in
-    rw (a, p) (omega arith)
 
 pub power_below : (n i : ℕ) → i + n ≡ 18 → 10 ^ i ≤ 10 ^ 18
 power_below zero i e = let k : i ≡ 18 = omega arith in rw k (omega arith)

@@ -2,7 +2,7 @@
 use Rattle.std.proofs.Common.{◌≡◌, ℕ, zero, suc, ◌+◌, ◌<◌, ◌≤◌, ◌⊎◌, inl, inr, ⊎_elim, List, [], ◌∷◌, ◌++◌, Bool, true, false, ◌||◌, nat_eq, reverse, length, get_or, take, Some, None, slice_get, refl, sym, ◌∙◌}
 use Rattle.std.proofs.lemmas.Bool.{cases_lt}
 use Rattle.std.proofs.lemmas.Grind.{take_at_read}
-use Rattle.std.proofs.lemmas.List.{length-map, take_all, reverse-append, reverse-reverse}
+use Rattle.std.proofs.lemmas.List.{length-map, take_all, reverse-append}
 use Rattle.std.proofs.lemmas.Option.{slice_get_within, get_or_from_slice_get, slice_get-get_or}
 use Rattle.std.specs.Bool.{Decides, MatchBool}
 use Rattle.std.specs.List.{list_any}
@@ -51,18 +51,11 @@ pub in_reverse : {X : Type 0} (xs : List X) (x : X) → IsIn xs x → IsIn (reve
 in_reverse [] x h = absurd h
 in_reverse (y ∷ xs) x h = rw (reverse-append (y ∷ []) xs) (⊎_elim (λ (e : y ≡ x). in_back (reverse xs) (y ∷ []) x (inl e)) (λ (i : IsIn xs x). in_front (reverse xs) (y ∷ []) x (in_reverse xs x i)) h)
 
-pub reverse_in : {X : Type 0} (xs : List X) (x : X) → IsIn (reverse xs) x → IsIn xs x
-reverse_in xs x h = rw reverse-reverse at (in_reverse (reverse xs) x h)
-
 pub lists_length : (graph : List (Vec ℕ Global)) → length (lists graph) ≡ length graph
 lists_length graph = length-map graph (λ (v : Vec ℕ Global). v.items)
 
 pub item_in : (ns : List ℕ) (i : ℕ) → i < length ns → IsIn ns (get_or ns i 0)
 item_in ns i lt = get_in ns i (get_or ns i 0) (slice_get-get_or ns i 0 lt)
-
--- one more of a list
-pub each_more : (P : ℕ → Type 0) (ns : List ℕ) (i : ℕ) → i < length ns → ((j : ℕ) → IsIn (take i ns) j → P j) → P (get_or ns i 0) → (j : ℕ) → IsIn (take (i + 1) ns) j → P j
-each_more P ns i lt before this j h = ⊎_elim (λ (k : IsIn (take i ns) j). before j k) (λ (e : j ≡ get_or ns i 0). rw e this) (one_more ns i (get_or ns i 0) j (slice_get-get_or ns i 0 lt) h)
 
 any_first : (test : ℕ → Bool) (n x : ℕ) (xs : List ℕ) (t r : Bool) → Decides (test x) (x ≡ n) → test x ≡ t → MatchBool r (IsIn xs n) (¬ (IsIn xs n)) → MatchBool (t || r) (IsIn (x ∷ xs) n) (¬ (IsIn (x ∷ xs) n))
 any_first test n x xs true r says e h = inl (says.0 e)

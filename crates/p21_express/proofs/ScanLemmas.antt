@@ -55,9 +55,6 @@ pub record Scans (text : List ℕ) (at : ℕ) (so_far : List Word) : Type 0 wher
   pub forward : (ws : List Word) → UpperWords (drop at text) ws → UpperWords text (so_far ++ ws)
   pub backward : (ws : List Word) → UpperWords text ws → (vs : List Word) × (ws ≡ so_far ++ vs) × UpperWords (drop at text) vs
 
-pub scans_none : (text : List ℕ) → Scans text 0 []
-scans_none text = record { within = omega arith; forward = λ ws u. u; backward = λ ws u. (ws, refl, u) }
-
 abbrev one_word : Option Word → List Word
 one_word None = []
 one_word (Some w) = w ∷ []

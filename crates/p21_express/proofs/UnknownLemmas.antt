@@ -63,28 +63,6 @@ pub not_known : (s : Schema) (n : List ℕ) → Declares s n None → ¬ (IsEnti
 not_known s n d (inl h) = d.0 h
 not_known s n d (inr h) = d.1 h
 
-pub lone_no_entity : (s : Schema) (e : Expr) → lone_name e ≡ None → IsNoEntityAlone s e
-lone_no_entity s integer h = tt
-lone_no_entity s number h = tt
-lone_no_entity s boolean h = tt
-lone_no_entity s logical h = tt
-lone_no_entity s real h = tt
-lone_no_entity s (text w) h = tt
-lone_no_entity s (binary w) h = tt
-lone_no_entity s (aggregate a e) h = tt
-lone_no_entity s (named n) h = absurd cc
-
-pub lone_no_select : (s : Schema) (e : Expr) → lone_name e ≡ None → IsNoSelectAlone s e
-lone_no_select s integer h = tt
-lone_no_select s number h = tt
-lone_no_select s boolean h = tt
-lone_no_select s logical h = tt
-lone_no_select s real h = tt
-lone_no_select s (text w) h = tt
-lone_no_select s (binary w) h = tt
-lone_no_select s (aggregate a e) h = tt
-lone_no_select s (named n) h = absurd cc
-
 pub lone_named : (e : Expr) (n : List ℕ) → lone_name e ≡ Some n → e ≡ named n
 lone_named integer n h = absurd cc
 lone_named number n h = absurd cc

@@ -2,11 +2,10 @@
 use Rattle.std.proofs.Common.{◌≡◌, ◌≢◌, ◌-◌, inl, inr, ℕ, zero, suc, ◌+◌, ◌*◌, ◌/◌, ◌%◌, ◌<◌, ◌≤◌, Option, Some, None, true, List, [], ◌∷◌, ◌++◌, length, get_or, set, replicate, refl, sym, ap, subst, ◌∙◌, arith}
 use Rattle.std.specs.Prelude.{nat_eq, position, slice_get}
 use Rattle.std.specs.Cmp.{nat_eq_equiv}
-use Rattle.std.specs.Map.{lookup}
 use Rattle.std.specs.Option.{SomeIff}
-use Rattle.std.proofs.lemmas.Bool.{cases_Bool, cases_lt}
+use Rattle.std.proofs.lemmas.Bool.{cases_Bool}
 use Rattle.std.proofs.lemmas.Bool.Decides.{nat_tests}
-use Rattle.std.proofs.lemmas.List.{get_or-map, get_or-replicate, get_or-set_other, get_or-set_same, get_or_past, length-map, length-replicate}
+use Rattle.std.proofs.lemmas.List.{get_or-map, get_or-set_other, get_or-set_same, length-map}
 use Rattle.std.proofs.lemmas.List.Quantifiers.{position-Some}
 use Rattle.std.proofs.lemmas.Map.Entries.{lookup_from_place}
 use Rattle.std.proofs.lemmas.Nat.{div-add-mod'}
@@ -25,10 +24,6 @@ same_number m n e = grind (arith, nat_tests, e)
 
 within_block : (name : ℕ) (numbers : List ℕ) → length numbers ≡ 16 → name % 16 < length numbers
 within_block name numbers long = omega (arith, long)
-
--- a table without blocks
-pub none_placed : (t : NameTable) → t.blocks.entries ≡ [] → (name : ℕ) → place_of t name ≡ None
-none_placed t e name = ap (λ es. place_in (lookup (nat_eq (name / 16)) es) (name % 16)) e
 
 -- A number that is written for a name.
 
@@ -62,25 +57,9 @@ block_kept t u number numbers was updates name = elim (cases_Bool (nat_eq number
 abbrev pub zeros : List ℕ
 zeros = replicate 16 0
 
-all_zero : (within : ℕ) → get_or zeros within 0 ≡ 0
-all_zero within = elim (cases_lt within 16) [
-  | inl less ↦ get_or-replicate 16 within 0 0 less
-  | inr past ↦ get_or_past zeros within 0 (omega (arith, past, length-replicate 16 zero))
 ]
 
-pub block_added : (t u : NameTable) (number : ℕ) → get nat_eq t.blocks number ≡ None → Updates nat_eq t.blocks u.blocks number (Some zeros) → KeepsPlaces t u
-block_added t u number none updates name = elim (cases_Bool (nat_eq number (name / 16))) [
-  | inl same ↦
-      let block : number ≡ name / 16 = same_number number (name / 16) same in
-      let new : get nat_eq u.blocks (name / 16) ≡ Some zeros = subst (λ b. get nat_eq u.blocks b ≡ Some zeros) block updates.1 in
-      let old : get nat_eq t.blocks (name / 16) ≡ None = subst (λ b. get nat_eq t.blocks b ≡ None) block none in
-      ap (λ b. place_in b (name % 16)) new ∙ (ap place_by (all_zero (name % 16)) ∙ sym (ap (λ b. place_in b (name % 16)) old))
-  | inr different ↦ ap (λ b. place_in b (name % 16)) (updates.2 (name / 16) different)
 ]
-
--- a name whose block is not there
-pub none_without_block : (t : NameTable) (name : ℕ) → get nat_eq t.blocks (name / 16) ≡ None → place_of t name ≡ None
-none_without_block t name none = ap (λ b. place_in b (name % 16)) none
 
 -- what a block has for a name
 pub place_by_block : (t : NameTable) (name : ℕ) (numbers : List ℕ) → get nat_eq t.blocks (name / 16) ≡ Some numbers → place_of t name ≡ place_by (get_or numbers (name % 16) 0)

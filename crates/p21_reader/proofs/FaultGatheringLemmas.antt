@@ -50,13 +50,6 @@ instances_more ws w = map-append (λ (x : Whole). x.instance) ws (w ∷ [])
 wholes_more : (js : List Judgement) (j : Judgement) (ws : List Whole) (w : Whole) → values_of js ≡ map whole ws → value_of j.judged ≡ whole w → values_of (js ++ j ∷ []) ≡ map whole (ws ++ w ∷ [])
 wholes_more js j ws w are own = values_more js j (map whole ws) (whole w) are own ∙ sym (map-append whole ws (w ∷ []))
 
--- no fault
-pub sound_gathered : (js : List Judgement) (is : List Instance) (es : List (Option EntityId)) (names : InstanceNames) (found : List Fault) (ended : Bool) → ended ≡ false → found ≡ [] → GathersFaults js is es names found ended
-    → HaveInstances (values_of js) is × (es ≡ entities_of js)
-sound_gathered js is es names found true e none h = absurd (cc)
-sound_gathered js is es names [] false e none h = h
-sound_gathered js is es names (f ∷ found) false e none h = absurd (cc)
-
 -- some fault, and none of the grammar
 pub faulty_gathered : (js : List Judgement) (is : List Instance) (es : List (Option EntityId)) (names : InstanceNames) (found : List Fault) (ended : Bool) → ended ≡ false → found ≢ [] → GathersFaults js is es names found ended
     → HaveFaults (values_of js) names found
@@ -142,20 +135,6 @@ grammar_more js j f is any es others names after found more ended e h own more_i
       faults = c.faults;
       found_are = more_is;
     }
-
--- what stands behind it is of no account
-pub behind_grammar : (js : List Judgement) (j : Judgement) (is : List Instance) (es : List (Option EntityId)) (names : InstanceNames) (found : List Fault) (ended : Bool) → ended ≡ true → GathersFaults js is es names found ended → GathersFaults (js ++ j ∷ []) is es names found ended
-behind_grammar js j is es names [] false e h = absurd (cc)
-behind_grammar js j is es names (f ∷ found) false e h = absurd (cc)
-behind_grammar js j is es names found true e h = record {
-  wholes = h.wholes;
-  fault = h.fault;
-  later = h.later ++ value_of j.judged ∷ [];
-  earlier = h.earlier;
-  are = values_more js j (map whole h.wholes ++ grammar h.fault ∷ h.later) (value_of j.judged) h.are refl ∙ append_assoc (map whole h.wholes) (grammar h.fault ∷ h.later) (value_of j.judged ∷ []);
-  faults = h.faults;
-  found_are = h.found_are;
-}
 
 -- All pieces are gathered.
 

@@ -1,11 +1,11 @@
 -- One judged piece more.
-use Rattle.std.proofs.Common.{◌≡◌, ◌≢◌, false, is_some, List, [], ◌∷◌, ◌++◌, Option, Some, None, Ok, map, refl, sym, ap, subst, ◌∙◌, append_assoc}
+use Rattle.std.proofs.Common.{◌≡◌, ◌≢◌, false, is_some, List, [], ◌∷◌, ◌++◌, Option, Some, None, Ok, map, refl, sym, ap, subst, ◌∙◌}
 use Rattle.std.proofs.lemmas.List.{map-append}
 use Rattle.p21_schema.specs.declared.ids.EntityId.{EntityId}
 use Rattle.p21_tree.specs.declared.faults.Fault.{Fault}
 use Rattle.p21_tree.specs.Sentence.{Instance}
 use Rattle.p21_reader.specs.declared.judged.Judgement.{Judgement}
-use Rattle.p21_reader.specs.Values.{Whole, Value, whole, instances_in, IsCarriedFault, CarryNoFault, IsValueFault, HaveInstances}
+use Rattle.p21_reader.specs.Values.{Whole, Value, whole, instances_in, IsCarriedFault, CarryNoFault, HaveInstances}
 use Rattle.p21_reader.specs.Judged.{value_of, values_of, entities_of}
 use Rattle.p21_reader.specs.Steps.{AddsValue}
 use Rattle.p21_reader.specs.Gathering.{Gathers}
@@ -48,30 +48,6 @@ instance_gathered js j is more es longer h a e =
 pub still_none : (js : List Judgement) (j : Judgement) (is more : List Instance) (es longer : List (Option EntityId)) (fault : Option Fault) → is_some fault ≡ false → Gathers js is es fault → AddsValue is (value_of j.judged) (Ok tt) more → longer ≡ es ++ j.entity ∷ [] → Gathers (js ++ j ∷ []) more longer fault
 still_none js j is more es longer None none h a e = instance_gathered js j is more es longer h a e
 still_none js j is more es longer (Some f) none h a e = absurd (cc)
-
--- the first fault
-pub fault_gathered : (js : List Judgement) (j : Judgement) (is more : List Instance) (es longer : List (Option EntityId)) (f : Fault) → Gathers js is es None → IsValueFault is (value_of j.judged) f → Gathers (js ++ j ∷ []) more longer (Some f)
-fault_gathered js j is more es longer f h k =
-    let ws : List Whole = h.0.wholes in record {
-      earlier = ws;
-      value = value_of j.judged;
-      later = [];
-      parts = values_more js j (map whole ws) (value_of j.judged) h.0.are refl;
-      faultless = h.0.faultless;
-      is_fault = subst (λ l. IsValueFault l (value_of j.judged) f) h.0.instances k;
-    }
-
--- what stands behind it is of no account
-pub behind_gathered : (js : List Judgement) (j : Judgement) (is : List Instance) (es : List (Option EntityId)) (fault : Option Fault) (f : Fault) → fault ≡ Some f → Gathers js is es fault → Gathers (js ++ j ∷ []) is es fault
-behind_gathered js j is es None f e h = absurd (cc)
-behind_gathered js j is es (Some g) f e h = record {
-  earlier = h.earlier;
-  value = h.value;
-  later = h.later ++ value_of j.judged ∷ [];
-  parts = values_more js j (map whole h.earlier ++ h.value ∷ h.later) (value_of j.judged) h.parts refl ∙ append_assoc (map whole h.earlier) (h.value ∷ h.later) (value_of j.judged ∷ []);
-  faultless = h.faultless;
-  is_fault = h.is_fault;
-}
 
 -- what was gathered where there is no fault
 pub instances_gathered : (js : List Judgement) (is : List Instance) (es : List (Option EntityId)) (fault : Option Fault) → ((f : Fault) → fault ≢ Some f) → Gathers js is es fault → HaveInstances (values_of js) is × (es ≡ entities_of js)

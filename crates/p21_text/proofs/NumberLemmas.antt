@@ -95,16 +95,6 @@ plain_int text n some r = record {
   stops = r.stops;
 }
 
--- with no Digit behind a sign, and none at the front, no integer begins
-pub no_signed_int : (text tail : List ℕ) (b : ℕ) → text ≡ b ∷ tail → IsPlusMinus b → (FirstIs IsDigit tail → ⊥) → NoFrontIs IsInt text
-no_signed_int text tail b e p none front behind f i = by_sign (int_cases front i) where
-  by_sign : Signed front → ⊥
-  by_sign (signed x xs g q d) =
-      let whole : b ∷ tail ≡ x ∷ (xs ++ behind) = sym e ∙ f ∙ ap (λ t. t ++ behind) g in
-      let tails : tail ≡ xs ++ behind = cc in
-      none (first_front IsDigit tail xs behind tails (digits_first xs d))
-  by_sign (plain d) = apart front behind b tail text [] (sym f ∙ sym (append-nil text)) (digits_first front d) e p
-
 pub no_plain_int : (text : List ℕ) → (FirstIs IsPlusMinus text → ⊥) → (FirstIs IsDigit text → ⊥) → NoFrontIs IsInt text
 no_plain_int text no_sign no_digit front behind f i = by_sign (int_cases front i) where
   by_sign : Signed front → ⊥
@@ -120,16 +110,6 @@ pub plain_or_none : (text tail : List ℕ) (b : ℕ) → text ≡ b ∷ tail →
     → MatchOption r (NoFrontIs IsInt text) (λ n. IntIs text n)
 plain_or_none text tail b e none None h = no_plain_int text (first_not IsPlusMinus text tail b e none) h
 plain_or_none text tail b e none (Some n) h = plain_int text n h.0 h.1
-
-pub no_exponent : (text : List ℕ) → ((b : ℕ) (tail : List ℕ) → text ≡ b ∷ tail → b ≡ 69 → NoFrontIs IsInt tail) → LongestOf IsExponent text 0
-no_exponent text none = record {
-  fits = zero-le;
-  holds = tt;
-  longest = λ front behind e x. shorter front behind e x;
-} where
-  shorter : (front behind : List ℕ) → text ≡ front ++ behind → IsExponent front → length front ≤ 0
-  shorter [] behind e x = zero-le
-  shorter (b ∷ front) behind e x = absurd (none b (front ++ behind) e x.0 front behind refl x.1)
 
 pub exponent : (text tail : List ℕ) (b n : ℕ) → text ≡ b ∷ tail → b ≡ 69 → IntIs tail n → LongestOf IsExponent text (1 + n)
 exponent text tail b n e is i =

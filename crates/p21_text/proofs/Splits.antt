@@ -27,7 +27,3 @@ same_front (x ∷ a) b (y ∷ c) d e h =
     let same : (a ≡ c) × (b ≡ d) = same_front a b c d tails (omega arith) in
     let first : a ≡ c = same.0 in
     (cc, same.1)
-
--- the first byte of both
-pub same_head : (c : ℕ) (tail : List ℕ) (b : ℕ) (rest behind : List ℕ) → c ∷ tail ≡ (b ∷ rest) ++ behind → (c ≡ b) × (tail ≡ rest ++ behind)
-same_head c tail b rest behind e = (cc, cc)

@@ -1,5 +1,5 @@
 -- The strings and binaries of a tree are those of tokens, so they hold the bodies of such.
-use Rattle.std.proofs.Common.{◌≡◌, ℕ, List, [], ◌∷◌, ◌++◌, refl, sym, ap, subst, ◌∙◌, Vec, Box, Bor, Global}
+use Rattle.std.proofs.Common.{◌≡◌, ℕ, List, [], ◌∷◌, ◌++◌, refl, sym, ap, subst, ◌∙◌, Vec, Global}
 use Rattle.std.proofs.lemmas.List.Elements.{All-nil, All-cons}
 use Rattle.p21_text.specs.Contents.{IsContent}
 use Rattle.p21_text.specs.Laws.{HasContent}
@@ -9,7 +9,7 @@ use Rattle.p21_text.specs.Tokens.{Placed, TokensUpTo, symbols}
 use Rattle.p21_text.specs.Tokens as text
 use Rattle.p21_tree.specs.declared.source.Source.{Source}
 use Rattle.p21_tree.specs.declared.params.Param.{Param}
-use Rattle.p21_tree.specs.declared.params.Param.TheViews.{Items, Typed}
+use Rattle.p21_tree.specs.declared.params.Param.TheViews.{Items}
 use Rattle.p21_tree.specs.Plain.{plain, plain_all}
 use Rattle.p21_tree.specs.Tree.{Tree, Trees}
 use Rattle.p21_tree.specs.Grammar.{IsLeaf, IsParam, IsOptional, IsParams}
@@ -18,7 +18,7 @@ use Rattle.p21_tree.specs.Bodies.{HasBodies, HaveBodies, AllHaveBodies}
 use Rattle.p21_tree.specs.Texts.{shifted}
 use Rattle.p21_tree.specs.Parts.{IsArguments}
 use Rattle.p21_tree.specs.Progress.{Chain, Covers}
-use Rattle.p21_tree.proofs.OpenedLemmas.{plain_items, plain_typed}
+use Rattle.p21_tree.proofs.OpenedLemmas.{plain_items}
 
 -- each token carries a text of its kind
 abbrev pub HaveContents : List Symbol → Type 0
@@ -81,10 +81,6 @@ all_have (p ∷ ps) h = All-cons (λ q. HasBodies (plain q)) p ps h.0 (all_have 
 -- those of a list
 pub items_have : (v : Vec Param Global) → HasBodies (plain (Items v)) → AllHaveBodies v.items
 items_have v h = all_have v.items (subst HasBodies (plain_items v) h)
-
--- that of a typed one
-pub typed_has : (k : Bor (List ℕ)) (p : Box Param Global) → HasBodies (plain (Typed k p)) → HasBodies (plain p.value)
-typed_has k p h = subst HasBodies (plain_typed k p) h
 
 pub arguments_bodies : FirstsHaveContents → (s : Source) (at end left : ℕ) (ps : List Param) → Covers (λ ts. IsArguments left ts (plain_all ps)) s at end → AllHaveBodies ps
 arguments_bodies law s at end left ps c =

@@ -2,7 +2,7 @@
 use Rattle.std.proofs.Common.{◌≡◌, ◌⊎◌, inl, inr, ℕ, suc, zero, ◌≤◌, List, [], ◌∷◌, ◌++◌, refl, sym, ap, subst, ◌∙◌, append_assoc, arith}
 use Rattle.p21_text.specs.Spelling.{Symbol}
 use Rattle.p21_text.specs.Tokens.{Placed}
-use Rattle.p21_tree.specs.Fault.{Begins, Kind, bad_token, unexpected, truncated, too_deep, IsFault, IsKind, OnlyTooDeep}
+use Rattle.p21_tree.specs.Fault.{Begins, Kind, bad_token, unexpected, truncated, too_deep, IsFault, IsKind}
 use Rattle.p21_tree.specs.Fault as fault
 use Rattle.p21_tree.specs.Sentence.{deepest}
 use Rattle.p21_tree.specs.Languages.{Language, Just, Then, Either, Within, Many, stop, again, Why, Stuck}
@@ -91,9 +91,6 @@ starts_within P T s m ts h = s h.left ts h.inside
 pub first_weaker : (T U : Symbol → Type 0) (ts : List Placed) → ((s : Symbol) → T s → U s) → FirstIs T ts → FirstIs U ts
 first_weaker T U [] f h = absurd h
 first_weaker T U (t ∷ ts) f h = f t.token h
-
-pub starts_weaker : (P : Language) (T U : Symbol → Type 0) → ((s : Symbol) → T s → U s) → Starts P T → Starts P U
-starts_weaker P T U f s m ts h = first_weaker T U ts f (s m ts h)
 
 pub starts_either : (P Q : Language) (T U : Symbol → Type 0) → Starts P T → Starts Q U → Starts (Either P Q) (λ s. T s ⊎ U s)
 starts_either P Q T U p q m ts h = elim h [ inl x ↦ first_weaker T (λ s. T s ⊎ U s) ts (λ s y. inl y) (p m ts x) | inr x ↦ first_weaker U (λ s. T s ⊎ U s) ts (λ s y. inr y) (q m ts x) ]
@@ -187,12 +184,6 @@ once_many P Q T U l m a c x y sp sq d one two (again front back f p h) (again fr
     let j : back ++ x ≡ back' ++ y = cancel front (back ++ x) (back' ++ y) (i ∙ ap (λ z. z ++ (back' ++ y)) (sym g)) in
     let k : back ≡ back' = once_many P Q T U l m back back' x y sp sq d one two h h' j in
     f ∙ (ap (λ z. z ++ back) g ∙ (ap (λ z. front' ++ z) k ∙ sym f'))
-
-pub once_same : (L M : Language) → ((l : ℕ) (ts : List Placed) → L l ts → M l ts) → Once M → Once L
-once_same L M into one l m a c x y p q e = one l m a c x y (into l a p) (into m c q) e
-
-pub grows_same : (L M : Language) → ((l : ℕ) (ts : List Placed) → L l ts → M l ts) → ((l : ℕ) (ts : List Placed) → M l ts → L l ts) → Grows M → Grows L
-grows_same L M into back g l m ts e h = back m ts (g l m ts e (into l ts h))
 
 -- Where a sentence is left at the largest limit, there is its fault.
 

@@ -4,11 +4,10 @@ use Rattle.std.specs.Str.{bytes_eq}
 use Rattle.std.proofs.lemmas.Slice.Eq.{bytes_eq-Decides}
 use Rattle.p21_text.specs.Spelling.{Symbol}
 use Rattle.p21_text.specs.Spelling as token
-use Rattle.p21_text.specs.Tokens.{Placed, IsLast, symbols}
+use Rattle.p21_text.specs.Tokens.{Placed, IsLast}
 use Rattle.p21_text.specs.Tokens as text
-use Rattle.p21_tree.specs.Grammar.{IsKey, IsLeaf, IsParam, IsOptional, IsParams}
 use Rattle.p21_tree.specs.Grammar as grammar
-use Rattle.p21_tree.specs.Sentence.{IsTail, IsFile, deepest, header_word, endsec_word, data_word}
+use Rattle.p21_tree.specs.Sentence.{IsTail, deepest, header_word, endsec_word, data_word}
 use Rattle.p21_tree.specs.Sentence as sentence
 use Rattle.p21_tree.specs.Fault.{Begins, IsFault, files, prefaces, pieces, tails}
 use Rattle.p21_tree.specs.Languages.{Language, Just, Then, kind_now, stop, again}
@@ -32,9 +31,6 @@ is_goes s h t e = subst (λ x. ¬ (IsLast x)) (sym e) h
 
 pub open_goes : ¬ (IsLast token.lparen)
 open_goes h = elim h [ ]
-
-pub close_goes : ¬ (IsLast token.rparen)
-close_goes h = elim h [ ]
 
 pub last_outer : Outer IsLast
 last_outer s text.at_end = refl

@@ -1,5 +1,5 @@
 -- What opening and closing a parenthesis does to what stands open.
-use Rattle.std.proofs.Common.{◌≡◌, ℕ, suc, zero, ◌-◌, ◌+◌, true, false, Some, None, List, [], ◌∷◌, ◌++◌, length, slice_get, refl, sym, ap, ◌∙◌, arith, Vec, Box, Bor, Global}
+use Rattle.std.proofs.Common.{◌≡◌, ℕ, suc, zero, ◌-◌, ◌+◌, false, Some, None, List, [], ◌∷◌, ◌++◌, length, slice_get, refl, sym, ap, ◌∙◌, arith, Vec, Box, Bor, Global}
 use Rattle.p21_tree.specs.declared.nest.Frame.{Frame}
 use Rattle.p21_tree.specs.declared.nest.Frame.TheVariants as frame
 use Rattle.p21_tree.specs.declared.params.Param.{Param, fold-roll-Param}
@@ -39,9 +39,6 @@ pub popped_typed : (fs gs : List Frame) (x : Frame) (k : Bor (List ℕ)) (curren
 popped_typed fs gs x k current e f =
     ap (λ z. opened_all base z current) e ∙ (opened_push base gs x current ∙ ap (λ z. opened (opened_all base gs) z current) f)
 
-pub popped_none : (fs gs : List Frame) (current : Trees) → fs ≡ gs ++ [] → gs ≡ [] → opened_all base fs current ≡ base current
-popped_none fs gs current e f = ap (λ z. opened_all base z current) (e ∙ ap (λ z. z ++ []) f)
-
 pub plain_items : (v : Vec Param Global) → plain (Items v) ≡ tree.items (plain_all v.items)
 plain_items v = ap plain (sym (rolls-Items v)) ∙ fold-roll-Param Tree plain_level (level.Items v)
 
@@ -49,9 +46,6 @@ pub plain_typed : (k : Bor (List ℕ)) (p : Box Param Global) → plain (Typed k
 plain_typed k p = ap plain (sym (rolls-Typed k p)) ∙ fold-roll-Param Tree plain_level (level.Typed k p)
 
 -- an empty list is closed
-
-pub none_closed : (stack : Stack) (room : ℕ) (current : Trees) → stack ≡ base current → current ≡ nil → closed nil ≡ close_empty stack room
-none_closed stack room current e f = sym (ap (λ z. close_empty z room) (e ∙ ap base f))
 
 pub none_list : (stack below new : Stack) (room : ℕ) (current : Trees) (t : Tree) → stack ≡ list current below → current ≡ nil → new ≡ below → t ≡ tree.items nil → go (record { mode = after t; stack = new; room = room + 1 }) ≡ close_empty stack room
 none_list stack below new room current t e f g h =
@@ -92,11 +86,6 @@ takes_comma around (frame.Typed k ∷ fs) h = takes_comma (opened around (frame.
 pub comma_taken : (fs : List Frame) (ps qs : List Param) (p : Param) (room : ℕ) → is_typed (opened_all base fs (plain_all ps)) ≡ false → qs ≡ ps ++ p ∷ [] → go (record { mode = want; stack = opened_all base fs (plain_all qs); room = room }) ≡ by_mode (after (plain p)) (opened_all base fs (plain_all ps)) room comma
 comma_taken fs ps qs p room h e =
     ap (λ z. go (record { mode = want; stack = opened_all base fs z; room = room })) (ap plain_all e ∙ plain_append ps p) ∙ takes_comma base fs (λ current t r i. refl) (plain_all ps) (plain p) room h
-
-pub comma_refused : (stack : Stack) (t : Tree) (room : ℕ) → is_typed stack ≡ true → refused ≡ by_mode (after t) stack room comma
-comma_refused (base before) t room e = absurd (cc)
-comma_refused (list before below) t room e = absurd (cc)
-comma_refused (typed k below) t room e = refl
 
 -- a parenthesis is closed behind a parameter
 

@@ -1,7 +1,7 @@
 -- How the code's progress and its faults are put together.
 use Rattle.std.proofs.Common.{◌≡◌, ◌≢◌, ℕ, suc, ◌+◌, Some, List, [], ◌∷◌, ◌++◌, refl, sym, ap, ◌∙◌}
 use Rattle.p21_text.specs.Spelling.{Symbol}
-use Rattle.p21_text.specs.Tokens.{Placed, First, TokensUpTo, Tokens, IsLast, symbols}
+use Rattle.p21_text.specs.Tokens.{Placed, First, TokensUpTo, Tokens, IsLast}
 use Rattle.p21_text.specs.Tokens as text
 use Rattle.p21_tree.specs.declared.source.Source.{Source}
 use Rattle.p21_tree.specs.declared.faults.Fault.{Fault}
@@ -74,9 +74,6 @@ terminal_is_in variants.Equals = refl
 terminal_is_in variants.Semi = refl
 terminal_is_in variants.End = refl
 
-pub not_terminal : (t : Symbol) (w : source.Terminal) → terminal_in t ≢ Some w → t ≢ terminal_of w
-not_terminal t w h e = h (ap terminal_in e ∙ terminal_is_in w)
-
 pub terminal_fails : (w : Symbol) (l : ℕ) (s : Source) (at : ℕ) (t : Placed) (f : Fault) → First s.text.now at t → t.token ≢ w → f.at ≡ s.base + t.start → f.kind ≡ fault_kind (kind_now t.token) → Fails (Terminal w) l s at f
 terminal_fails w l s at t f n no_ p k = fails_now (Terminal w) l s at t f n (stuck_now (Terminal w) (Is w) l (shift s.base t) (some_just (Is w) l w refl) (starts_just (Is w)) no_) p k
 
@@ -94,10 +91,6 @@ pub stuck_again : (P Q : Language) (T U : Symbol → Type 0) (l : ℕ) (a b : Li
 stuck_again P Q T U l [] b t k sp sq d one grows p h = absurd (sp l [] p)
 stuck_again P Q T U l (x ∷ a) b t k sp sq d one grows p h =
     stuck_many P Q l (x ∷ (a ++ b)) t k (stuck_right Q (Then P (Many P Q)) U l x (a ++ b) t k sq (λ u. d x.token (sp l (x ∷ a) p) u) (stuck_second P (Many P Q) l (x ∷ a) b t k one grows p h))
-
-pub fails_item : (P Q : Language) (T U : Symbol → Type 0) (l : ℕ) (s : Source) (at mid : ℕ) (x : Placed) (f : Fault) (R : Language) → Inhabited Q l → Starts Q U → ¬ (U x.token) → Chain s at (x ∷ []) mid → ((b : List Placed) (t : Placed) (k : Kind) → Stuck R l b t k → Stuck P l (x ∷ b) t k) → Fails R l s mid f → Fails (Many P Q) l s at f
-fails_item P Q T U l s at mid x f R some_ starts no_ c g h =
-    fails_behind R (Many P Q) l l s at mid (x ∷ []) f c (λ b t k r. stuck_item P Q U l x b t k some_ starts no_ (g b t k r)) h
 
 pub fails_again : (P Q : Language) (T U : Symbol → Type 0) (l : ℕ) (s : Source) (at mid : ℕ) (a : List Placed) (f : Fault) → Starts P T → Starts Q U → Apart T U → Once P → Grows P → Chain s at a mid → P l a → Fails (Many P Q) l s mid f → Fails (Many P Q) l s at f
 fails_again P Q T U l s at mid a f sp sq d one grows c p h =

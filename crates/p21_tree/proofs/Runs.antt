@@ -1,7 +1,6 @@
 -- How the machine goes over tokens: what it did at the front of a list it does at the front of a longer one.
 use Rattle.std.proofs.Common.{◌≡◌, List, [], ◌∷◌, ◌++◌, refl, ap, ◌∙◌}
 use Rattle.p21_text.specs.Spelling.{Symbol}
-use Rattle.p21_tree.specs.Tree.{Trees}
 use Rattle.p21_tree.specs.Machine.{State, Step, Answer, go, closed, refused, deep, going, ended, fault, next, step, run}
 
 -- what more tokens make of an answer
@@ -23,9 +22,3 @@ run_then (t ∷ ts) us s = next_then s t ts us (step s t) (λ r. run_then ts us 
 
 pub run_going : (ts us : List Symbol) (s r : State) → run ts s ≡ going r → run (ts ++ us) s ≡ run us r
 run_going ts us s r e = run_then ts us s ∙ ap (λ a. goes_on a us) e
-
-pub run_ended : (ts us : List Symbol) (s : State) (found : Trees) (rest : List Symbol) → run ts s ≡ ended found rest → run (ts ++ us) s ≡ ended found (rest ++ us)
-run_ended ts us s found rest e = run_then ts us s ∙ ap (λ a. goes_on a us) e
-
-pub run_fault : (ts us : List Symbol) (s r : State) (t : Symbol) (rest : List Symbol) → run ts s ≡ fault r t rest → run (ts ++ us) s ≡ fault r t (rest ++ us)
-run_fault ts us s r t rest e = run_then ts us s ∙ ap (λ a. goes_on a us) e
