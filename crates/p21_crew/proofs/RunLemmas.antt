@@ -2,11 +2,11 @@
 use Rattle.std.proofs.Common.{◌≡◌, ℕ, zero, suc, Bool, Option, None, ◌+◌, ◌<◌, true, false, List, [], ◌∷◌, ◌++◌, length, map, refl, sym, ap, subst, ◌∙◌, arith, append-nil, if◌then◌else◌}
 use Rattle.std.specs.Prelude.{All, ◌==◌}
 use Rattle.std.specs.List.{AllZip}
-use Rattle.std.proofs.lemmas.List.Elements.{All-nil, All-head, All-tail}
+use Rattle.std.proofs.lemmas.List.Elements.{All-nil, All-cons, All-head, All-tail}
 use Rattle.p21_lanes.specs.LaneIn.{accepted}
 use Rattle.p21_lanes.specs.LaneOut.{taken}
 use Rattle.p21_lanes.specs.declared.receipt.Receipt.{Receipt}
-use Rattle.p21_lanes.specs.Receipt.{passed}
+use Rattle.p21_lanes.specs.Receipt.{passed, IsEnded}
 use Rattle.p21_desk.specs.Dealing.{share}
 use Rattle.p21_crew.specs.declared.returned.Returned.{Returned}
 use Rattle.p21_crew.specs.declared.returned.Returned.TheVariants.{Value}
@@ -65,6 +65,11 @@ module _ {P O : Type 0} where
       let here : k + suc i ≡ suc k + i = omega arith in
       rw here (read_at Q S T (suc k) rs ss s.1 t.1 zip.1 i (omega arith))
 
+-- each receipt is of a lane that was ended
+all_ended : {T : Type 0} (rs : List (Receipt T)) → All IsEnded rs
+all_ended [] = All-nil IsEnded
+all_ended (r ∷ rs) = All-cons IsEnded r rs (r.ended, r.all_received ∙ r.ended) (all_ended rs)
+
 module _ {X Y : Type 0} where
   zip_from : (R : ℕ → X → Type 0) (S : X → Y → Type 0) (T : ℕ → Y → Type 0) (k : ℕ) (xs : List X) (ys : List Y) → EachAt R k xs → AllZip S xs ys → ((j : ℕ) (x : X) (y : Y) → R j x → S x y → T j y) → EachAt T k ys
   zip_from R S T k [] [] all zip step = tt
@@ -117,6 +122,8 @@ module _ {P O W K C A : Type 0} where
           returned_each = returned ∙ (lanes ∙ stands.as_many);
           shares = shares;
           results = results;
+          ended = all_ended rs;
+          returned_ended = all_ended ss;
           values = shares_zip (stated work) size d.desk.dealt done outs one count of_lanes
               (λ lane less.
               let here : 0 + lane ≡ lane = omega arith in

@@ -35,7 +35,7 @@ pub(crate) struct Dealer<P, O, W: Work<P, Out = O>, C, A> {
     ghost lanes: { vec_len flights ≡ desk.lanes },
 }
 
-impl<P: Copy, O: Drop, W: Work<P, Out = O>, C: Cuts<Piece = P>, A: Gathers<O>> Dealer<
+impl<P: Drop, O: Drop, W: Work<P, Out = O>, C: Cuts<Piece = P>, A: Gathers<O>> Dealer<
     P,
     O,
     W,

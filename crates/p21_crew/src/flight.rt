@@ -49,7 +49,7 @@ pub(crate) struct Flight<P, O, W: Work<P, Out = O>> {
 pub(crate) fn launch<
     's,
     E,
-    P: Copy + Send + 's,
+    P: Drop + Send + 's,
     O: Drop + Send + 's,
     K: Drop + Send + 's,
     W: Work<P, Out = O, Kept = K> + Sync + 's,
@@ -111,7 +111,7 @@ pub(crate) struct Landed<P, O> {
     pub(crate) is_clean: bool,
 }
 
-impl<P: Copy, O: Drop, W: Work<P, Out = O>> Flight<P, O, W> {
+impl<P: Drop, O: Drop, W: Work<P, Out = O>> Flight<P, O, W> {
     ghost use Rattle.std.specs.Prelude.{◌≡◌, IsTrue};
     ghost use Rattle.std.specs.List.{AllZip};
     ghost use Rattle.p21_lanes.specs.LaneIn.{accepted};

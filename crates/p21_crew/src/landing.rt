@@ -19,7 +19,7 @@ pub(crate) struct Receipts<P, O> {
     pub(crate) returned: Vec<Receipt<Returned<O>>>,
 }
 
-impl<P: Copy, O: Drop> Receipts<P, O> {
+impl<P: Drop, O: Drop> Receipts<P, O> {
     ghost use Rattle.std.specs.Prelude.{◌≡◌, [], ◌∷◌, ◌++◌, true, IsTrue};
 
     fn new(alloc: Global) -> Receipts<P, O>
@@ -59,7 +59,7 @@ fn push_whole<T: Drop>(items: &mut Vec<T>, item: T) -> bool
 
 /// Lands all lanes. An error means that memory was refused, or that the dealer had not taken each result; the lanes are landed
 /// all the same.
-pub(crate) fn land_all<P: Copy, O: Drop, W: Work<P, Out = O>, R: Threads + Wait>(
+pub(crate) fn land_all<P: Drop, O: Drop, W: Work<P, Out = O>, R: Threads + Wait>(
     rt: &R,
     alloc: Global,
     flights: Vec<Flight<P, O, W>>,

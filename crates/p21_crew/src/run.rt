@@ -41,7 +41,7 @@ pub struct Run<P, O, A> {
 /// On no lane are more pieces out at a time than the capacity. An error means that memory or a thread was refused, here or to
 /// a worker; all workers have ended all the same.
 pub fn run_crew<
-    P: Copy + Send,
+    P: Drop + Send,
     O: Drop + Send,
     K: Drop + Send,
     W: Work<P, Out = O, Kept = K> + Sync,
@@ -84,7 +84,7 @@ pub fn run_crew<
 fn run_in<
     's,
     E,
-    P: Copy + Send + 's,
+    P: Drop + Send + 's,
     O: Drop + Send + 's,
     K: Drop + Send + 's,
     W: Work<P, Out = O, Kept = K> + Sync + 's,
@@ -166,7 +166,7 @@ fn most_together(capacity: Capacity) -> usize {
 fn launch_all<
     's,
     E,
-    P: Copy + Send + 's,
+    P: Drop + Send + 's,
     O: Drop + Send + 's,
     K: Drop + Send + 's,
     W: Work<P, Out = O, Kept = K> + Sync + 's,
@@ -200,7 +200,7 @@ fn launch_all<
 }
 
 /// Puts a lane behind the others. Where it was not started, or memory is refused, it is landed.
-fn join_crew<P: Copy, O: Drop, W: Work<P, Out = O>, R: Threads + Wait>(
+fn join_crew<P: Drop, O: Drop, W: Work<P, Out = O>, R: Threads + Wait>(
     rt: &R,
     flights: &mut Vec<Flight<P, O, W>>,
     started: Result<Flight<P, O, W>, AllocError>,

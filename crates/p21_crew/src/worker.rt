@@ -22,7 +22,7 @@ pub(crate) struct Worked<P, O> {
 
 /// Reads the pieces of a lane until their end, and sends back one result for each, and then the end. Results are sent so many together,
 /// and where no piece is there. It rests where the lane is empty, and wakes the dealer when it has sent results.
-pub(crate) fn work_lane<P: Copy, O: Drop, K: Drop, W: Work<P, Out = O, Kept = K>, G: Gate, R: Wait>(
+pub(crate) fn work_lane<P: Drop, O: Drop, K: Drop, W: Work<P, Out = O, Kept = K>, G: Gate, R: Wait>(
     rt: &R,
     alloc: Global,
     work: &W,
@@ -68,7 +68,7 @@ pub(crate) fn work_lane<P: Copy, O: Drop, K: Drop, W: Work<P, Out = O, Kept = K>
 }
 
 /// What is read of a piece; where memory is or was refused, the mark.
-fn read_piece<P: Copy, O, K, W: Work<P, Out = O, Kept = K>>(
+fn read_piece<P: Drop, O, K, W: Work<P, Out = O, Kept = K>>(
     alloc: Global,
     work: &W,
     kept: &mut K,

@@ -1,12 +1,14 @@
--- What is kept of a desk when one more piece is dealt, and when the next one is joined.
-use Rattle.std.proofs.Common.{◌≡◌, ◌≢◌, inl, inr, ℕ, suc, ◌+◌, ◌-◌, ◌<◌, ◌≤◌, true, false, List, [], ◌∷◌, ◌++◌, length, get_or, set, drop, add-one, refl, ap, sym, subst, ◌∙◌, arith, length-append, get_or-set_other}
+-- What is kept of a desk when one more piece is dealt, and when the next one is joined, and how many pieces wait in all.
+use Rattle.std.proofs.Common.{◌≡◌, ◌≢◌, inl, inr, ℕ, zero, suc, ◌+◌, ◌-◌, ◌*◌, ◌<◌, ◌≤◌, true, false, List, [], ◌∷◌, ◌++◌, length, get_or, set, drop, add-one, refl, ap, sym, subst, ◌∙◌, arith, length-append, get_or-set_other}
 use Rattle.std.specs.Prelude.{All, ◌==◌, cond, count_by}
-use Rattle.std.proofs.lemmas.Bool.{cases_eq}
+use Rattle.std.proofs.lemmas.Bool.{cases_eq, cases_order, lt-ltb, le-ltb}
 use Rattle.std.proofs.lemmas.Bool.Decides.{nat_tests}
 use Rattle.std.proofs.lemmas.Grind.{get_or-set_at}
-use Rattle.std.proofs.lemmas.List.{drop-append-le, length-set, get_or_default}
-use Rattle.std.proofs.lemmas.List.Elements.{All-get_or, All-push}
+use Rattle.std.proofs.lemmas.List.{drop-append-le, length-drop, length-set, get_or_default}
+use Rattle.std.proofs.lemmas.List.Elements.{All-drop, All-get_or, All-head, All-push, All-tail}
 use Rattle.std.proofs.lemmas.List.Sums.{sum_by_push, sum_by-cons}
+use Rattle.std.proofs.Math.Dec.{ltb}
+use Rattle.std.proofs.Math.Nat.{suc-mul}
 use Rattle.std.proofs.Math.Seq.{drop-cons}
 use Rattle.p21_desk.specs.DeskFields.{IsKept}
 
@@ -109,3 +111,57 @@ kept-joined lanes capacity dealt joined waiting lane n kept unjoined at number =
         | inr differs ↦ omega (arith, get_or-set_other waiting lane other (n - 1) 0 (λ e. differs (sym e)), kept.window other h)
       ];
     }
+
+-- 1 at a lane below n and 0 at the others
+abbrev one_below : ℕ → ℕ → ℕ
+one_below n lane = cond (ltb lane n) 1 0
+
+one_below-yes : (n lane : ℕ) → lane < n → one_below n lane ≡ 1
+one_below-yes n lane less = ap (λ b. cond b 1 0) (lt-ltb lane n less)
+
+one_below-no : (n lane : ℕ) → n ≤ lane → one_below n lane ≡ 0
+one_below-no n lane above = ap (λ b. cond b 1 0) (le-ltb lane n above)
+
+one_below-more : (n lane : ℕ) → one_below (suc n) lane ≡ one_below n lane + one_at lane n
+one_below-more n lane = elim (cases_order lane n) [
+  | inl same ↦ omega (arith, one_below-yes (suc n) lane (omega arith), one_below-no n lane (omega arith), one_at-same lane n same)
+  | inr other ↦ elim other [
+    | inl less ↦ omega (arith, one_below-yes (suc n) lane (omega arith), one_below-yes n lane less, one_at-other lane n (λ e. absurd (omega arith)))
+    | inr above ↦ omega (arith, one_below-no (suc n) lane (omega arith), one_below-no n lane (omega arith), one_at-other lane n (λ e. absurd (omega arith)))
+  ]
+]
+
+-- how many pieces wait on the lanes below n
+abbrev waiting_below : ℕ → List ℕ → ℕ
+waiting_below n dealt = count_by (λ l. ltb l n) dealt
+
+waiting_below-cons : (n lane : ℕ) (dealt : List ℕ) → waiting_below n (lane ∷ dealt) ≡ one_below n lane + waiting_below n dealt
+waiting_below-cons n lane dealt = sum_by-cons (one_below n) lane dealt
+
+waiting_below-none : (dealt : List ℕ) → waiting_below 0 dealt ≡ 0
+waiting_below-none [] = refl
+waiting_below-none (l ∷ dealt) = omega (arith, waiting_below-cons 0 l dealt, one_below-no 0 l (omega arith), waiting_below-none dealt)
+
+waiting_below-more : (n : ℕ) (dealt : List ℕ) → waiting_below (suc n) dealt ≡ waiting_below n dealt + waiting_of n dealt
+waiting_below-more n [] = refl
+waiting_below-more n (l ∷ dealt) =
+    let one : waiting_of n (l ∷ dealt) ≡ one_at l n + waiting_of n dealt = sum_by-cons (λ k. one_at k n) l dealt in
+    omega (arith, waiting_below-cons (suc n) l dealt, waiting_below-cons n l dealt, one, one_below-more n l, waiting_below-more n dealt)
+
+-- pieces that all went to lanes below n wait there
+waiting_below-all : (n : ℕ) (dealt : List ℕ) → All (λ l. l < n) dealt → length dealt ≡ waiting_below n dealt
+waiting_below-all n [] each = refl
+waiting_below-all n (l ∷ dealt) each =
+    omega (arith, waiting_below-cons n l dealt, one_below-yes n l (All-head (λ k. k < n) l dealt each), waiting_below-all n dealt (All-tail (λ k. k < n) l dealt each))
+
+waiting_below-most : (n capacity : ℕ) (dealt : List ℕ) → ((lane : ℕ) → lane < n → waiting_of lane dealt ≤ capacity) → waiting_below n dealt ≤ n * capacity
+waiting_below-most zero capacity dealt each = omega (arith, waiting_below-none dealt)
+waiting_below-most (suc n) capacity dealt each =
+    omega (arith, waiting_below-more n dealt, waiting_below-most n capacity dealt (λ lane less. each lane (omega arith)), each n (omega arith), suc-mul n capacity)
+
+-- where no lane has more than the capacity, all have no more than so many times the capacity
+pub waiting_in_all : (lanes capacity : ℕ) (dealt : List ℕ) (joined : ℕ) (waiting : List ℕ) → IsKept lanes capacity dealt joined waiting → length dealt - joined ≤ lanes * capacity
+waiting_in_all lanes capacity dealt joined waiting kept =
+    let left = drop joined dealt in
+    let most = waiting_below-most lanes capacity left (λ lane less. omega (arith, kept.counted lane less, kept.window lane less)) in
+    omega (arith, most, length-drop joined dealt, waiting_below-all lanes left (All-drop (λ l. l < lanes) joined dealt kept.of_lanes))

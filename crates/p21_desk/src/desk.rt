@@ -1,5 +1,5 @@
 //! The desk from which pieces are dealt to lanes.
-ghost use Rattle.std.specs.Prelude.{◌≡◌, ◌+◌, ◌<◌, ◌≤◌, ◌↔◌, All, [], ◌∷◌, ◌++◌, length, slice_get, IsTrue, IsSome, IfOk, OnOk, OnErr, IfSome, IfNone};
+ghost use Rattle.std.specs.Prelude.{◌≡◌, ◌+◌, ◌-◌, ◌*◌, ◌<◌, ◌≤◌, ◌↔◌, All, [], ◌∷◌, ◌++◌, length, slice_get, IsTrue, IsSome, IfOk, OnOk, OnErr, IfSome, IfNone};
 ghost use Rattle.p21_desk.specs.Dealt.{waiting_at};
 
 use crate::lane_count::LaneCount;
@@ -108,11 +108,13 @@ impl Desk {
         self.joined += 1;
     }
 
-    /// The lane of each piece that was dealt.
+    /// The lane of each piece that was dealt. Those that wait are in all at no moment more than the capacity for each lane.
+    #[tactic(auto, using(crate::proofs::DeskLemmas::waiting_in_all))]
     pub fn dealt(&self) -> &[u32]
         ensures dealt { result.now ≡ self.now.dealt }
         ensures lanes { All (λ lane. lane < self.now.lanes) result.now }
         ensures joined { self.now.joined ≤ length result.now }
+        ensures window { length result.now - self.now.joined ≤ self.now.lanes * self.now.capacity }
     {
         self.dealt.as_slice()
     }

@@ -77,6 +77,16 @@ module _ {T : Type 0} where
       rw (← whole_received, ← whole_sent) (sym in_order) in
       messages-whole (items_of received) (items_of sent) rest begins
 
+  -- what was sent was received, where both have their ends
+  pub all_received : (sent received rest : List (Message T))
+      → EndIsLast sent → EndIsLast received → has_end sent ≡ true → has_end received ≡ true
+      → sent ≡ received ++ rest → received ≡ sent
+  all_received sent received rest sent_form received_form ended end_received in_order =
+      let whole_sent : sent ≡ messages (items_of sent) true = rw (← ended) sent_form in
+      let whole_received : received ≡ messages (items_of received) true = rw (← end_received) received_form in
+      let same = items_of-whole sent received rest sent_form received_form ended end_received in_order in
+      whole_received ∙ (ap (λ xs. messages xs true) same ∙ sym whole_sent)
+
   -- an end that comes first comes alone
   pub alone : (xs : List T) (ms : List (Message T)) → End ∷ ms ≡ messages xs true → ms ≡ []
   alone [] ms form = cc

@@ -64,6 +64,9 @@ impl<T: Drop> LaneIn<T> {
     /// Sends an item, or hands it back: where the lane was ended, where this end sees no free place, or where 2^64 - 1
     /// items were accepted. A refused offer changes nothing. The first offers to a lane, as many as its capacity,
     /// always find their places.
+    ///
+    /// The clauses count messages, each item of a list as one, though a list takes one place: so behind a list they let an
+    /// offer be refused while places are free.
     #[tactic(auto, using(crate::proofs::ParcelLemmas::one_more_place))]
     pub fn offer(&mut self, item: T) -> Result<(), T>
         ensures lane { SameIn self.old self.new }

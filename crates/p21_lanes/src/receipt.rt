@@ -1,20 +1,22 @@
 //! What is known of a settled lane.
 ghost use Rattle.std.specs.Prelude.{◌≡◌, true};
-ghost use Rattle.p21_lanes.specs.LaneIn.{accepted, was_ended};
-ghost use Rattle.p21_lanes.specs.LaneOut.{taken, took_end};
+ghost use Rattle.p21_lanes.specs.History.{messages};
+ghost use Rattle.p21_lanes.specs.LaneIn.{sent, accepted};
+ghost use Rattle.p21_lanes.specs.LaneOut.{received};
 
 use crate::lane_in::LaneIn;
 use crate::lane_out::LaneOut;
 
-/// The two ends of a settled lane: all items that were accepted were taken, in order, and then the end. `settle` is its
-/// only maker.
+/// The two ends of a settled lane: all items that were accepted were taken, in order, and then the end, and nothing after it.
+/// `settle` is its only maker.
 #[derive(Drop)]
 pub struct Receipt<T> {
     pub(crate) lane_in: LaneIn<T>,
     pub(crate) lane_out: LaneOut<T>,
-    ghost ended: { was_ended lane_in ≡ true },
-    ghost end_taken: { took_end lane_out ≡ true },
-    ghost all_taken: { taken lane_out ≡ accepted lane_in },
+    /// The items that were accepted were sent, and then the end.
+    pub ghost ended: { sent lane_in ≡ messages (accepted lane_in) true },
+    /// What was sent was received, and nothing more.
+    pub ghost all_received: { received lane_out ≡ sent lane_in },
 }
 
 impl<T: Drop> Receipt<T> {

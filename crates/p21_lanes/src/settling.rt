@@ -19,6 +19,7 @@ pub struct Pair<T> {
 
 /// Settles a lane whose two ends are back in one thread. It succeeds exactly where the lane was ended and the end was
 /// taken: then all items that were accepted were taken, in order. Otherwise it hands both ends back unchanged.
+#[tactic(auto, using(crate::proofs::HistoryLemmas::all_received))]
 pub fn settle<T: Drop>(lane_in: LaneIn<T>, lane_out: LaneOut<T>) -> Result<Receipt<T>, Pair<T>>
     requires { IsLane lane_in lane_out }
 

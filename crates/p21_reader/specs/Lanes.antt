@@ -1,5 +1,5 @@
 -- What a reading by lanes is.
-use Rattle.std.specs.Prelude.{◌≡◌, ℕ, List, [], length, map, None}
+use Rattle.std.specs.Prelude.{◌≡◌, ℕ, All, List, [], length, map, None}
 use Rattle.std.specs.List.{AllZip}
 use Rattle.p21_express.specs.Schema.{Schema}
 use Rattle.p21_tree.specs.declared.faults.Fault.{Fault}
@@ -13,7 +13,7 @@ use Rattle.p21_cut.specs.Pieces.{PiecesAre}
 use Rattle.p21_check.specs.Header.{IsHeaderFault}
 use Rattle.p21_check.specs.LocalFault.{IsLocalFault}
 use Rattle.p21_lanes.specs.declared.receipt.Receipt.{Receipt}
-use Rattle.p21_lanes.specs.Receipt.{passed}
+use Rattle.p21_lanes.specs.Receipt.{passed, IsEnded}
 use Rattle.p21_desk.specs.Dealing.{share, IsDealing}
 use Rattle.p21_crew.specs.declared.returned.Returned.{Returned}
 use Rattle.p21_crew.specs.Each.{EachAt}
@@ -43,11 +43,13 @@ FindsEachFault judges s = (p : Piece) (i : RawInstance) → judges p (judged.Who
 abbrev pub AreGathered : (Piece → Judged → Type 0) → Schema → Gathering → Type 0
 AreGathered judges s g = (pieces : List Piece) × (js : List Judgement) × IsGathered g js × AllZip (IsStated judges s) pieces js
 
--- Each piece was dealt to exactly one lane, and each lane received exactly its pieces, once, in file order, and then its end.
+-- Each piece was dealt to exactly one lane, and each lane received exactly its pieces, once, in file order, and then its end and
+-- nothing after it.
 pub record AreDealt (lanes : ℕ) (pieces : List Piece) (dealt : List ℕ) (receipts : List (Receipt Piece)) : Type 0 where
   pub dealing : IsDealing lanes dealt pieces
   pub one_each : length receipts ≡ lanes
   pub shares : EachAt (λ lane receipt. passed receipt ≡ share dealt lane pieces) 0 receipts
+  pub ended : All IsEnded receipts
 
 -- How these pieces of a file were dealt: where a fault stands before the instances there are none, and no receipts; else they were
 -- dealt to the lanes.

@@ -26,7 +26,7 @@ returns-clause-pieces g c =
     record {
       pieces = all.0;
       of_file = behind_preface c.in-Ok.ensures.begins c.in-Ok.ensures.header cut;
-      as_dealt = dealing.all c.in-Ok.ensures.begins c.in-Ok.ensures.header (record { dealing = run.dealing; one_each = run.receipts_each; shares = run.shares });
+      as_dealt = dealing.all c.in-Ok.ensures.begins c.in-Ok.ensures.header (record { dealing = run.dealing; one_each = run.receipts_each; shares = run.shares; ended = run.ended });
     }
 
 pub returns-clause-returned : goal.returns-clause-returned

@@ -31,7 +31,7 @@ returns-clause-reading g c =
     record {
       pieces = pieces;
       answer = by_pieces (map (λ j. j.judged) all.1) c.in-Ok.ensures.begins c.in-Ok.ensures.header cut said (rw (values_only all.1) (c.conclude-answer.ensures pieces all.1 all.4 run.values));
-      dealt = dealing.all c.in-Ok.ensures.begins c.in-Ok.ensures.header (record { dealing = run.dealing; one_each = run.receipts_each; shares = run.shares });
+      dealt = dealing.all c.in-Ok.ensures.begins c.in-Ok.ensures.header (record { dealing = run.dealing; one_each = run.receipts_each; shares = run.shares; ended = run.ended });
     }
 
 pub returns-clause-returned : goal.returns-clause-returned
