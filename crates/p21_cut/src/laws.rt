@@ -1,7 +1,7 @@
 //! Laws of the definitions: what each function ensures holds of every file. A caller calls one to learn its law.
 
 ghost use Rattle.std.specs.Prelude.{◌≤◌, ℕ, List, length};
-ghost use Rattle.p21_cut.specs.Laws.{HasOneCutting};
+ghost use Rattle.p21_cut.specs.Laws.{HasOneCutting, HasOneCuttingAtMost};
 ghost use Rattle.p21_cut.specs.Tokens.{FileTokensAreOfPiece, FileTokensAreOfTail, PartsHoldTokens, PieceBeginsWithName, PieceTokensAreOfFile, PiecesHoldTokens, TailTokensAreOfFile};
 
 use crate::cutter::{Cut, Cutter};
@@ -20,6 +20,13 @@ pub fn one_cutting(file: &[u8], at: usize)
             return;
         }
     }
+}
+
+/// From each place of a file on there is at most one list of pieces, and one tail.
+pub fn pieces_are_unique()
+    ensures { (file : List ℕ) → (at : ℕ) → HasOneCuttingAtMost file at }
+{
+    one_string();
 }
 
 /// The tokens of a file from a place on are those of its pieces in turn and of its tail, up to the first place where no

@@ -6,4 +6,6 @@ mod laws;
 mod parts;
 
 pub use cutter::{Cut, Cutter};
-pub use laws::{first_tokens_of_file, one_cutting, pieces_hold_tokens, tokens_of_next_piece};
+pub use laws::{
+    first_tokens_of_file, one_cutting, pieces_are_unique, pieces_hold_tokens, tokens_of_next_piece,
+};

@@ -26,4 +26,4 @@ pub use declarations::{
     AttrDecl, Bounds, Declarations, DeriveDecl, EntityDecl, TypeDecl, TypeExpr, Under, Width,
 };
 pub use error::SchemaError;
-pub use reading::{one_reading, read_declarations};
+pub use reading::{one_form, one_reading, read_declarations};

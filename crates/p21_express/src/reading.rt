@@ -155,6 +155,12 @@ pub fn read_declarations(alloc: Global, text: &[u8]) -> Result<Declarations, Sch
     }
 }
 
+/// A text has at most one form, which is what its words are by the grammar alone. So the conditions that a text fails are those of one
+/// list of declarations.
+pub fn one_form()
+    ensures { (text : List ℕ) (s t : Schema) → IsForm text s → IsForm text t → s ≡ t }
+{}
+
 /// A text has at most one reading.
 pub fn one_reading()
     ensures { (text : List ℕ) (s t : Schema) → IsReading text s → IsReading text t → s ≡ t }

@@ -9,10 +9,7 @@ use Rattle.p21_tree.specs.declared.faults.FaultKind.{FaultKind}
 use Rattle.p21_tree.specs.declared.pieces.Piece.{Piece}
 use Rattle.p21_tree.specs.Sentence.{Instance}
 use Rattle.p21_tree.specs.Views.{plain_instance}
-use Rattle.p21_cut.specs.Pieces.{PiecesAre}
-use Rattle.p21_cut.specs.Pieces.{Piece as Cut}
-use Rattle.p21_cut.specs.Cutter.{Gives, file_of, number_of, place_of}
-use Rattle.p21_cut.specs.declared.cutter.Cutter.{Cutter}
+use Rattle.p21_cut.specs.Cutter.{plain_piece}
 use Rattle.p21_check.specs.EntityOf.{AreSimpleEntities, IsSimpleEntity}
 use Rattle.p21_check.specs.LocalFault.{IsLocalFault}
 use Rattle.p21_refs.specs.FirstReferenceFault.{AreSound}
@@ -26,15 +23,17 @@ use Rattle.p21_reader.specs.declared.reading.ReadError.{ReadError}
 use Rattle.p21_reader.specs.declared.stop.Stop.{Stop}
 use Rattle.p21_reader.specs.declared.stop.Stop.TheVariants as stop
 use Rattle.p21_reader.specs.Answer.{plain_answer}
-use Rattle.p21_reader.specs.Lanes.{AnswersReturned, IsStated, FindsEachFault, IsReadBy, PiecesAreDealt}
+use Rattle.p21_reader.specs.Lanes.{AnswersReturned, IsStated, FindsEachFault, IsReadBy, JudgesLocally, PiecesAreDealt, SaysLocally}
 use Rattle.p21_reader.specs.Lanes as dealing
 use Rattle.p21_reader.specs.Laws.{LocalReadingIsReading}
 use Rattle.p21_reader.specs.LocalFault.{IsOpeningFault}
 use Rattle.p21_reader.specs.Reading.{IsReading}
-use Rattle.p21_reader.specs.ReadingBy.{IsReadingBy, before_instances}
+use Rattle.p21_reader.specs.PiecesOf.{ArePiecesOf}
+use Rattle.p21_reader.specs.PiecesOf as pieces
+use Rattle.p21_reader.specs.ReadingBy.{IsReadingBy, before_instances, by_pieces}
 use Rattle.p21_reader.specs.Steps.{OnFault}
 use Rattle.p21_reader.specs.Stopped.{IsStopped}
-use Rattle.p21_reader.specs.Values.{Whole, whole, IsJudged, instances_in, CarryNoFault, HaveInstances}
+use Rattle.p21_reader.specs.Values.{Whole, whole, instances_in, CarryNoFault, HaveInstances}
 
 -- the whole instances are said to have no fault by themselves
 abbrev OwnNone : List Whole → Type 0
@@ -122,23 +121,28 @@ stopped_returned judges s file lanes e (Err x) fault stopped = tt
 stopped_returned judges s file lanes (stop.Fault f) (Ok r) fault stopped = dealing.nothing fault stopped.3
 stopped_returned judges s file lanes stop.Memory (Ok r) fault stopped = absurd stopped
 
--- what a cutter gives that was made of this file at this place, with no piece given, are the file's pieces from there on
-pub cut_behind : (cutter : Cutter) (file : List ℕ) (at : ℕ) (ps : List Cut) (tail : ℕ) → file_of cutter ≡ file → place_of cutter ≡ at → number_of cutter ≡ 0 → Gives cutter ps tail → PiecesAre file at 0 ps tail
-cut_behind cutter file at ps tail of_file of_place of_number gives =
-    let numbered = subst (λ n. PiecesAre (file_of cutter) (place_of cutter) n ps tail) of_number gives in
-    let placed = subst (λ p. PiecesAre (file_of cutter) p 0 ps tail) of_place numbered in
-    subst (λ f. PiecesAre f at 0 ps tail) of_file placed
-
--- by judges that judge against the schema
-abbrev IsReadLocally : Schema → List ℕ → ℕ → Reading → Type 0
-IsReadLocally s file lanes r = IsReadBy (λ p v. IsJudged s p (value_of v)) s file lanes r
-
--- a reading by lanes that judge against the schema is the reading of the file
-pub reading_by : (s : Schema) (file : List ℕ) (lanes : ℕ) (r : Result Reading ReadError) → LocalReadingIsReading s file → IfOk r (IsReadLocally s file lanes) → IfOk r (λ reading. IsReading s file (plain_answer reading.answer))
-reading_by s file lanes (Err e) law by = tt
-reading_by s file lanes (Ok r) law by = (law by.pieces (plain_answer r.answer) by.answer).0
+-- the pieces of a reading by what is said of them are those of the file
+pub pieces_of : (judges : Piece → Judged → Type 0) (s : Schema) (file : List ℕ) (ps : List Piece) (answer : Result (List Instance) Fault) → IsReadingBy s file judges ps answer → ArePiecesOf s file (map plain_piece ps)
+pieces_of judges s file _ _ (before_instances f) = pieces.none f
+pieces_of judges s file ps _ (by_pieces js begins header cut said answer) = pieces.behind_preface begins header cut
 
 -- the pieces of the file were dealt
-pub pieces_by : (s : Schema) (file : List ℕ) (lanes : ℕ) (r : Result Reading ReadError) → LocalReadingIsReading s file → IfOk r (IsReadLocally s file lanes) → IfOk r (λ reading. PiecesAreDealt s file lanes reading.dealt.items reading.receipts.items)
-pieces_by s file lanes (Err e) law by = tt
-pieces_by s file lanes (Ok r) law by = record { pieces = by.pieces; of_file = (law by.pieces (plain_answer r.answer) by.answer).1; as_dealt = by.dealt }
+pub pieces_by : (judges : Piece → Judged → Type 0) (s : Schema) (file : List ℕ) (lanes : ℕ) (r : Result Reading ReadError) → IfOk r (IsReadBy judges s file lanes) → IfOk r (λ reading. PiecesAreDealt s file lanes reading.dealt.items reading.receipts.items)
+pieces_by judges s file lanes (Err e) by = tt
+pieces_by judges s file lanes (Ok r) by = record { pieces = by.pieces; of_file = pieces_of judges s file by.pieces (plain_answer r.answer) by.answer; as_dealt = by.dealt }
+
+-- a judge that says what pieces are by themselves says so of each
+said_locally : (judges : Piece → Judged → Type 0) (s : Schema) (ps : List Piece) (js : List Judged) → SaysLocally judges s → AllZip judges ps js → AllZip (JudgesLocally s) ps js
+said_locally judges s [] [] local said = tt
+said_locally judges s [] (j ∷ js) local said = absurd said
+said_locally judges s (p ∷ ps) [] local said = absurd said
+said_locally judges s (p ∷ ps) (j ∷ js) local said = (local p j said.0, said_locally judges s ps js local said.1)
+
+pub local_by : (judges : Piece → Judged → Type 0) (s : Schema) (file : List ℕ) (ps : List Piece) (answer : Result (List Instance) Fault) → SaysLocally judges s → IsReadingBy s file judges ps answer → IsReadingBy s file (JudgesLocally s) ps answer
+local_by judges s file _ _ local (before_instances f) = before_instances f
+local_by judges s file ps _ local (by_pieces js begins header cut said answer) = by_pieces js begins header cut (said_locally judges s ps js local said) answer
+
+-- a reading by lanes that judge against the schema is the reading of the file
+pub reading_by : (judges : Piece → Judged → Type 0) (s : Schema) (file : List ℕ) (lanes : ℕ) (r : Result Reading ReadError) → LocalReadingIsReading s file → SaysLocally judges s → IfOk r (IsReadBy judges s file lanes) → IfOk r (λ reading. IsReading s file (plain_answer reading.answer))
+reading_by judges s file lanes (Err e) law local by = tt
+reading_by judges s file lanes (Ok r) law local by = (law by.pieces (plain_answer r.answer) (local_by judges s file by.pieces (plain_answer r.answer) local by.answer)).0

@@ -1,26 +1,33 @@
 -- The pieces of a file that is a sentence are its instances.
-use Rattle.std.proofs.Common.{◌≡◌, ◌⊎◌, inl, inr, ℕ, ◌+◌, List, [], ◌∷◌, ◌++◌, map, refl, sym, ap, subst, ◌∙◌, append_assoc}
+use Rattle.std.proofs.Common.{◌≡◌, ◌⊎◌, inl, inr, ℕ, ◌+◌, List, [], ◌∷◌, ◌++◌, map, Some, None, refl, sym, ap, subst, ◌∙◌, append_assoc}
 use Rattle.std.specs.List.{AllZip}
 use Rattle.p21_text.specs.Spelling.{Symbol}
 use Rattle.p21_text.specs.Spelling as token
 use Rattle.p21_text.specs.Tokens.{Placed, First, Tokens, TokensUpTo}
 use Rattle.p21_text.specs.Tokens as tokens
 use Rattle.p21_express.specs.Schema.{Schema}
+use Rattle.p21_tree.specs.declared.faults.Fault.{Fault}
+use Rattle.p21_tree.specs.declared.faults.FaultKind.{FaultKind}
 use Rattle.p21_tree.specs.declared.pieces.Piece.{Piece}
 use Rattle.p21_tree.specs.Sentence.{Instance, Opening, IsInstance, IsInstances, IsPreface, IsTail, deepest, endsec_word}
 use Rattle.p21_tree.specs.Sentence as sentence
-use Rattle.p21_tree.specs.Texts.{shift, shifted, HasTail}
+use Rattle.p21_tree.specs.Texts.{shift, shifted, BeginsPreface, HasTail}
 use Rattle.p21_tree.specs.InOrder.{BeginsWithName, HasNoSemi, InstanceHasOneSemi}
 use Rattle.p21_cut.specs.Pieces as cut
 use Rattle.p21_cut.specs.Pieces.{IsNext, PiecesAre}
 use Rattle.p21_cut.specs.Cutter.{plain_piece}
+use Rattle.p21_cut.specs.Laws.{HasOneCuttingAtMost}
 use Rattle.p21_cut.specs.Tokens.{AreOfPiece, FileTokensAreOfPiece, PieceBeginsWithName, FileTokensAreOfTail}
+use Rattle.p21_check.specs.Header.{IsHeaderFault}
+use Rattle.p21_check.specs.Laws.{HasOneHeaderFault}
+use Rattle.p21_reader.specs.LocalFault.{IsOpeningFault}
+use Rattle.p21_reader.specs.LocalFault as fault
 use Rattle.p21_reader.specs.PiecesOf.{ArePiecesOf}
 use Rattle.p21_reader.specs.PiecesOf as own
-use Rattle.p21_reader.specs.Laws.{IsPieceOf, PiecesAreInstances, PiecesOfFileAreInstances}
+use Rattle.p21_reader.specs.Laws.{HasOneListOfPiecesAtMost, IsPieceOf, PiecesAreInstances, PiecesOfFileAreInstances}
 use Rattle.p21_reader.proofs.TokenLemmas.{shifted_snoc}
 use Rattle.p21_reader.proofs.ReadLemmas.{begins_opening}
-use Rattle.p21_reader.proofs.FrontLemmas.{TreeLaws, all_of_file, beginnings, same_place, whole_split, word_first}
+use Rattle.p21_reader.proofs.FrontLemmas.{TreeLaws, all_of_file, beginnings, no_preface, same_place, whole_split, word_first}
 
 -- the laws of tokens that this stands on
 pub record NextLaws : Type 0 where
@@ -127,3 +134,25 @@ of_file_are_instances laws trees s file o is ps whole none h = by_pieces (map pl
       let all = all_of_file trees.firsts file o is whole in
       let same : u ≡ o = (beginnings trees file u o [] is u.data_at all.end (begins_opening file u begins) all.begins).0 in
       (are_instances laws file o is ps end whole (subst (λ x. PiecesAre file x.data_at 0 (map plain_piece ps) end) same (subst (λ l. PiecesAre file u.data_at 0 l end) (sym e) n))).0
+
+-- ---- one list of pieces
+
+module _ (trees : TreeLaws) (headers : (s : Schema) → (o : Opening) → HasOneHeaderFault s o) (cuttings : (file : List ℕ) → (at : ℕ) → HasOneCuttingAtMost file at) where
+  one_preface : (file : List ℕ) (o u : Opening) → BeginsPreface file o → BeginsPreface file u → o ≡ u
+  one_preface file o u b d = (beginnings trees file o u [] [] o.data_at u.data_at (begins_opening file o b) (begins_opening file u d)).0
+
+  no_header : (s : Schema) (o : Opening) (kind : FaultKind) → IsHeaderFault s o (Some kind) → IsHeaderFault s o None → ⊥
+  no_header s o kind h none = (let e = headers s o (Some kind) None h none in cc)
+
+  -- a file with a fault before its instances begins with no preface whose header has none
+  none_before : (s : Schema) (file : List ℕ) (f : Fault) (o : Opening) → IsOpeningFault s file f → BeginsPreface file o → IsHeaderFault s o None → ⊥
+  none_before s file f o (fault.in_preface h) b header = no_preface trees.firsts file f o [] o.data_at h (begins_opening file o b)
+  none_before s file f o (fault.in_header {o = u} {kind} d h) b header = no_header s o kind (subst (λ x. IsHeaderFault s x (Some kind)) (one_preface file u o d b) h) header
+
+  pub pieces_of_file_once : (s : Schema) (file : List ℕ) → HasOneListOfPiecesAtMost s file
+  pieces_of_file_once s file _ _ (own.none f) (own.none g) = refl
+  pieces_of_file_once s file _ qs (own.none {f} h) (own.behind_preface {o} b header n) = absurd (none_before s file f o h b header)
+  pieces_of_file_once s file ps _ (own.behind_preface {o} b header n) (own.none {f} h) = absurd (none_before s file f o h b header)
+  pieces_of_file_once s file ps qs (own.behind_preface {o} {end} b header n) (own.behind_preface {o = u} {end = other} d also m) =
+      let moved : PiecesAre file o.data_at 0 qs other = subst (λ x. PiecesAre file x.data_at 0 qs other) (one_preface file u o d b) m in
+      (cuttings file o.data_at 0 ps qs end other n moved).0

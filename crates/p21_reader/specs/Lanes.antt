@@ -85,3 +85,7 @@ AnswersReturned judges s file lanes r = HaveReturned judges (λ tail outs. IsAns
 -- pieces are judged as they are by themselves
 abbrev pub JudgesLocally : Schema → Piece → Judged → Type 0
 JudgesLocally s p j = IsJudged s p (value_of j)
+
+-- a judge says of a piece what it is by itself, and nothing else
+abbrev pub SaysLocally : (Piece → Judged → Type 0) → Schema → Type 0
+SaysLocally judges s = (p : Piece) (j : Judged) → judges p j → JudgesLocally s p j

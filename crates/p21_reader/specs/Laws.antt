@@ -7,6 +7,7 @@ use Rattle.p21_tree.specs.declared.pieces.Piece.{Piece}
 use Rattle.p21_tree.specs.Sentence.{Instance, Opening}
 use Rattle.p21_tree.specs.Texts.{BeginsPreface, IsFileText, IsPieceText, HasTail}
 use Rattle.p21_cut.specs.Pieces.{PiecesAre}
+use Rattle.p21_cut.specs.Pieces.{Piece as Cut}
 use Rattle.p21_cut.specs.Cutter.{plain_piece}
 use Rattle.p21_check.specs.Header.{IsHeaderFault}
 use Rattle.p21_reader.specs.GrammarOutcome.{ReadsParts, IsOutcomeOf}
@@ -20,6 +21,10 @@ use Rattle.p21_reader.specs.Values.{Value, IsJudged, IsAnswerTo}
 -- no two answers are the reading of the file
 abbrev pub HasOneReadingAtMost : Schema → List ℕ → Type 0
 HasOneReadingAtMost s file = (a b : Result (List Instance) Fault) → IsReading s file a → IsReading s file b → a ≡ b
+
+-- no two lists are the pieces of the file against the schema
+abbrev pub HasOneListOfPiecesAtMost : Schema → List ℕ → Type 0
+HasOneListOfPiecesAtMost s file = (ps qs : List Cut) → ArePiecesOf s file ps → ArePiecesOf s file qs → ps ≡ qs
 
 -- Behind a preface, reading the pieces of a file in order and then its tail gives the tree of the file, or its grammar fault
 -- and the instances that stand whole before it.

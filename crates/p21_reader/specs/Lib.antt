@@ -8,6 +8,7 @@ pub mod Steps
 pub mod Judged
 pub mod Gathering
 pub mod PiecesOf
+pub mod Pieces
 pub mod ReadingBy
 pub mod Laws
 pub mod Lanes

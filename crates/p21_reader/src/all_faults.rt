@@ -25,7 +25,6 @@ use crate::pieces::Pieces;
 use crate::reading::ReadError;
 use crate::stop::Stop;
 use p21_crew::{Gate, Returned};
-use p21_cut::Cutter;
 use p21_desk::LaneCount;
 use p21_join::{Model, ModelEntities};
 use p21_lanes::{Capacity, Receipt};
@@ -76,9 +75,7 @@ pub fn read_all_faults<'a, G: Gate + Sync, R: Threads + Wait + Sync>(
         Ok(preface) => preface,
         Err(stop) => return AllFaults::stopped(alloc, stop),
     };
-    let pieces = Pieces {
-        cutter: Cutter::new(file, preface.data_at as usize),
-    };
+    let pieces = Pieces::new(file, preface.data_at as usize);
     let work = Judging {
         judge: &Locally,
         schema,

@@ -1,10 +1,10 @@
 //! Judging pieces as the work of a crew.
 
-ghost use Rattle.std.specs.Prelude.{◌≤◌, List, [], length, map, IfOk};
+ghost use Rattle.std.specs.Prelude.{List, [], IfOk};
 ghost use Rattle.p21_tree.specs.declared.pieces.Piece.{Piece};
-ghost use Rattle.p21_cut.specs.Cutter.{Gives, file_of, plain_piece};
 ghost use Rattle.p21_crew.specs.Run.{IsRun};
 ghost use Rattle.p21_reader.specs.Lanes.{IsStated};
+ghost use Rattle.p21_reader.specs.Pieces.{AreGiven};
 ghost use Rattle.p21_reader.specs.declared.judged.Judgement.{Judgement};
 
 use crate::ahead::Ahead;
@@ -84,7 +84,7 @@ pub(crate) fn judge_pieces<
 ) -> Result<Run<Piece<'a>, Judgement<'a>, A>, AllocError>
     requires { A.holds gathering [] }
     ensures { IfOk result (λ run. (ps : List Piece) × (js : List Judgement)
-        × (Gives pieces.entry.cutter (map plain_piece ps) run.tail × (run.tail ≤ length (file_of pieces.entry.cutter)))
+        × AreGiven pieces.entry ps run.tail
         × IsRun (IsStated (E.judges judging.now.judge.now judging.now.schema.now) judging.now.schema.now) lanes ps js run.dealt.items run.receipts.items run.returned.items
         × A.holds run.gatherer js) }
 {

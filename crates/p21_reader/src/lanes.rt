@@ -9,7 +9,7 @@ ghost use Rattle.p21_refs.specs.FirstReferenceFault.{AreAnswered, AreSound, IsFi
 ghost use Rattle.p21_reader.specs.Answer.{plain_answer};
 ghost use Rattle.p21_reader.specs.Gathering.{IsGathered};
 ghost use Rattle.p21_reader.specs.Judged.{values_of};
-ghost use Rattle.p21_reader.specs.Lanes.{AnswersReturned, AreGathered, IsStated, FindsEachFault, IsReadBy, JudgesLocally, PiecesAreDealt};
+ghost use Rattle.p21_reader.specs.Lanes.{AnswersReturned, AreGathered, IsStated, FindsEachFault, IsReadBy, JudgesLocally, PiecesAreDealt, SaysLocally};
 ghost use Rattle.p21_reader.specs.Reading.{IsReading};
 ghost use Rattle.p21_reader.specs.Values.{IsAnswerTo};
 ghost use Rattle.p21_reader.specs.declared.judged.Judgement.{Judgement};
@@ -22,7 +22,6 @@ use crate::local::checked_preface;
 use crate::pieces::Pieces;
 use crate::reading::{ReadError, Reading};
 use p21_crew::{Gate, run_crew};
-use p21_cut::Cutter;
 use p21_desk::LaneCount;
 use p21_join::{Model, ModelEntities};
 use p21_lanes::Capacity;
@@ -53,7 +52,6 @@ pub fn read_lanes<'a, G: Gate + Sync, R: Threads + Wait + Sync>(
     ensures returned { IfOk result (AnswersReturned (JudgesLocally schema.now) schema.now file.now lanes) }
     ensures answer { IfOk result (λ reading. IsReading schema.now file.now (plain_answer reading.answer)) }
 {
-    values_give_reading();
     read_pieces(rt, alloc, schema, &Locally, gate, file, lanes, capacity)
 }
 
@@ -101,15 +99,16 @@ fn read_pieces<'a, E: EntityJudge + Sync, G: Gate + Sync, R: Threads + Wait + Sy
 ) -> Result<Reading<'a>, ReadError>
     requires { FindsEachFault (E.judges judge.now schema.now) schema.now }
     ensures reading { IfOk result (IsReadBy (E.judges judge.now schema.now) schema.now file.now lanes) }
+    ensures pieces { IfOk result (λ reading. PiecesAreDealt schema.now file.now lanes reading.dealt.items reading.receipts.items) }
     ensures returned { IfOk result (AnswersReturned (E.judges judge.now schema.now) schema.now file.now lanes) }
+    ensures answer { SaysLocally (E.judges judge.now schema.now) schema.now → IfOk result (λ reading. IsReading schema.now file.now (plain_answer reading.answer)) }
 {
+    values_give_reading();
     let preface = match checked_preface(alloc, schema, file) {
         Ok(preface) => preface,
         Err(stop) => return Reading::stopped(alloc, stop),
     };
-    let pieces = Pieces {
-        cutter: Cutter::new(file, preface.data_at as usize),
-    };
+    let pieces = Pieces::new(file, preface.data_at as usize);
     let work = Judging { judge, schema };
     let gathering = Gathering::new(alloc, schema);
     let Ok(run) = run_crew(rt, alloc, &work, gate, pieces, gathering, lanes, capacity) else {

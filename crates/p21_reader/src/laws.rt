@@ -2,10 +2,10 @@
 
 ghost use Rattle.std.specs.Prelude.{ℕ, List};
 ghost use Rattle.p21_express.specs.Schema.{Schema};
-ghost use Rattle.p21_reader.specs.Laws.{HasOneReadingAtMost, LocalReadingIsReading, PiecesAreInstances, PiecesGiveFile, PiecesOfFileAreInstances, ValuesGiveReading};
+ghost use Rattle.p21_reader.specs.Laws.{HasOneListOfPiecesAtMost, HasOneReadingAtMost, LocalReadingIsReading, PiecesAreInstances, PiecesGiveFile, PiecesOfFileAreInstances, ValuesGiveReading};
 
 use p21_check::{one_header_fault, one_local_fault, one_reference_fault};
-use p21_cut::{first_tokens_of_file, tokens_of_next_piece};
+use p21_cut::{first_tokens_of_file, pieces_are_unique, tokens_of_next_piece};
 use p21_text::{first_is_unique, tokens_are_unique};
 use p21_tree::{
     faults_of_tokens, one_beginning, one_fault_at_most, one_semicolon, one_tree, parts_up_to_fault,
@@ -24,6 +24,17 @@ pub fn one_reading()
     one_header_fault();
     one_local_fault();
     one_reference_fault();
+}
+
+/// A file has at most one list of pieces against a schema. So where two readings by lanes speak of its pieces, they speak of the same.
+pub fn one_list_of_pieces()
+    ensures { (s : Schema) → (file : List ℕ) → HasOneListOfPiecesAtMost s file }
+{
+    pieces_are_unique();
+    first_is_unique();
+    one_tree();
+    one_beginning();
+    one_header_fault();
 }
 
 /// Behind a preface, reading the pieces of a file in order and then its tail gives the tree of the file, or its grammar fault

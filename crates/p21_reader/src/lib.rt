@@ -21,7 +21,10 @@ pub use all_faults::{AllFaults, read_all_faults};
 pub use all_laws::{all_begin_with_reading, one_list_of_faults, values_give_all_faults};
 pub use judged::{Judge, Judged, Judgement, LocalReader};
 pub use lanes::{read_lanes, read_lanes_by};
-pub use laws::{one_reading, pieces_are_instances, pieces_in_order, values_give_reading};
+pub use laws::{
+    one_list_of_pieces, one_reading, pieces_are_instances, pieces_in_order, values_give_reading,
+};
+pub use pieces::Pieces;
 pub use reading::{ReadError, Reading};
 pub use run::{Run, run_lanes};
 pub use serial::read_serial;

@@ -7,7 +7,6 @@ use crate::judged::{Judge, Judged};
 use crate::judging::Asking;
 use crate::pieces::Pieces;
 use p21_crew::{Gate, Gathers, Returned, run_crew};
-use p21_cut::Cutter;
 use p21_desk::LaneCount;
 use p21_lanes::{Capacity, Receipt};
 use p21_tree::Piece;
@@ -65,9 +64,7 @@ pub fn run_lanes<'a, J: Judge + Sync, G: Gate + Sync, R: Threads + Wait + Sync>(
     requires { at ≤ length file.now }
     ensures { IfOk result (IsRunBy (J.judges judge.now) file.now at lanes) }
 {
-    let pieces = Pieces {
-        cutter: Cutter::new(file, at),
-    };
+    let pieces = Pieces::new(file, at);
     let work = Asking { judge };
     let in_order = InOrder {
         outs: Vec::new(alloc),

@@ -1,13 +1,13 @@
-use Rattle.p21_cut.specs.Cutter.{plain_piece}
-use Rattle.std.proofs.Common.{List, map}
 use Rattle.p21_tree.specs.Views.{plain_preface}
 use Rattle.p21_reader.specs.AllAnswer.{plain_all}
 use Rattle.p21_reader.specs.Judged.{values_of}
 use Rattle.p21_reader.specs.Lanes as dealing
 use Rattle.p21_reader.specs.PiecesOf.{behind_preface}
 use Rattle.p21_reader.proofs.AllLaneLemmas.{judged_stated, stopped_all_returned, stopped_answer, stopped_pieces}
-use Rattle.p21_reader.proofs.LaneLemmas.{cut_behind}
 use Rattle.p21_reader.proofs.all_faults.read_all_faults.Goals as goal
+
+pub conclude-requires-clause-within : goal.conclude-requires-clause-within
+conclude-requires-clause-within g c κs within = c.new-pieces.ensures.within c.in-Ok-judge_pieces.ensures.0 c.in-Ok-judge_pieces.run'.tail c.in-Ok-judge_pieces.ensures.2
 
 pub returns-in-Err-clause-pieces : goal.returns-in-Err-clause-pieces
 returns-in-Err-clause-pieces g c = stopped_pieces c.args.schema.now c.args.file.now c.args.lanes _ c.stopped.result c.in-Err.ensures.fault c.stopped.ensures
@@ -22,7 +22,7 @@ pub returns-clause-pieces : goal.returns-clause-pieces
 returns-clause-pieces g c =
     let all = c.in-Ok-judge_pieces.ensures in
     let run = all.3 in
-    let cut = cut_behind c.new.result c.args.file.now c.in-Ok.preface.data_at (map plain_piece all.0) c.in-Ok-judge_pieces.run'.tail c.new.ensures.file c.new.ensures.place c.new.ensures.number all.2.0 in
+    let cut = c.new-pieces.ensures.of_file all.0 c.in-Ok-judge_pieces.run'.tail all.2 in
     record {
       pieces = all.0;
       of_file = behind_preface c.in-Ok.ensures.begins c.in-Ok.ensures.header cut;
@@ -32,7 +32,7 @@ returns-clause-pieces g c =
 pub returns-clause-returned : goal.returns-clause-returned
 returns-clause-returned g c =
     let all = c.in-Ok-judge_pieces.ensures in
-    let cut = cut_behind c.new.result c.args.file.now c.in-Ok.preface.data_at (map plain_piece all.0) c.in-Ok-judge_pieces.run'.tail c.new.ensures.file c.new.ensures.place c.new.ensures.number all.2.0 in
+    let cut = c.new-pieces.ensures.of_file all.0 c.in-Ok-judge_pieces.run'.tail all.2 in
     dealing.results all.0 all.1 c.in-Ok.ensures.begins c.in-Ok.ensures.header cut all.3 (c.in-Ok-conclude.ensures all.0 all.1 all.4 all.3.values)
 
 pub returns-clause-answer : goal.returns-clause-answer
@@ -41,6 +41,6 @@ returns-clause-answer g c =
     let file = c.args.file.now in
     let all = c.in-Ok-judge_pieces.ensures in
     let tail = c.in-Ok-judge_pieces.run'.tail in
-    let cut = cut_behind c.new.result file c.in-Ok.preface.data_at (map plain_piece all.0) tail c.new.ensures.file c.new.ensures.place c.new.ensures.number all.2.0 in
+    let cut = c.new-pieces.ensures.of_file all.0 tail all.2 in
     c.values_give_all_faults.ensures s file (plain_preface c.in-Ok.preface) all.0 tail (values_of all.1) (plain_all c.in-Ok-conclude.answer) c.in-Ok.ensures.begins c.in-Ok.ensures.header cut
     (judged_stated s all.0 all.1 all.3.values) (c.in-Ok-conclude.ensures all.0 all.1 all.4 all.3.values)
