@@ -25,9 +25,27 @@ pub struct AttrId {
     pub(crate) index: usize,
 }
 
+impl AttrId {
+    /// Its place among the newly declared explicit attributes of its schema, in the order of the text.
+    pub fn place(self) -> usize
+        ensures { result ≡ self.index }
+    {
+        self.index
+    }
+}
+
 /// A type of a schema.
 #[derive(Clone, Copy, Debug, PartialEq, Eq)]
 pub struct TypeId {
     /// Its place among the types, in the order of the text.
     pub(crate) index: usize,
+}
+
+impl TypeId {
+    /// Its place among the types of its schema, in the order of the text.
+    pub fn place(self) -> usize
+        ensures { result ≡ self.index }
+    {
+        self.index
+    }
 }

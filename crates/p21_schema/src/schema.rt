@@ -75,7 +75,7 @@ impl Drop for Schema {
 
 impl Schema {
     ghost use Rattle.p21_express.specs.Plain.{plain_schema};
-    ghost use Rattle.p21_express.specs.WellFormed.{IsEntity, IsWellFormed, Origin};
+    ghost use Rattle.p21_express.specs.WellFormed.{IsEntity, IsType, IsWellFormed, Origin};
     ghost use Rattle.p21_schema.specs.declared.ids.EntityId.{EntityId};
     ghost use Rattle.p21_schema.specs.declared.ids.AttrId.{AttrId};
     ghost use Rattle.p21_schema.specs.declared.ids.TypeId.{TypeId};
@@ -205,6 +205,13 @@ impl Schema {
         ensures { result.now ≡ entity_name self.now entity }
     {
         &self.declarations.entities[entity.index].name
+    }
+
+    /// The type of this name, or `None` where there is none.
+    pub fn type_named(&self, name: &[u8]) -> Option<TypeId>
+        ensures { MatchOption result (¬ (IsType self.now name.now)) (λ t. IsTypeOf self.now t × (type_name self.now t ≡ name.now)) }
+    {
+        self.type_names.place(name).map(|index| TypeId { index })
     }
 
     /// Whether ABSTRACT SUPERTYPE stands behind the entity's name.
