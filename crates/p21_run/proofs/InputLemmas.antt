@@ -1,7 +1,7 @@
 -- What some calls of `read` gave is what there was to read.
 use Rattle.std.proofs.Common.{◌≡◌, ℕ, ◌+◌, ◌<◌, ◌≤◌, Bool, true, false, ◌||◌, Some, None, arith, length-append, List, [], ◌++◌, Option, Result, Ok, Err, length, take, refl, sym, ap, subst, ◌∙◌, append-nil}
 use Rattle.std.specs.Prelude.{IfSome}
-use Rattle.std.specs.Io.KnownBytes.{ReadConsumes, Consumes}
+use Rattle.std.specs.Io.KnownBytes.{ReadConsumes, Consumes, IsAtEnd}
 use Rattle.std.proofs.lemmas.Bool.{false≢true}
 use Rattle.std.proofs.KnownBytes.{Consumes-all, Consumes-trans, Consumes-kept}
 
@@ -33,6 +33,10 @@ pub never_failed : {P : Type 0} (old new : Bool) → new ≡ old → old ≡ fal
 never_failed old new same was is = absurd (false≢true (sym was ∙ sym same ∙ is))
 
 module _ {E : Type 0} where
+  -- a read of nothing into some room is at the end
+  pub read_stops : (b c : Option (List ℕ)) (r : Result ℕ E) (n : ℕ) (buf : List ℕ) → ReadConsumes b c r buf → r ≡ Ok n → n ≡ 0 → 0 < length buf → IsAtEnd c
+  read_stops b c r n buf read e zero some = (subst (λ x. ReadConsumes b c x buf) e read).1 zero some
+
   pub read_end : (a b c : Option (List ℕ)) (r : Result ℕ E) (n : ℕ) (buf bytes : List ℕ) → Consumes a b bytes → ReadConsumes b c r buf → r ≡ Ok n → n ≡ 0 → 0 < length buf → IfSome a (λ all. bytes ≡ all)
   read_end a b c r n buf bytes before read e zero some =
       let now = subst (λ x. ReadConsumes b c x buf) e read in

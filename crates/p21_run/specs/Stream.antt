@@ -10,6 +10,6 @@ inner_of s = s.inner
 abbrev pub mark_of : {T : Type 0} → Stream T → Bool
 mark_of s = s.marked
 
--- whether a read ever failed
+-- whether a read or a write ever failed
 abbrev pub failure_of : {T : Type 0} → Stream T → Bool
 failure_of s = s.failed

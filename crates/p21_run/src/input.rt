@@ -1,6 +1,7 @@
 //! Reading a whole input within bounds.
 
 ghost use Rattle.std.specs.Prelude.{◌≡◌, ◌+◌, ◌<◌, ◌≤◌, ◌++◌, false, true, length, vec_len, min, Err, IfOk, IfSome, OnOk};
+ghost use Rattle.std.specs.Io.KnownBytes.{IsAtEnd};
 ghost use Rattle.p21_run.specs.declared.input.InputError.TheVariants.{Device, Memory};
 
 use crate::source::{IoFault, Source};
@@ -55,6 +56,7 @@ pub(crate) fn read_bounded<S: Source>(
 ) -> Result<Vec<u8>, InputError>
     ensures whole { IfOk result (λ bytes. IfSome (S.remaining source.old) (λ all. bytes.items ≡ all)) }
     ensures bounded { IfOk result (λ bytes. vec_len bytes ≤ bounds.bytes) }
+    ensures at_end { IfOk result (λ _. IsAtEnd (S.remaining source.new)) }
     ensures cause { result ≡ Err Device → S.marked source.new ≡ false → IfSome (S.remaining source.old) (λ all. min bounds.bytes bounds.calls ≤ length all) }
     ensures failed { S.failed source.old ≡ false → S.failed source.new ≡ true → result ≡ Err Device }
 {

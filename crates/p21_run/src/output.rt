@@ -21,6 +21,7 @@ pub(crate) fn write_bounded<S: Sink>(
     ensures whole { OnOk result (Appends (S.taken sink.old) (S.taken sink.new) text.now) }
     ensures front { OnErr result ((n : ℕ) × Appends (S.taken sink.old) (S.taken sink.new) (take n text.now)) }
     ensures cause { OnErr result (S.marked sink.new ≡ false → calls ≤ length text.now) }
+    ensures unfailed { OnOk result (S.failed sink.new ≡ S.failed sink.old) }
 {
     let mut rest = text;
     for _ in 0..calls {

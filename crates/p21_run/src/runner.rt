@@ -5,7 +5,7 @@ ghost use Rattle.p21_express.specs.Plain.{plain_schema};
 ghost use Rattle.p21_express.specs.WellFormed.{IsWellFormed};
 ghost use Rattle.p21_schema.specs.Rules.{with_rules};
 ghost use Rattle.p21_run.specs.Due.{IsDue, IsReport, Writes, IsLong, IsLongText, most_calls, most_file_bytes, most_schema_bytes};
-ghost use Rattle.std.specs.Io.KnownBytes.{Keeps};
+ghost use Rattle.std.specs.Io.KnownBytes.{IsAtEnd, Keeps};
 ghost use Rattle.p21_express.specs.Answer.{HasNoReading};
 ghost use Rattle.p21_express.specs.Reading.{IsReading};
 ghost use Rattle.p21_express.specs.Schema.{Schema};
@@ -60,6 +60,9 @@ pub fn run<R: Threads + Wait + Sync, G: Gate + Sync, S: Source, F: Source, K: Si
     ensures overlong_file { (schema_text file : List ℕ) → (s : Schema) → S.remaining schema_in.old ≡ Some schema_text → IsReading schema_text s → F.remaining file_in.old ≡ Some file → most_file_bytes < length file → (result ≡ Device ⊎ result ≡ Memory) × (out.new ≡ out.old) }
     ensures schema_failed { S.failed schema_in.old ≡ false → S.failed schema_in.new ≡ true → (result ≡ Device) × (file_in.new ≡ file_in.old) × (out.new ≡ out.old) }
     ensures file_failed { F.failed file_in.old ≡ false → F.failed file_in.new ≡ true → (result ≡ Device) × (out.new ≡ out.old) }
+    ensures writer_failed { K.failed out.old ≡ false → K.failed out.new ≡ true → result ≡ Device }
+    ensures schema_remains { ¬ (IsAtEnd (S.remaining schema_in.new)) → (result ≡ Device ⊎ result ≡ Memory) × (file_in.new ≡ file_in.old) × (out.new ≡ out.old) }
+    ensures file_remains { (schema_text file : List ℕ) → (s : Schema) → S.remaining schema_in.old ≡ Some schema_text → IsReading schema_text s → F.remaining file_in.old ≡ Some file → ¬ (IsAtEnd (F.remaining file_in.new)) → (result ≡ Device ⊎ result ≡ Memory) × (out.new ≡ out.old) }
     ensures unwritten { result ≡ Device → K.marked out.new ≡ false → (schema_text file : List ℕ) → S.remaining schema_in.old ≡ Some schema_text → F.remaining file_in.old ≡ Some file → Keeps (K.taken out.old) (K.taken out.new) ⊎ IsLongText all rules schema_text file }
     ensures cause { result ≡ Device → S.marked schema_in.new ≡ false → F.marked file_in.new ≡ false → K.marked out.new ≡ false → (schema_text file : List ℕ) → S.remaining schema_in.old ≡ Some schema_text → F.remaining file_in.old ≡ Some file → IsLong all rules schema_text file }
 {
@@ -110,6 +113,9 @@ pub fn run_heard<
     ensures overlong_file { (schema_text file : List ℕ) → (s : Schema) → S.remaining schema_in.old ≡ Some schema_text → IsReading schema_text s → F.remaining file_in.old ≡ Some file → most_file_bytes < length file → (result ≡ Device ⊎ result ≡ Memory) × (out.new ≡ out.old) }
     ensures schema_failed { S.failed schema_in.old ≡ false → S.failed schema_in.new ≡ true → (result ≡ Device) × (file_in.new ≡ file_in.old) × (out.new ≡ out.old) }
     ensures file_failed { F.failed file_in.old ≡ false → F.failed file_in.new ≡ true → (result ≡ Device) × (out.new ≡ out.old) }
+    ensures writer_failed { K.failed out.old ≡ false → K.failed out.new ≡ true → result ≡ Device }
+    ensures schema_remains { ¬ (IsAtEnd (S.remaining schema_in.new)) → (result ≡ Device ⊎ result ≡ Memory) × (file_in.new ≡ file_in.old) × (out.new ≡ out.old) }
+    ensures file_remains { (schema_text file : List ℕ) → (s : Schema) → S.remaining schema_in.old ≡ Some schema_text → IsReading schema_text s → F.remaining file_in.old ≡ Some file → ¬ (IsAtEnd (F.remaining file_in.new)) → (result ≡ Device ⊎ result ≡ Memory) × (out.new ≡ out.old) }
     ensures unwritten { result ≡ Device → K.marked out.new ≡ false → (schema_text file : List ℕ) → S.remaining schema_in.old ≡ Some schema_text → F.remaining file_in.old ≡ Some file → Keeps (K.taken out.old) (K.taken out.new) ⊎ IsLongText all rules schema_text file }
     ensures cause { result ≡ Device → S.marked schema_in.new ≡ false → F.marked file_in.new ≡ false → K.marked out.new ≡ false → (schema_text file : List ℕ) → S.remaining schema_in.old ≡ Some schema_text → F.remaining file_in.old ≡ Some file → IsLong all rules schema_text file }
 {
@@ -146,7 +152,10 @@ fn report<R: Threads + Wait + Sync, G: Gate + Sync, S: Source, F: Source, L: Lis
     ensures due { (schema_text file : List ℕ) → S.remaining schema_in.old ≡ Some schema_text → F.remaining file_in.old ≡ Some file → IfOk result (λ report. IsDue by.now.all rules schema_text file report.outcome report.text.items) }
     ensures schema_bounded { IfOk result (λ _. (schema_text : List ℕ) → S.remaining schema_in.old ≡ Some schema_text → length schema_text ≤ most_schema_bytes) }
     ensures file_bounded { IfOk result (λ report. report.outcome ≡ Complete ⊎ report.outcome ≡ Faulty → (file : List ℕ) → F.remaining file_in.old ≡ Some file → length file ≤ most_file_bytes) }
+    ensures schema_read { IfOk result (λ _. IsAtEnd (S.remaining schema_in.new)) }
+    ensures file_read { IfOk result (λ report. report.outcome ≡ Complete ⊎ report.outcome ≡ Faulty → IsAtEnd (F.remaining file_in.new)) }
     ensures unread { (schema_text : List ℕ) → S.remaining schema_in.old ≡ Some schema_text → HasNoReading schema_text ⊎ (most_schema_bytes < length schema_text) → file_in.new ≡ file_in.old }
+    ensures unread_behind { ¬ (IsAtEnd (S.remaining schema_in.new)) → file_in.new ≡ file_in.old }
     ensures schema_failed { S.failed schema_in.old ≡ false → S.failed schema_in.new ≡ true → (result ≡ Err Failed) × (file_in.new ≡ file_in.old) }
     ensures file_failed { F.failed file_in.old ≡ false → F.failed file_in.new ≡ true → result ≡ Err Failed }
     ensures cause { result ≡ Err Failed → S.marked schema_in.new ≡ false → F.marked file_in.new ≡ false → (schema_text file : List ℕ) → S.remaining schema_in.old ≡ Some schema_text → F.remaining file_in.old ≡ Some file → (most_calls ≤ length schema_text) ⊎ (most_calls ≤ length file) }
@@ -174,6 +183,7 @@ fn report_against<R: Threads + Wait + Sync, G: Gate + Sync, F: Source, L: Listen
     requires { IsWellFormed (plain_schema declarations) }
     ensures due { (file : List ℕ) → F.remaining file_in.old ≡ Some file → IfOk result (λ report. IsReport by.now.all (with_rules (plain_schema declarations) rules) file report.outcome report.text.items) }
     ensures bounded { IfOk result (λ _. (file : List ℕ) → F.remaining file_in.old ≡ Some file → length file ≤ most_file_bytes) }
+    ensures at_end { IfOk result (λ _. IsAtEnd (F.remaining file_in.new)) }
     ensures failed { F.failed file_in.old ≡ false → F.failed file_in.new ≡ true → result ≡ Err Failed }
     ensures cause { result ≡ Err Failed → F.marked file_in.new ≡ false → (file : List ℕ) → F.remaining file_in.old ≡ Some file → most_calls ≤ length file }
 {
@@ -192,6 +202,7 @@ fn report_of_source<R: Threads + Wait + Sync, G: Gate + Sync, F: Source, L: List
 ) -> Result<Report, InputError>
     ensures due { (file : List ℕ) → F.remaining file_in.old ≡ Some file → IfOk result (λ report. IsReport by.now.all schema.now file report.outcome report.text.items) }
     ensures bounded { IfOk result (λ _. (file : List ℕ) → F.remaining file_in.old ≡ Some file → length file ≤ most_file_bytes) }
+    ensures at_end { IfOk result (λ _. IsAtEnd (F.remaining file_in.new)) }
     ensures failed { F.failed file_in.old ≡ false → F.failed file_in.new ≡ true → result ≡ Err Failed }
     ensures cause { result ≡ Err Failed → F.marked file_in.new ≡ false → (file : List ℕ) → F.remaining file_in.old ≡ Some file → most_calls ≤ length file }
 {

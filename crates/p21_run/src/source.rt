@@ -41,6 +41,9 @@ pub trait Sink {
     // Whether it ever answered a fault, or took no byte of some.
     ghost marked: { Self → Bool };
 
+    // Whether it ever failed: whether one of those faults was more than an interruption.
+    ghost failed: { Self → Bool };
+
     // The bytes that it has taken, where it tells them.
     ghost taken: { Self → Option (List ℕ) } = { λ _. None };
 
@@ -48,7 +51,8 @@ pub trait Sink {
     fn write(&mut self, from: &[u8]) -> Result<usize, IoFault>
         ensures bound { WritesAtMost result from.now }
         ensures bytes { WriteAppends (taken self.old) (taken self.new) result from.now }
-        ensures mark { marked self.new ≡ (marked self.old || is_fault_or_nothing result from.now) };
+        ensures mark { marked self.new ≡ (marked self.old || is_fault_or_nothing result from.now) }
+        ensures failure { failed self.new ≡ (failed self.old || is_failure result) };
 }
 
 /// A reader or a writer of the standard library as a `Source` or a `Sink`. It tells the bytes that the reader or the writer
@@ -108,9 +112,11 @@ impl<R: Read> Source for Stream<R> {
 }
 
 impl<W: Write> Sink for Stream<W> {
-    ghost use Rattle.p21_run.specs.Stream.{inner_of, mark_of};
+    ghost use Rattle.p21_run.specs.Stream.{failure_of, inner_of, mark_of};
 
     ghost marked = { mark_of };
+
+    ghost failed = { failure_of };
 
     ghost taken = { λ s. W.contents (inner_of s) };
 
@@ -126,6 +132,9 @@ impl<W: Write> Sink for Stream<W> {
             Ok(count) => count == 0 && !from.is_empty(),
             Err(_) => true,
         };
+        if let Err(IoFault::Failed) = result {
+            self.failed = true;
+        }
         result
     }
 }

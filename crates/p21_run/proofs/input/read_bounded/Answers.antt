@@ -6,7 +6,7 @@ use Rattle.std.specs.Io.KnownBytes.{Consumes, ReadConsumes}
 use Rattle.std.proofs.KnownBytes.{Consumes-nil}
 use Rattle.p21_run.specs.declared.input.InputError.TheVariants.{Device}
 use Rattle.p21_run.specs.Marks.{is_failure, is_fault}
-use Rattle.p21_run.proofs.InputLemmas.{read_end, read_more, read_again, read_past, at_least, same_err, unmarked, unfailed, never_failed}
+use Rattle.p21_run.proofs.InputLemmas.{read_end, read_stops, read_more, read_again, read_past, at_least, same_err, unmarked, unfailed, never_failed}
 use Rattle.p21_run.proofs.input.read_bounded.Goals.{in-Ok+in_ok-append-in-Ok, in-Err-Interrupted}
 use Rattle.p21_run.proofs.input.read_bounded.Goals as goal
 
@@ -52,6 +52,10 @@ loop-preserved g c =
 pub returns-in-Ok-eq0-clause-whole : goal.returns-in-Ok-eq0-clause-whole
 returns-in-Ok-eq0-clause-whole g c =
     read_end (g.S.Source.remaining c.args.source.now) (g.S.Source.remaining c.loop.source) (g.S.Source.remaining c.read.new.self) c.read.result c.in-Ok-eq0.field-0 c.read.new.into c.loop.bytes.items c.loop.invariant.read c.read.ensures.bytes c.in-Ok-eq0.is c.in-Ok-eq0.field-0-test (omega (arith, c.read.auto.into, c.as_mut_slice.ensures.len, c.loop.invariant.chunk))
+
+pub returns-in-Ok-eq0-clause-at_end : goal.returns-in-Ok-eq0-clause-at_end
+returns-in-Ok-eq0-clause-at_end g c =
+    read_stops (g.S.Source.remaining c.loop.source) (g.S.Source.remaining c.read.new.self) c.read.result c.in-Ok-eq0.field-0 c.read.new.into c.read.ensures.bytes c.in-Ok-eq0.is c.in-Ok-eq0.field-0-test (omega (arith, c.read.auto.into, c.as_mut_slice.ensures.len, c.loop.invariant.chunk))
 
 pub returns-in-Ok-eq0-clause-failed : goal.returns-in-Ok-eq0-clause-failed
 returns-in-Ok-eq0-clause-failed g c was is =

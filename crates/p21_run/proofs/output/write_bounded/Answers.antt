@@ -1,15 +1,15 @@
-use Rattle.std.proofs.Common.{◌≡◌, length, take, drop, subst, ◌-◌, arith, sym, ap, ◌∙◌}
+use Rattle.std.proofs.Common.{◌≡◌, Err, refl, length, take, drop, subst, ◌-◌, arith, sym, ap, ◌∙◌}
 use Rattle.std.proofs.lemmas.Bool.{false≢true}
 use Rattle.std.proofs.lemmas.Bool.Decides.{nat_tests}
 use Rattle.std.proofs.lemmas.List.{take_all, length-drop}
-use Rattle.p21_run.specs.Marks.{is_fault_or_nothing}
-use Rattle.p21_run.proofs.InputLemmas.{unmarked}
+use Rattle.p21_run.specs.Marks.{is_failure, is_fault_or_nothing}
+use Rattle.p21_run.proofs.InputLemmas.{unfailed, unmarked}
 use Rattle.p21_run.proofs.OutputLemmas.{IsWritten, written_none, written_more, written_again, written_whole, unmarked_write}
 use Rattle.p21_run.proofs.output.write_bounded.Goals.{in-Ok, in-Err-Interrupted}
 use Rattle.p21_run.proofs.output.write_bounded.Goals as goal
 
 pub loop-init : goal.loop-init
-loop-init g c = record { written = written_none (g.S.Sink.taken c.args.sink.now) c.args.text.now; counted = λ _. omega (arith) }
+loop-init g c = record { written = written_none (g.S.Sink.taken c.args.sink.now) c.args.text.now; counted = λ _. omega (arith); unfailed = refl }
 
 pub loop-preserved : goal.loop-preserved
 loop-preserved g c =
@@ -36,6 +36,10 @@ loop-preserved g c =
                 omega (arith, ap (λ v. length v.now) w.rest-is, left, w.in-Ok.ensures.bound, unmarked_write old new c.write.result n rest c.write.ensures.mark unset w.in-Ok.is some, c.loop.invariant.counted before.0)
             | in-Err-Interrupted w ↦ absurd (false≢true (sym before.1 ∙ ap (λ r. is_fault_or_nothing r rest) w.in-Err-Interrupted.is))
           ];
+      unfailed = elim c.match-write.branch [
+        | in-Ok w ↦ unfailed (g.S.Sink.failed c.args.sink.now) (g.S.Sink.failed c.loop.sink) (g.S.Sink.failed c.write.new.self) (is_failure c.write.result) c.loop.invariant.unfailed c.write.ensures.failure (ap is_failure w.in-Ok.is)
+        | in-Err-Interrupted w ↦ unfailed (g.S.Sink.failed c.args.sink.now) (g.S.Sink.failed c.loop.sink) (g.S.Sink.failed c.write.new.self) (is_failure c.write.result) c.loop.invariant.unfailed c.write.ensures.failure (ap is_failure w.in-Err-Interrupted.is ∙ ap (λ e. is_failure (Err e)) w.in-Err-Interrupted.field-0-is)
+      ];
     }
 
 pub returns-then-is_empty-clause-whole : goal.returns-then-is_empty-clause-whole

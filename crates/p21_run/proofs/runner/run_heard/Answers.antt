@@ -1,6 +1,7 @@
 use Rattle.std.proofs.Common.{length, take, subst, ap, inr, arith}
 use Rattle.std.specs.Io.KnownBytes.{Appends}
 use Rattle.p21_run.proofs.DueLemmas.{written, never_due, read_whole}
+use Rattle.p21_run.proofs.InputLemmas.{never_failed}
 use Rattle.p21_run.proofs.runner.run_heard.Goals as goal
 
 pub returns-in-Ok-write_bounded-clause-written : goal.returns-in-Ok-write_bounded-clause-written
@@ -40,3 +41,20 @@ pub returns-in-Ok-clause-overlong_file : goal.returns-in-Ok-clause-overlong_file
 returns-in-Ok-clause-overlong_file g c schema_text file d s reading f long =
     let whole = read_whole c.args.all c.args.rules schema_text file c.in-Ok.report.text.items c.in-Ok.report.outcome (c.in-Ok.ensures.due schema_text file s f) d reading in
     absurd (omega (arith, c.in-Ok.ensures.file_bounded whole file f, long))
+
+pub returns-in-Ok-write_bounded-clause-writer_failed : goal.returns-in-Ok-write_bounded-clause-writer_failed
+returns-in-Ok-write_bounded-clause-writer_failed g c was is = never_failed (g.K.Sink.failed c.args.out.now) (g.K.Sink.failed c.write_bounded.new.sink) c.in-Ok-write_bounded.ensures.unfailed was is
+
+pub returns-in-Ok-write_bounded-clause-schema_remains : goal.returns-in-Ok-write_bounded-clause-schema_remains
+returns-in-Ok-write_bounded-clause-schema_remains g c remains = absurd (remains c.in-Ok.ensures.schema_read)
+
+pub returns-in-Ok-write_bounded-clause-file_remains : goal.returns-in-Ok-write_bounded-clause-file_remains
+returns-in-Ok-write_bounded-clause-file_remains g c schema_text file d s reading f remains =
+    absurd (remains (c.in-Ok.ensures.file_read (read_whole c.args.all c.args.rules schema_text file c.in-Ok.report.text.items c.in-Ok.report.outcome (c.in-Ok.ensures.due schema_text file s f) d reading)))
+
+pub returns-in-Ok-clause-schema_remains : goal.returns-in-Ok-clause-schema_remains
+returns-in-Ok-clause-schema_remains g c remains = absurd (remains c.in-Ok.ensures.schema_read)
+
+pub returns-in-Ok-clause-file_remains : goal.returns-in-Ok-clause-file_remains
+returns-in-Ok-clause-file_remains g c schema_text file d s reading f remains =
+    absurd (remains (c.in-Ok.ensures.file_read (read_whole c.args.all c.args.rules schema_text file c.in-Ok.report.text.items c.in-Ok.report.outcome (c.in-Ok.ensures.due schema_text file s f) d reading)))
