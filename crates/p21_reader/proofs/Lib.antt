@@ -3,7 +3,7 @@ pub mod TokenLemmas
 pub mod ReadLemmas
 pub mod ValueLemmas
 pub mod NameLemmas
-pub mod GatheringLemmas
+pub mod FirstFaultLemmas
 pub mod ExitLemmas
 pub mod ReferenceLemmas
 pub mod FrontLemmas
@@ -14,6 +14,6 @@ pub mod LaneLemmas
 pub mod NamingLemmas
 pub mod AllFaultLemmas
 pub mod AllValueLemmas
-pub mod FaultGatheringLemmas
+pub mod EveryFaultLemmas
 pub mod AllLaneLemmas
 pub mod OneListLemmas

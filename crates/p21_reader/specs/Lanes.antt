@@ -23,8 +23,8 @@ use Rattle.p21_reader.specs.declared.judged.Judged.TheVariants as judged
 use Rattle.p21_reader.specs.declared.judged.Judgement.{Judgement}
 use Rattle.p21_reader.specs.declared.reading.Reading.{Reading}
 use Rattle.p21_reader.specs.Answer.{plain_answer}
-use Rattle.p21_reader.specs.declared.gathering.Gathering.{Gathering}
-use Rattle.p21_reader.specs.Gathering.{IsGathered}
+use Rattle.p21_reader.specs.declared.first_fault.Gathering.{Gathering}
+use Rattle.p21_reader.specs.FirstFault.{IsGathered}
 use Rattle.p21_reader.specs.Judged.{HasOwnEntity, value_of, values_of}
 use Rattle.p21_reader.specs.LocalFault.{IsOpeningFault}
 use Rattle.p21_reader.specs.PiecesOf.{ArePiecesOf}

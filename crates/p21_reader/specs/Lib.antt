@@ -6,7 +6,7 @@ pub mod Answer
 pub mod Values
 pub mod Steps
 pub mod Judged
-pub mod Gathering
+pub mod FirstFault
 pub mod PiecesOf
 pub mod Pieces
 pub mod ReadingBy
@@ -17,6 +17,6 @@ pub mod Run
 pub mod Names
 pub mod AllFaults
 pub mod AllByValues
-pub mod FaultGathering
+pub mod EveryFault
 pub mod AllAnswer
 pub mod AllLaws

@@ -4,14 +4,14 @@
 mod ahead;
 mod all_faults;
 mod all_laws;
-mod fault_gathering;
-mod gathering;
+mod every_fault;
+mod first_fault;
 mod judged;
 mod judging;
 mod lanes;
 mod laws;
-mod local;
 mod pieces;
+mod preface;
 mod reading;
 mod run;
 mod serial;

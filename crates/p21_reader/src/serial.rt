@@ -9,7 +9,7 @@ ghost use Rattle.p21_refs.specs.FirstReferenceFault.{AreAnswered, IsFirstReferen
 ghost use Rattle.p21_reader.specs.Reading.{IsReading};
 ghost use Rattle.p21_reader.specs.Steps.{OnFault};
 
-use crate::local::local_model;
+use crate::preface::local_model;
 use crate::reading::{ReadError, Reading};
 use crate::stop::Stop;
 use p21_check::check_references_among;
