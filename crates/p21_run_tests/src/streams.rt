@@ -120,6 +120,7 @@ pub(crate) struct Text {
     most: usize,
     turns: Turns,
     marked: bool,
+    failed: bool,
 }
 
 impl Text {
@@ -135,6 +136,7 @@ impl Text {
             most,
             turns,
             marked: false,
+            failed: false,
         }
     }
 
@@ -146,16 +148,20 @@ impl Text {
 impl Sink for Text {
     ghost marked = { λ s. s.marked };
 
+    ghost failed = { λ s. s.failed };
+
     ghost taken = { λ s. Some s.bytes.items };
 
     fn write(&mut self, from: &[u8]) -> Result<usize, IoFault> {
         if let Err(fault) = self.turns.next() {
             self.marked = true;
+            self.failed |= fault == IoFault::Failed;
             return Err(fault);
         }
         let count = from.len().min(self.most);
         if self.bytes.extend_from_slice(&from[..count]).is_err() {
             self.marked = true;
+            self.failed = true;
             return Err(IoFault::Failed);
         }
         self.marked |= count == 0 && !from.is_empty();
