@@ -19,7 +19,9 @@ PARALLEL = ['parallel', '--plain', '--will-cite']
 SSH = 'ssh -oBatchMode=yes -oConnectTimeout=5 -oServerAliveInterval=5 -oServerAliveCountMax=4'
 RETRIES = 4
 # Links are sent as what they lead to.
-RSYNC = '-rLR'
+RSYNC_OPTIONS, RSYNC = 'PARALLEL_RSYNC_OPTS', '-rLR'
+# Where the workers of this machine find the interpreter that this one runs.
+PYTHON = 'P21ARCHIVE_PYTHON'
 SET_SIGNAL_OF_PARENT = 1
 
 
@@ -36,14 +38,14 @@ class Engine(NamedTuple):
         if self.hosts:
             words += ['--ssh', SSH, '--sshloginfile', self.hosts]
             words += ['--workdir', plan.workdir, '--basefile', BASE, '--transferfile', '{}'] if plan.asked.transfer else ['--workdir', run.folder]
-        return [*words, 'python3', '-I', '-S', SCRIPT, '--work', '{}']
+        return [*words, 'python3' if self.hosts else '"$%s"' % PYTHON, '-I', '-S', SCRIPT, '--work', '{}']
 
     def run(self, run: Run, plan: Plan, phase: Phase, told: Callable[[Findings], None]) -> None:
         """Runs the batches of a phase that parallel's log does not have, keeps what workers find, and tells it."""
         with open(run.path(LOG), 'ab') as log, open(run.path(FOUND), 'ab') as found, tempfile.TemporaryFile() as batches:
             batches.write(''.join('%s\n' % it for it in phase.batches).encode())
             batches.seek(0)
-            with subprocess.Popen(self.words(run, plan, phase), cwd=run.folder, env={**os.environ, 'PARALLEL_RSYNC_OPTS': RSYNC}, stdin=batches,
+            with subprocess.Popen(self.words(run, plan, phase), cwd=run.folder, env={**os.environ, RSYNC_OPTIONS: RSYNC, PYTHON: sys.executable}, stdin=batches,
                                   stdout=subprocess.PIPE, stderr=log, pass_fds=[run.lock], preexec_fn=end_with_parent) as running:
                 for line in running.stdout:
                     findings = Findings.of_line(line.decode('ascii', 'replace'))

@@ -5,7 +5,7 @@ from __future__ import annotations
 import collections
 import html
 import math
-from typing import Iterable, Iterator, List, NamedTuple, Tuple
+from typing import Dict, Iterable, Iterator, List, NamedTuple, Tuple
 
 from .model import FAULTY, READ, STATUSES, UNTRIED, Finding
 from .tables import FAULTS, RESULTS, escaped
@@ -22,7 +22,7 @@ STYLE = '''
 body { font: 15px/1.45 system-ui, sans-serif; color: #222; background: #fff; max-width: 1100px; margin: 2em auto; padding: 0 1em }
 h1 { font-size: 1.5em } h2 { font-size: 1.15em; margin-top: 2em }
 table { border-collapse: collapse } td, th { padding: .25em .8em .25em 0; text-align: left; vertical-align: top; border-bottom: 1px solid #e4e4e4 }
-td.number { text-align: right; font-variant-numeric: tabular-nums }
+.beside { display: flex; flex-wrap: wrap; gap: 0 5em } td.number { text-align: right; font-variant-numeric: tabular-nums }
 pre { margin: .3em 0 0; font-size: 12px; color: #555; overflow-x: auto; max-width: 700px }
 td.file { overflow-wrap: anywhere; min-width: 14em }
 .read { color: #2b6cb0; fill: #2b6cb0 } .faulty { color: #c53030; fill: #c53030 } .untried { color: #975a16; fill: #975a16 }
@@ -39,10 +39,16 @@ PAGE = '''<!DOCTYPE html>
 <body>
 <h1>{summary}</h1>
 <p>{size} in {seconds}. All rows stand in <a href="{results}">{results}</a>, all that is wrong in <a href="{faults}">{faults}</a>.</p>
-<h2>Files by status, kind and schema</h2>
+<div class="beside">
+<div><h2>By status and kind</h2>
 <table>
-<tr><th>Status</th><th>Kind</th><th>Schema</th><th>Files</th></tr>
-{counts}</table>
+<tr><th>Status</th><th>Kind</th><th>Files</th></tr>
+{kinds}</table></div>
+<div><h2>By schema</h2>
+<table>
+<tr><th>Schema</th><th>Read</th><th>Faulty</th><th>Untried</th></tr>
+{schemas}</table></div>
+</div>
 <h2>Sizes and times</h2>
 {drawing}
 <h2>Files that were not read</h2>
@@ -76,12 +82,25 @@ def shown(text: str) -> str:
     return html.escape(text)
 
 
-def counts(findings: Iterable[Finding]) -> Iterator[str]:
-    """The rows of the table of counts, the largest number of each status first."""
-    counted = collections.Counter((it.status, it.kind, it.schema) for it in findings)
-    for (status, kind, schema), count in sorted(counted.items(), key=lambda it: (STATUSES.index(it[0][0]), -it[1], it[0])):
-        yield '<tr><td class="%s">%s</td><td>%s</td><td>%s</td><td class="number">%d</td></tr>\n' % (
-            status, status, shown(kind), shown(escaped(schema)), count)
+def number(count: int) -> str:
+    """A cell with a number."""
+    return '<td class="number">%d</td>' % count
+
+
+def kinds(findings: Iterable[Finding]) -> Iterator[str]:
+    """The rows of the table of kinds, the largest number of each status first."""
+    counted = collections.Counter((it.status, it.kind) for it in findings)
+    for (status, kind), count in sorted(counted.items(), key=lambda it: (STATUSES.index(it[0][0]), -it[1], it[0])):
+        yield '<tr><td class="%s">%s</td><td>%s</td>%s</tr>\n' % (status, status, shown(kind), number(count))
+
+
+def schemas(findings: Iterable[Finding]) -> Iterator[str]:
+    """The rows of the table of schemas: how many files of each status name it."""
+    counted: Dict[str, collections.Counter] = collections.defaultdict(collections.Counter)
+    for it in findings:
+        counted[it.schema][it.status] += 1
+    for schema in sorted(counted):
+        yield '<tr><td>%s</td>%s</tr>\n' % (shown(escaped(schema)) or '(none)', ''.join(number(counted[schema][it]) for it in STATUSES))
 
 
 def faulty_row(finding: Finding) -> str:
@@ -161,4 +180,4 @@ def write(path: str, findings: List[Finding], seconds: float) -> None:
     """Writes the page of a run that took so long."""
     with open(path, 'w', encoding='utf-8') as file:
         file.write(PAGE.format(style=STYLE, summary=summary(findings), size=size(sum(it.bytes for it in findings)), seconds=time(seconds), results=RESULTS,
-                               faults=FAULTS, counts=''.join(counts(findings)), drawing=drawing(findings), faulty=faulty(findings)))
+                               faults=FAULTS, kinds=''.join(kinds(findings)), schemas=''.join(schemas(findings)), drawing=drawing(findings), faulty=faulty(findings)))
