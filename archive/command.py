@@ -52,7 +52,7 @@ def options(words: List[str]) -> argparse.Namespace:
     parser.add_argument('folders', metavar='FOLDER', nargs='+', help='a folder to look through')
     parser.add_argument('--schemas', metavar='FOLDER', required=True, help='the folder of the EXPRESS schemas, *.exp')
     parser.add_argument('--jobs', metavar='N', type=jobs, help='how many files at a time on each machine [default: as many as it has processors]')
-    parser.add_argument('--hosts', metavar='FILE', help="the hosts that work, a line each, as GNU parallel's --sshloginfile has them")
+    parser.add_argument('--hosts', metavar='FILE', help='the hosts that work, a line each, as GNU parallel has them')
     parser.add_argument('--transfer', action='store_true', help='send files, schemas and program to the hosts, which share no folder with this one')
     parser.add_argument('--part', metavar='I/N', type=part, default=Part(1, 1), help='look at the I-th of N parts of the files alone')
     parser.add_argument('--out', metavar='FOLDER', default='p21archive.out', help='where the table goes [default: %(default)s]')

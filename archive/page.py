@@ -20,7 +20,7 @@ LEAST_SECONDS = 1e-4
 
 STYLE = '''
 body { font: 15px/1.45 system-ui, sans-serif; color: #222; background: #fff; max-width: 1100px; margin: 2em auto; padding: 0 1em }
-h1 { font-size: 1.5em } h2 { font-size: 1.15em; margin-top: 2em }
+a { color: inherit } h1 { font-size: 1.5em } h2 { font-size: 1.15em; margin-top: 2em }
 table { border-collapse: collapse } td, th { padding: .25em .8em .25em 0; text-align: left; vertical-align: top; border-bottom: 1px solid #e4e4e4 }
 .beside { display: flex; flex-wrap: wrap; gap: 0 5em } td.number { text-align: right; font-variant-numeric: tabular-nums }
 pre { margin: .3em 0 0; font-size: 12px; color: #555; overflow-x: auto; max-width: 700px }
