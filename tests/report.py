@@ -22,9 +22,9 @@ class Report:
         """Counts a case, and prints what is wrong with it, where it is not right."""
         self.case([] if right else [what])
 
-    def end(self):
-        """Prints how many cases there were."""
-        print('%s: %d passed, %d failed' % (self.name, self.passed, self.failed))
+    def end(self, left_out=''):
+        """Prints how many cases there were, and which were left out, and why."""
+        print('%s: %d passed, %d failed%s' % (self.name, self.passed, self.failed, left_out and ', not run: ' + left_out))
         return 1 if self.failed or not self.passed else 0
 
     def skip(self, why):

@@ -1,0 +1,181 @@
+"""The command: looks at its words, plans a run or takes one up, has it run, and writes what was found."""
+
+from __future__ import annotations
+
+import argparse
+import os
+import subprocess
+import sys
+import time
+from typing import Dict, List
+
+from . import page, tables
+from .engine import Engine, Progress, require_parallel
+from .find import Part, Search
+from .model import FAULTY, UNTRIED, Finding, Findings, bytes_of, text_of
+from .run import FOUND, LOG, Asked, Base, Plan, Refused, Run
+from .schemas import schemas_of
+
+TOP = os.path.dirname(os.path.dirname(os.path.realpath(__file__)))
+REPORT = 'report.html'
+USAGE, INTERRUPTED = 2, 130
+STATUSES = '''
+Status:
+  0    all files were read
+  1    some have a fault
+  2    the words were refused
+  4    some could not be tried
+  130  it was interrupted
+'''
+
+
+def part(text: str) -> Part:
+    """The part that is written I/N."""
+    number, slash, count = text.partition('/')
+    if not (slash and number.isdigit() and count.isdigit() and 1 <= int(number) <= int(count)):
+        raise argparse.ArgumentTypeError('%r is no I/N, as 1/16' % text)
+    return Part(int(number), int(count))
+
+
+def jobs(text: str) -> int:
+    """How many runs side by side, 1 at least."""
+    if not text.isdigit() or not int(text):
+        raise argparse.ArgumentTypeError('%r is no number from 1' % text)
+    return int(text)
+
+
+def options(words: List[str]) -> argparse.Namespace:
+    """What the words ask for."""
+    parser = argparse.ArgumentParser(
+        prog='p21archive', description='Checks all STEP files below some folders, each against the schema that it names.', epilog=STATUSES,
+        formatter_class=argparse.RawDescriptionHelpFormatter, allow_abbrev=False)
+    parser.add_argument('folders', metavar='FOLDER', nargs='+', help='a folder to look through')
+    parser.add_argument('--schemas', metavar='FOLDER', required=True, help='the folder of the EXPRESS schemas, *.exp')
+    parser.add_argument('--jobs', metavar='N', type=jobs, help='how many files at a time on each machine [default: as many as it has processors]')
+    parser.add_argument('--hosts', metavar='FILE', help='the hosts that work, a line each, as GNU parallel has them')
+    parser.add_argument('--transfer', action='store_true', help='send files, schemas and program to the hosts, which share no folder with this one')
+    parser.add_argument('--part', metavar='I/N', type=part, default=Part(1, 1), help='look at the I-th of N parts of the files alone')
+    parser.add_argument('--out', metavar='FOLDER', default='p21archive.out', help='where the table goes [default: %(default)s]')
+    parser.add_argument('--resume', action='store_true', help='go on where a run into that folder was broken off')
+    return parser.parse_intermixed_args(words)
+
+
+def program() -> str:
+    """The path of p21check, which the launcher of a checkout tells."""
+    path = os.path.join(TOP, 'p21check')
+    with open(path, 'rb') as file:
+        if file.read(4) == b'\x7fELF':
+            return path
+    ran = subprocess.run([path], env={**os.environ, 'P21CHECK_WHICH': '1'}, stdin=subprocess.DEVNULL, stdout=subprocess.PIPE)
+    if ran.returncode:
+        raise Refused('%s cannot be run' % path)
+    return os.fsdecode(ran.stdout[:-1])
+
+
+def base(folder: str) -> Base:
+    """What workers need, with the schemas of a folder."""
+    try:
+        schemas = schemas_of(os.fsencode(folder))
+    except (OSError, ValueError) as error:
+        raise Refused(str(error)) from None
+    if not schemas:
+        raise Refused('no schema is in %s' % folder)
+    return Base(os.fsencode(TOP), os.fsencode(program()), schemas)
+
+
+def machines(hosts: str) -> int:
+    """How many hosts a file names."""
+    try:
+        with open(hosts, encoding='utf-8', errors='replace') as file:
+            return sum(bool(it.strip()) and not it.startswith('#') for it in file)
+    except OSError as error:
+        raise Refused('%s: %s' % (hosts, error.strerror)) from None
+
+
+def begun(run: Run, asked: Asked, wanted: argparse.Namespace) -> Plan:
+    """The plan of a run that begins."""
+    laid = base(wanted.schemas)
+    search = Search(wanted.part)
+    search.run([os.fsencode(it) for it in wanted.folders])
+    count = (wanted.jobs or len(os.sched_getaffinity(0))) * (machines(wanted.hosts) if wanted.hosts else 1)
+    return run.begin(asked, search.files, search.refused, max(1, count), laid)
+
+
+def planned(run: Run, wanted: argparse.Namespace) -> Plan:
+    """The plan of the run: one that begins here, or the one that is taken up."""
+    asked = Asked([text_of(os.path.abspath(os.fsencode(it))) for it in wanted.folders], text_of(os.path.abspath(os.fsencode(wanted.schemas))),
+                  list(wanted.part), wanted.transfer)
+    if not run.is_begun():
+        return begun(run, asked, wanted)
+    if not wanted.resume:
+        raise Refused('%s has a run: --resume goes on with it' % run.folder)
+    made = run.plan()
+    if made.asked != asked:
+        raise Refused('%s has a run of other folders, schemas or parts, or with files sent otherwise' % run.folder)
+    return made
+
+
+def work(run: Run, plan: Plan, engine: Engine) -> Dict[str, Findings]:
+    """Has all batches run of which nothing was found, and gives what is found of each."""
+    found = run.found()
+    progress = Progress(plan)
+    for findings in found.values():
+        progress.add(findings)
+
+    def told(findings: Findings) -> None:
+        found[findings.batch] = findings
+        progress.add(findings)
+
+    for phase in plan.phases:
+        run.trim(phase, found)
+        if any(os.path.basename(it) not in found for it in phase.batches):
+            engine.run(run, plan, phase, told)
+    engine.clean(run, plan)
+    progress.end()
+    return found
+
+
+def all_findings(run: Run, plan: Plan, found: Dict[str, Findings]) -> List[Finding]:
+    """A finding for each file, in the order of their names."""
+    unanswered = list(run.unanswered(plan.phases, found))
+    if unanswered:
+        print('p21archive: of %d files there is no answer: %s has more' % (len(unanswered), run.path(LOG)), file=sys.stderr)
+    findings = plan.refused + unanswered + [it for batch in found.values() for it in batch.findings]
+    return sorted(findings, key=lambda it: bytes_of(it.file))
+
+
+def write(run: Run, findings: List[Finding], seconds: float) -> None:
+    """Writes the table, what is wrong, and the page."""
+    tables.write_results(run.path(tables.RESULTS), findings)
+    tables.write_faults(run.path(tables.FAULTS), findings)
+    page.write(run.path(REPORT), findings, seconds)
+
+
+def archive(wanted: argparse.Namespace) -> int:
+    """Does what is wanted, and gives the status."""
+    begun_at = time.monotonic()
+    require_parallel()
+    for folder in wanted.folders:
+        if not os.path.isdir(folder):
+            raise Refused('no folder: %s' % tables.escaped(text_of(os.fsencode(folder))))
+    hosts = os.path.abspath(wanted.hosts) if wanted.hosts else None
+    run = Run(os.path.abspath(wanted.out))
+    plan = planned(run, wanted)
+    findings = all_findings(run, plan, work(run, plan, Engine(wanted.jobs, hosts)))
+    write(run, findings, time.monotonic() - begun_at)
+    print('%s: %s' % (run.path(tables.RESULTS), page.summary(findings)))
+    statuses = {it.status for it in findings}
+    return 4 if UNTRIED in statuses else 1 if FAULTY in statuses else 0
+
+
+def main(words: List[str]) -> int:
+    """Runs the command."""
+    wanted = options(words)
+    try:
+        return archive(wanted)
+    except Refused as why:
+        print('p21archive: %s' % why, file=sys.stderr)
+        return USAGE
+    except KeyboardInterrupt:
+        print('\np21archive: broken off; --resume goes on', file=sys.stderr)
+        return INTERRUPTED

@@ -1,0 +1,79 @@
+"""Finds the STEP files below some folders."""
+
+from __future__ import annotations
+
+import os
+import stat
+import zlib
+from typing import List, NamedTuple
+
+from .model import File, Finding, Untried, text_of
+from .sources import PACKED
+
+
+class Part(NamedTuple):
+    """One of so many parts that the files of an archive fall into, by their names."""
+
+    number: int
+    count: int
+
+    def has(self, path: bytes) -> bool:
+        """Whether the part has the file of this path."""
+        return zlib.crc32(path) % self.count == self.number - 1
+
+
+class Search:
+    """Goes through folders, and through what links lead to, each folder once. `files` are the plain files that it found, `refused` what is
+    told of the rest that has such a name, and of folders that cannot be read."""
+
+    def __init__(self, part: Part):
+        self.files: List[File] = []
+        self.refused: List[Finding] = []
+        self._part = part
+        self._seen = set()
+        self._folders: List[bytes] = []
+        self._links: List[bytes] = []
+
+    def run(self, folders: List[bytes]) -> None:
+        """Looks through these folders, and then through those behind links, so that a file has the name that is no link's where it has one."""
+        self._folders = folders[::-1]
+        while self._folders or self._links:
+            folder = self._folders.pop() if self._folders else self._links.pop(0)
+            try:
+                self._look_through(folder)
+            except OSError as error:
+                if self._part.has(folder):
+                    self._refuse(folder, Untried.by(error))
+
+    def _look_through(self, folder: bytes) -> None:
+        status = os.stat(folder)
+        if (status.st_dev, status.st_ino) in self._seen:
+            return
+        self._seen.add((status.st_dev, status.st_ino))
+        with os.scandir(folder) as entries:
+            sorted_entries = sorted(entries, key=lambda it: it.name)
+        within = []
+        for entry in sorted_entries:
+            if entry.is_dir(follow_symlinks=False):
+                within.append(entry.path)
+            elif entry.is_symlink() and os.path.isdir(entry.path):
+                self._links.append(entry.path)
+            elif PACKED.search(entry.name):
+                self._add(entry.path)
+        self._folders += within[::-1]
+
+    def _add(self, path: bytes) -> None:
+        if not self._part.has(path):
+            return
+        try:
+            status = os.stat(path)
+        except OSError as error:
+            self._refuse(path, Untried.by(error))
+            return
+        if stat.S_ISREG(status.st_mode):
+            self.files.append(File(text_of(path), text_of(os.path.abspath(path)), status.st_size))
+        else:
+            self._refuse(path, Untried.no_file())
+
+    def _refuse(self, path: bytes, why: Untried) -> None:
+        self.refused.append(Finding(text_of(path), kind=why.kind, sentence=why.sentence))

@@ -1,0 +1,55 @@
+"""Says which files go together to one worker, and which are so great that each has a machine to itself."""
+
+from __future__ import annotations
+
+import os
+from typing import Iterator, List, Tuple
+
+from .model import Batch, File, bytes_of
+from .sources import is_packed
+
+MEGABYTE = 1 << 20
+# How much longer a file is than it is packed, about; in how many bytes read a run begins; and how much memory it takes by its file.
+PACKED, BEGIN, MEMORY = 8, MEGABYTE, 6
+LEAST_GREAT = 16 * MEGABYTE
+# The batches that each processor has, so that all end together, and the least and the most that there is to read in one.
+BATCHES, LEAST, MOST = 16, 32 * MEGABYTE, 128 * MEGABYTE
+
+
+def cost(file: File) -> int:
+    """What a file costs, as bytes that are read, about."""
+    return BEGIN + file.bytes * (PACKED if is_packed(bytes_of(file.name)) else 1)
+
+
+def split(files: List[File], jobs: int) -> Tuple[List[File], List[File]]:
+    """The great files, and the others, the largest first. A great one would take a processor longer than all the others take the rest, or
+    so much memory that not so many of its size could be read side by side."""
+    files = sorted(files, key=lambda it: (-cost(it), it.name))
+    memory = os.sysconf('SC_PHYS_PAGES') * os.sysconf('SC_PAGE_SIZE')
+    left = sum(map(cost, files))
+    for count, file in enumerate(files):
+        if cost(file) < LEAST_GREAT or cost(file) * jobs <= left and cost(file) * MEMORY * jobs <= memory:
+            return files[:count], files[count:]
+        left -= cost(file)
+    return files, []
+
+
+def batches(files: List[File], jobs: int) -> Iterator[Batch]:
+    """Batches of files that are read by one lane each."""
+    most = min(MOST, max(LEAST, sum(map(cost, files)) // (jobs * BATCHES)))
+    taken: List[File] = []
+    left = most
+    for file in files:
+        if taken and cost(file) > left:
+            yield Batch(1, taken)
+            taken, left = [], most
+        taken.append(file)
+        left -= cost(file)
+    if taken:
+        yield Batch(1, taken)
+
+
+def plan(files: List[File], jobs: int) -> Tuple[List[Batch], List[Batch]]:
+    """The batches of the great files, one each for all lanes, and those of the others."""
+    great, others = split(files, jobs)
+    return [Batch(0, [it]) for it in great], list(batches(others, jobs))

@@ -1,0 +1,156 @@
+"""A worker: runs p21check over the files of a batch, and prints what it found as one line."""
+
+from __future__ import annotations
+
+import json
+import os
+import re
+import shutil
+import subprocess
+import sys
+import tempfile
+import time
+from typing import BinaryIO, Dict, Iterator, List, NamedTuple
+
+from .model import FAULTY, READ, Batch, File, Finding, Findings, Untried
+from .schemas import read_front
+from .sources import Source, sources
+
+PROGRAM, SCHEMAS = 'base/p21check', 'base/schemas.json'
+MOST_LANES = 64
+BLOCK = 1 << 20
+# The first of a report, and of what is told on standard error, that are looked at.
+REPORT, ERRORS = 1 << 12, 1 << 16
+COUNT = re.compile(rb'^(instances|references) (\d+)$', re.MULTILINE)
+FAULT = re.compile(rb'fault \d+ (\w+) at (\d+)')
+EXPLAINED = re.compile(rb'-:(\d+):(\d+): fault at \d+\n([^\n]*\n[^\n]*)\n(.*)', re.DOTALL)
+# The one answer on a file that hangs on which schema it is checked against, where the file names none.
+WRONG_SCHEMA = 'WrongSchema'
+
+
+class Ran(NamedTuple):
+    """How a run of p21check ended, and what it wrote."""
+
+    status: int
+    report: bytes
+    errors: bytes
+
+
+def feed(pipe: BinaryIO, front: bytes, source: Source) -> None:
+    """Writes a file into a pipe, as much of it as somebody reads."""
+    try:
+        with pipe:
+            block = front
+            while block:
+                pipe.write(block)
+                block = source.read(BLOCK)
+    except BrokenPipeError:
+        pass
+
+
+def run_packed(words: List[str], front: bytes, source: Source, **files: BinaryIO) -> int:
+    """The status of a run over a file that is unpacked into its standard input."""
+    with subprocess.Popen(words, stdin=subprocess.PIPE, **files) as running:
+        try:
+            feed(running.stdin, front, source)
+        except Untried:
+            running.kill()
+            raise
+    return running.returncode
+
+
+def run(words: List[str], front: bytes, source: Source) -> Ran:
+    """Runs p21check over a file of which the front has been read."""
+    with tempfile.TemporaryFile() as report, tempfile.TemporaryFile() as errors:
+        if source.is_plain:
+            status = subprocess.call(words, stdin=source.rewound(), stdout=report, stderr=errors)
+        else:
+            status = run_packed(words, front, source, stdout=report, stderr=errors)
+        report.seek(0)
+        errors.seek(0)
+        return Ran(status, report.read(REPORT), errors.read(ERRORS))
+
+
+def text(written: bytes) -> str:
+    return written.decode('utf-8', 'replace').strip('\n')
+
+
+def tell(finding: Finding, ran: Ran) -> None:
+    """Puts what p21check said into a finding; Untried where it could not say what the file is."""
+    if ran.status == 0:
+        finding.status = READ
+        counts = {name: int(count) for name, count in COUNT.findall(ran.report)}
+        finding.instances, finding.references = counts[b'instances'], counts[b'references']
+        return
+    fault = FAULT.match(ran.report)
+    if ran.status == 1 and fault:
+        finding.status, finding.kind, finding.place = FAULTY, text(fault[1]), int(fault[2])
+        explained = EXPLAINED.match(ran.errors)
+        if explained:
+            finding.line, finding.column = int(explained[1]), int(explained[2])
+            finding.shown, finding.sentence = text(explained[3]), text(explained[4])
+    elif ran.status == 3:
+        raise Untried('SchemaRefused', 'The schema is refused: %s.' % text(ran.report))
+    elif ran.status < 0:
+        raise Untried('Killed', 'Signal %d ended p21check.' % -ran.status)
+    else:
+        raise Untried({4: 'Device', 5: 'Memory'}.get(ran.status, 'Failed'), text(ran.errors))
+
+
+class Worker:
+    """Finds what is wrong with files, by p21check with so many lanes and these schemas, a path for each name."""
+
+    def __init__(self, lanes: int, schemas: Dict[str, str]):
+        self.lanes = lanes
+        self.schemas = schemas
+
+    def words(self, schema: str) -> List[str]:
+        """The command that checks standard input against the schema of this name; where a file names none any will do, since whatever is
+        wrong with a file before its schema is asked for hangs on none."""
+        if schema and schema not in self.schemas:
+            raise Untried('NoSchema', 'No schema has the name %s.' % schema)
+        path = self.schemas[schema or min(self.schemas)]
+        return [PROGRAM, path, '-', '--explain=1', '--lanes', str(self.lanes)]
+
+    def look(self, finding: Finding, source: Source) -> None:
+        """Puts what there is to say of a file into a finding."""
+        with source:
+            front, finding.schema = read_front(source)
+            words = self.words(finding.schema)
+            begun = time.monotonic()
+            ran = run(words, front, source)
+            finding.seconds = round(time.monotonic() - begun, 4)
+            if not finding.schema and (ran.status == 3 or WRONG_SCHEMA.encode() in ran.report):
+                raise Untried('NoSchemaName', 'It names no schema.')
+            tell(finding, ran)
+
+    def finding(self, source: Source) -> Finding:
+        """What is found of a file."""
+        finding = Finding(source.name, source.size)
+        try:
+            self.look(finding, source)
+        except Untried as why:
+            finding.kind, finding.sentence = why.kind, why.sentence
+        return finding
+
+    def findings(self, file: File) -> Iterator[Finding]:
+        """What is found of each STEP file in what was found."""
+        try:
+            yield from (self.finding(it) for it in sources(file))
+        except Untried as why:
+            yield Finding(file.name, file.bytes, kind=why.kind, sentence=why.sentence)
+
+
+def main(words: List[str]) -> int:
+    """Works on the batch of a folder; one that was sent to this host is removed at the end."""
+    folder = words[1]
+    batch = Batch.read(folder)
+    with open(SCHEMAS, encoding='ascii') as file:
+        schemas = json.load(file)
+    worker = Worker(batch.lanes or min(MOST_LANES, len(os.sched_getaffinity(0))), schemas)
+    found = [it for file in batch.files for it in worker.findings(file)]
+    findings = Findings(os.path.basename(folder), len(batch.files), sum(it.bytes for it in batch.files), found)
+    sys.stdout.write(findings.to_line())
+    if batch.is_sent and os.environ.get('PARALLEL_SSHLOGIN', ':') != ':':
+        shutil.rmtree(folder, ignore_errors=True)
+    return 0
