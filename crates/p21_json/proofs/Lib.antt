@@ -1,0 +1,9 @@
+pub mod FlagLemmas
+pub mod TermLemmas
+pub mod PlainLemmas
+pub mod ExprLemmas
+pub mod CharacterLemmas
+pub mod WrittenLemmas
+pub mod AttributeLemmas
+pub mod InstanceLemmas
+pub mod LineLemmas

@@ -1,0 +1,12 @@
+pub mod Spelled
+pub mod Numerals
+pub mod Characters
+pub mod Logical
+pub mod Flags
+pub mod Terms
+pub mod Where
+pub mod Rows
+pub mod Parts
+pub mod Instances
+pub mod Lines
+pub mod Written

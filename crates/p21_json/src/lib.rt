@@ -1,0 +1,15 @@
+//! The instances of a model as JSON, a line each.
+#![tactic(auto)]
+
+mod attributes;
+mod characters;
+mod instances;
+mod line;
+mod lines;
+mod logical;
+mod numerals;
+mod pages;
+mod terms;
+
+pub use lines::write_lines;
+pub use terms::Terms;
