@@ -5,3 +5,4 @@ mod declared;
 mod words;
 
 pub use declared::{Spellings, spell_names};
+pub use words::next_word;

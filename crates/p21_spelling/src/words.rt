@@ -77,7 +77,7 @@ fn front_len(text: &[u8]) -> usize
 }
 
 /// The next name, or byte that stands by itself, and the text behind it. White space, remarks, strings and digits are passed.
-pub(crate) fn next_word(text: &[u8]) -> Option<(&[u8], &[u8])>
+pub fn next_word(text: &[u8]) -> Option<(&[u8], &[u8])>
     ensures { IfSome result (λ found. length found.1.now < length text.entry.now) }
 {
     let mut rest = text;
