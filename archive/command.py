@@ -18,13 +18,13 @@ from .schemas import schemas_of
 
 TOP = os.path.dirname(os.path.dirname(os.path.realpath(__file__)))
 REPORT = 'report.html'
-USAGE, INTERRUPTED = 2, 130
+USAGE, FAILED, INTERRUPTED = 2, 4, 130
 STATUSES = '''
 Status:
   0    all files were read
   1    some have a fault
   2    the words were refused
-  4    some could not be tried
+  4    some could not be tried, or the table could not be written
   130  it was interrupted
 '''
 
@@ -165,7 +165,7 @@ def archive(wanted: argparse.Namespace) -> int:
     write(run, findings, time.monotonic() - begun_at)
     print('%s: %s' % (run.path(tables.RESULTS), page.summary(findings)))
     statuses = {it.status for it in findings}
-    return 4 if UNTRIED in statuses else 1 if FAULTY in statuses else 0
+    return FAILED if UNTRIED in statuses else 1 if FAULTY in statuses else 0
 
 
 def main(words: List[str]) -> int:
@@ -176,6 +176,9 @@ def main(words: List[str]) -> int:
     except Refused as why:
         print('p21archive: %s' % why, file=sys.stderr)
         return USAGE
+    except OSError as error:
+        print('p21archive: %s' % error, file=sys.stderr)
+        return FAILED
     except KeyboardInterrupt:
         print('\np21archive: broken off; --resume goes on', file=sys.stderr)
         return INTERRUPTED

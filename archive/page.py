@@ -15,7 +15,7 @@ ROWS = 5000
 UNITS = ((1e9, 'GB'), (1e6, 'MB'), (1e3, 'kB'), (1, 'B'))
 # The drawing in pixels, the sides of a cell in it, and what is left of its edges for the numbers.
 WIDTH, HEIGHT, CELL = 880, 360, 4
-LEFT, RIGHT, TOP, BOTTOM = 70, 15, 10, 40
+LEFT, RIGHT, TOP, BOTTOM = 70, 30, 10, 40
 LEAST_SECONDS = 1e-4
 
 STYLE = '''
