@@ -13,7 +13,8 @@ from . import page, tables
 from .engine import Engine, Progress, require_parallel
 from .find import Part, Search
 from .model import FAULTY, UNTRIED, Finding, Findings, bytes_of, text_of
-from .run import FOUND, LOG, Asked, Base, Plan, Refused, Run
+from .plan import processors
+from .run import LOG, Asked, Base, Plan, Refused, Run
 from .schemas import schemas_of
 
 TOP = os.path.dirname(os.path.dirname(os.path.realpath(__file__)))
@@ -97,7 +98,7 @@ def begun(run: Run, asked: Asked, wanted: argparse.Namespace) -> Plan:
     laid = base(wanted.schemas)
     search = Search(wanted.part)
     search.run([os.fsencode(it) for it in wanted.folders])
-    count = (wanted.jobs or len(os.sched_getaffinity(0))) * (machines(wanted.hosts) if wanted.hosts else 1)
+    count = (wanted.jobs or processors()) * (machines(wanted.hosts) if wanted.hosts else 1)
     return run.begin(asked, search.files, search.refused, max(1, count), laid)
 
 
@@ -170,6 +171,7 @@ def archive(wanted: argparse.Namespace) -> int:
 
 def main(words: List[str]) -> int:
     """Runs the command."""
+    sys.stdout.reconfigure(errors='backslashreplace')
     wanted = options(words)
     try:
         return archive(wanted)

@@ -29,7 +29,14 @@ OTHERS = {
     'WrongReference': "#%=CHAIN('A001',$,^#1);",
 }
 FAULTS = {**GRAMMAR, **OTHERS}
-HEADER = "ISO-10303-21;\nHEADER; /* FILE_SCHEMA(('NONE')) */\nFILE_DESCRIPTION(('it''s FILE_SCHEMA(('),'2;1');\nFILE_NAME('','',(''),(''),'','','');\n%s\nENDSEC;\nDATA;\n"
+HEADER = """ISO-10303-21;
+HEADER; /* FILE_SCHEMA(('NONE')) */
+FILE_DESCRIPTION(('it''s FILE_SCHEMA(('),'2;1');
+FILE_NAME('','',(''),(''),'','','');
+%s
+ENDSEC;
+DATA;
+"""
 NAMES = ["FILE_SCHEMA(('%s'));", "FILE_SCHEMA (\n( /* the name */ '%s { 1 0 10303 42 }' ) );"]
 TAIL = 'ENDSEC;\nEND-ISO-10303-21;\n'
 PLAIN = ['.stp', '.STEP', '.p21', '.Ifc']
