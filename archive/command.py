@@ -127,6 +127,7 @@ def work(run: Run, plan: Plan, engine: Engine) -> Dict[str, Findings]:
         found[findings.batch] = findings
         progress.add(findings)
 
+    run.receive(plan)
     for phase in plan.phases:
         run.trim(phase, found)
         if any(os.path.basename(it) not in found for it in phase.batches):
@@ -159,6 +160,8 @@ def archive(wanted: argparse.Namespace) -> int:
     for folder in wanted.folders:
         if not os.path.isdir(folder):
             raise Refused('no folder: %s' % tables.escaped(text_of(os.fsencode(folder))))
+    if wanted.transfer and not wanted.hosts:
+        raise Refused('--transfer sends files to the hosts of --hosts')
     hosts = os.path.abspath(wanted.hosts) if wanted.hosts else None
     run = Run(os.path.abspath(wanted.out))
     plan = planned(run, wanted)
