@@ -56,6 +56,8 @@ class Engine(NamedTuple):
                         found.write(line)
                         found.flush()
                         told(findings)
+            if running.returncode < 0:
+                log.write(b'p21archive: signal %d ended parallel\n' % -running.returncode)
 
     def clean(self, run: Run, plan: Plan) -> None:
         """Removes what was sent to the hosts that can be reached."""
