@@ -5,6 +5,7 @@ import io
 import lzma
 import os
 import random
+import shutil
 import zipfile
 
 import runs
@@ -152,6 +153,11 @@ def write(folder, top, count, seed):
         file = File(rng, rng.choice(SCHEMAS), KINDS[number % len(KINDS)])
         rows.append(write_file(inner, top, 'part %d%s' % (number, rng.choice(PLAIN)), file, rng.choice(['', '', '', '.gz', '.xz', '.ZIP'])))
     return sorted(rows, key=lambda it: it[0].encode())
+
+
+def has_parallel():
+    """Whether GNU parallel is here; moreutils has another program of its name."""
+    return bool(shutil.which('parallel')) and runs.run(['--version'], program=['parallel'])[1].startswith(b'GNU parallel')
 
 
 def read_table(path):
