@@ -13,18 +13,19 @@ from . import page, tables
 from .engine import Engine, Progress, require_parallel
 from .find import Part, Search
 from .model import FAULTY, UNTRIED, Finding, Findings, bytes_of, text_of
-from .run import FOUND, LOG, Asked, Base, Plan, Refused, Run
+from .plan import processors
+from .run import LOG, Asked, Base, Plan, Refused, Run
 from .schemas import schemas_of
 
 TOP = os.path.dirname(os.path.dirname(os.path.realpath(__file__)))
 REPORT = 'report.html'
-USAGE, INTERRUPTED = 2, 130
+USAGE, FAILED, INTERRUPTED = 2, 4, 130
 STATUSES = '''
 Status:
   0    all files were read
   1    some have a fault
   2    the words were refused
-  4    some could not be tried
+  4    some could not be tried, or the table could not be written
   130  it was interrupted
 '''
 
@@ -97,7 +98,7 @@ def begun(run: Run, asked: Asked, wanted: argparse.Namespace) -> Plan:
     laid = base(wanted.schemas)
     search = Search(wanted.part)
     search.run([os.fsencode(it) for it in wanted.folders])
-    count = (wanted.jobs or len(os.sched_getaffinity(0))) * (machines(wanted.hosts) if wanted.hosts else 1)
+    count = (wanted.jobs or processors()) * (machines(wanted.hosts) if wanted.hosts else 1)
     return run.begin(asked, search.files, search.refused, max(1, count), laid)
 
 
@@ -126,6 +127,7 @@ def work(run: Run, plan: Plan, engine: Engine) -> Dict[str, Findings]:
         found[findings.batch] = findings
         progress.add(findings)
 
+    run.receive(plan)
     for phase in plan.phases:
         run.trim(phase, found)
         if any(os.path.basename(it) not in found for it in phase.batches):
@@ -158,6 +160,8 @@ def archive(wanted: argparse.Namespace) -> int:
     for folder in wanted.folders:
         if not os.path.isdir(folder):
             raise Refused('no folder: %s' % tables.escaped(text_of(os.fsencode(folder))))
+    if wanted.transfer and not wanted.hosts:
+        raise Refused('--transfer sends files to the hosts of --hosts')
     hosts = os.path.abspath(wanted.hosts) if wanted.hosts else None
     run = Run(os.path.abspath(wanted.out))
     plan = planned(run, wanted)
@@ -165,17 +169,21 @@ def archive(wanted: argparse.Namespace) -> int:
     write(run, findings, time.monotonic() - begun_at)
     print('%s: %s' % (run.path(tables.RESULTS), page.summary(findings)))
     statuses = {it.status for it in findings}
-    return 4 if UNTRIED in statuses else 1 if FAULTY in statuses else 0
+    return FAILED if UNTRIED in statuses else 1 if FAULTY in statuses else 0
 
 
 def main(words: List[str]) -> int:
     """Runs the command."""
+    sys.stdout.reconfigure(errors='backslashreplace')
     wanted = options(words)
     try:
         return archive(wanted)
     except Refused as why:
         print('p21archive: %s' % why, file=sys.stderr)
         return USAGE
+    except OSError as error:
+        print('p21archive: %s' % error, file=sys.stderr)
+        return FAILED
     except KeyboardInterrupt:
         print('\np21archive: broken off; --resume goes on', file=sys.stderr)
         return INTERRUPTED

@@ -12,6 +12,7 @@ import time
 from typing import Callable, List, NamedTuple, Optional
 
 from .model import Findings
+from .plan import processors
 from .run import BASE, FOUND, LOG, SCRIPT, Phase, Plan, Refused, Run
 
 PARALLEL = ['parallel', '--plain', '--will-cite']
@@ -33,11 +34,12 @@ class Engine(NamedTuple):
 
     def words(self, run: Run, plan: Plan, phase: Phase) -> List[str]:
         """The command that runs the batches of a phase."""
-        jobs = '1' if phase.name == 'great' else str(self.jobs or '100%')
-        words = [*PARALLEL, '--jobs', jobs, '--retries', str(RETRIES), '--joblog', phase.joblog, '--resume']
+        jobs = 1 if phase.name == 'great' else self.jobs or ('100%' if self.hosts else processors())
+        words = [*PARALLEL, '--jobs', str(jobs), '--retries', str(RETRIES), '--joblog', phase.joblog, '--resume']
         if self.hosts:
             words += ['--ssh', SSH, '--sshloginfile', self.hosts]
-            words += ['--workdir', plan.workdir, '--basefile', BASE, '--transferfile', '{}'] if plan.asked.transfer else ['--workdir', run.folder]
+            words += ['--workdir', plan.workdir if plan.asked.transfer else run.folder]
+            words += ['--basefile', BASE, '--transferfile', '{}'] * plan.asked.transfer
         return [*words, 'python3' if self.hosts else '"$%s"' % PYTHON, '-I', '-S', SCRIPT, '--work', '{}']
 
     def run(self, run: Run, plan: Plan, phase: Phase, told: Callable[[Findings], None]) -> None:
@@ -45,14 +47,17 @@ class Engine(NamedTuple):
         with open(run.path(LOG), 'ab') as log, open(run.path(FOUND), 'ab') as found, tempfile.TemporaryFile() as batches:
             batches.write(''.join('%s\n' % it for it in phase.batches).encode())
             batches.seek(0)
-            with subprocess.Popen(self.words(run, plan, phase), cwd=run.folder, env={**os.environ, RSYNC_OPTIONS: RSYNC, PYTHON: sys.executable}, stdin=batches,
-                                  stdout=subprocess.PIPE, stderr=log, pass_fds=[run.lock], preexec_fn=end_with_parent) as running:
+            environment = {**os.environ, RSYNC_OPTIONS: RSYNC, PYTHON: sys.executable}
+            with subprocess.Popen(self.words(run, plan, phase), cwd=run.folder, env=environment, stdin=batches, stdout=subprocess.PIPE, stderr=log,
+                                  pass_fds=[run.lock], preexec_fn=end_with_parent) as running:
                 for line in running.stdout:
                     findings = Findings.of_line(line.decode('ascii', 'replace'))
                     if findings:
                         found.write(line)
                         found.flush()
                         told(findings)
+            if running.returncode < 0:
+                log.write(b'p21archive: signal %d ended parallel\n' % -running.returncode)
 
     def clean(self, run: Run, plan: Plan) -> None:
         """Removes what was sent to the hosts that can be reached."""

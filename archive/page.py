@@ -7,7 +7,7 @@ import html
 import math
 from typing import Dict, Iterable, Iterator, List, NamedTuple, Tuple
 
-from .model import FAULTY, READ, STATUSES, UNTRIED, Finding
+from .model import FAULTY, STATUSES, UNTRIED, Finding
 from .tables import FAULTS, RESULTS, escaped
 
 # The most rows of the table of files; the files tell the rest.
@@ -15,7 +15,7 @@ ROWS = 5000
 UNITS = ((1e9, 'GB'), (1e6, 'MB'), (1e3, 'kB'), (1, 'B'))
 # The drawing in pixels, the sides of a cell in it, and what is left of its edges for the numbers.
 WIDTH, HEIGHT, CELL = 880, 360, 4
-LEFT, RIGHT, TOP, BOTTOM = 70, 15, 10, 40
+LEFT, RIGHT, TOP, BOTTOM = 70, 30, 10, 40
 LEAST_SECONDS = 1e-4
 
 STYLE = '''
@@ -173,11 +173,12 @@ def drawing(findings: List[Finding]) -> str:
     points = ((sizes.at(it[0]), times.at(it[1]), it[2]) for it in tried)
     return '<svg viewBox="0 0 %d %d" width="%d" height="%d" role="img" aria-label="times by sizes">\n%s%s</svg>\n%s' % (
         WIDTH, HEIGHT, WIDTH, HEIGHT, ''.join(axes(sizes, times)), ''.join(cells(points)),
-        '<p>Seconds of a file by its bytes, packed where it is packed: <span class="%s">read</span>, <span class="%s">faulty</span>.</p>' % (READ, FAULTY))
+        '<p>Seconds of a file by its bytes, packed where it is packed: <span class="read">read</span>, <span class="faulty">faulty</span>.</p>')
 
 
 def write(path: str, findings: List[Finding], seconds: float) -> None:
     """Writes the page of a run that took so long."""
     with open(path, 'w', encoding='utf-8') as file:
-        file.write(PAGE.format(style=STYLE, summary=summary(findings), size=size(sum(it.bytes for it in findings)), seconds=time(seconds), results=RESULTS,
-                               faults=FAULTS, kinds=''.join(kinds(findings)), schemas=''.join(schemas(findings)), drawing=drawing(findings), faulty=faulty(findings)))
+        file.write(PAGE.format(
+            style=STYLE, summary=summary(findings), size=size(sum(it.bytes for it in findings)), seconds=time(seconds), results=RESULTS, faults=FAULTS,
+            kinds=''.join(kinds(findings)), schemas=''.join(schemas(findings)), drawing=drawing(findings), faulty=faulty(findings)))

@@ -16,6 +16,11 @@ LEAST_GREAT = 16 * MEGABYTE
 BATCHES, LEAST, MOST = 16, 32 * MEGABYTE, 128 * MEGABYTE
 
 
+def processors() -> int:
+    """How many processors this process may use."""
+    return len(os.sched_getaffinity(0))
+
+
 def cost(file: File) -> int:
     """What a file costs, as bytes that are read, about."""
     return BEGIN + file.bytes * (PACKED if is_packed(bytes_of(file.name)) else 1)

@@ -11,7 +11,7 @@ import secrets
 import sys
 from typing import Dict, Iterator, List
 
-from .model import Batch, File, Finding, Findings, bytes_of, text_of
+from .model import Batch, File, Finding, Findings, bytes_of
 from .plan import plan
 from .work import PROGRAM, SCHEMAS
 
@@ -129,14 +129,17 @@ class Run:
         for name, batch in zip(names, great + others):
             batch.is_sent = asked.transfer
             self._lay_batch(name, batch)
-        made = Plan(asked, len(files), sum(it.bytes for it in files), names[:len(great)], names[len(great):], refused, '.p21archive-%s' % secrets.token_hex(8))
-        if asked.transfer:
-            # A host that is this machine itself finds here what others are sent.
-            link(b'.', os.fsencode(self.path(made.workdir)))
+        size = sum(it.bytes for it in files)
+        made = Plan(asked, len(files), size, names[:len(great)], names[len(great):], refused, '.p21archive-%s' % secrets.token_hex(8))
         with open(self.path(RUN + '.part'), 'w', encoding='ascii') as file:
             json.dump(dataclasses.asdict(made), file)
         os.replace(self.path(RUN + '.part'), self.path(RUN))
         return made
+
+    def receive(self, plan: Plan) -> None:
+        """Has a host that is this machine itself find here what the others are sent."""
+        if plan.asked.transfer:
+            link(b'.', os.fsencode(self.path(plan.workdir)))
 
     def _lay_batch(self, name: str, batch: Batch) -> None:
         """Writes a batch; of one that is sent with a link to each file, whose name needs no quoting. The batch itself is sent last, being the

@@ -13,6 +13,7 @@ import time
 from typing import BinaryIO, Dict, Iterator, List, NamedTuple
 
 from .model import FAULTY, READ, Batch, File, Finding, Findings, Untried
+from .plan import processors
 from .schemas import read_front
 from .sources import Source, sources
 
@@ -147,7 +148,7 @@ def main(words: List[str]) -> int:
     batch = Batch.read(folder)
     with open(SCHEMAS, encoding='ascii') as file:
         schemas = json.load(file)
-    worker = Worker(batch.lanes or min(MOST_LANES, len(os.sched_getaffinity(0))), schemas)
+    worker = Worker(batch.lanes or min(MOST_LANES, processors()), schemas)
     found = [it for file in batch.files for it in worker.findings(file)]
     findings = Findings(os.path.basename(folder), len(batch.files), sum(it.bytes for it in batch.files), found)
     sys.stdout.write(findings.to_line())

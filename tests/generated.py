@@ -5,6 +5,7 @@ import io
 import lzma
 import os
 import random
+import shutil
 import zipfile
 
 import runs
@@ -29,7 +30,14 @@ OTHERS = {
     'WrongReference': "#%=CHAIN('A001',$,^#1);",
 }
 FAULTS = {**GRAMMAR, **OTHERS}
-HEADER = "ISO-10303-21;\nHEADER; /* FILE_SCHEMA(('NONE')) */\nFILE_DESCRIPTION(('it''s FILE_SCHEMA(('),'2;1');\nFILE_NAME('','',(''),(''),'','','');\n%s\nENDSEC;\nDATA;\n"
+HEADER = """ISO-10303-21;
+HEADER; /* FILE_SCHEMA(('NONE')) */
+FILE_DESCRIPTION(('it''s FILE_SCHEMA(('),'2;1');
+FILE_NAME('','',(''),(''),'','','');
+%s
+ENDSEC;
+DATA;
+"""
 NAMES = ["FILE_SCHEMA(('%s'));", "FILE_SCHEMA (\n( /* the name */ '%s { 1 0 10303 42 }' ) );"]
 TAIL = 'ENDSEC;\nEND-ISO-10303-21;\n'
 PLAIN = ['.stp', '.STEP', '.p21', '.Ifc']
@@ -145,6 +153,11 @@ def write(folder, top, count, seed):
         file = File(rng, rng.choice(SCHEMAS), KINDS[number % len(KINDS)])
         rows.append(write_file(inner, top, 'part %d%s' % (number, rng.choice(PLAIN)), file, rng.choice(['', '', '', '.gz', '.xz', '.ZIP'])))
     return sorted(rows, key=lambda it: it[0].encode())
+
+
+def has_parallel():
+    """Whether GNU parallel is here; moreutils has another program of its name."""
+    return bool(shutil.which('parallel')) and runs.run(['--version'], program=['parallel'])[1].startswith(b'GNU parallel')
 
 
 def read_table(path):
