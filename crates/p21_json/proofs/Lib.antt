@@ -7,3 +7,4 @@ pub mod WrittenLemmas
 pub mod AttributeLemmas
 pub mod InstanceLemmas
 pub mod LineLemmas
+pub mod HeaderLemmas

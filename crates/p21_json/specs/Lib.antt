@@ -9,4 +9,5 @@ pub mod Rows
 pub mod Parts
 pub mod Instances
 pub mod Lines
+pub mod Header
 pub mod Written

@@ -3,6 +3,7 @@
 
 mod attributes;
 mod characters;
+mod header;
 mod instances;
 mod line;
 mod lines;
@@ -11,5 +12,6 @@ mod numerals;
 mod pages;
 mod terms;
 
+pub use header::write_header;
 pub use lines::write_lines;
 pub use terms::Terms;
