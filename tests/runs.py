@@ -2,6 +2,7 @@
 
 import os
 import pathlib
+import pty
 import subprocess
 import tempfile
 
@@ -25,6 +26,26 @@ def run(words, program=(PROGRAM,), seconds=SECONDS, **more):
     except subprocess.TimeoutExpired:
         return None
     return ran.returncode, ran.stdout, ran.stderr
+
+
+def on_terminal(words, seconds=SECONDS):
+    """The same of a run whose errors are a terminal; None also where no terminal can be had."""
+    try:
+        ours, theirs = pty.openpty()
+    except OSError:
+        return None
+    started = subprocess.Popen([PROGRAM, *words], stdin=subprocess.DEVNULL, stdout=subprocess.PIPE, stderr=theirs)
+    os.close(theirs)
+    errors = b''
+    try:
+        while part := os.read(ours, 65536):
+            errors += part
+    except OSError:
+        # The terminal has no end that tells of itself.
+        pass
+    output, _ = started.communicate(timeout=seconds)
+    os.close(ours)
+    return started.returncode, output, errors.replace(b'\r\n', b'\n')
 
 
 def row(name):

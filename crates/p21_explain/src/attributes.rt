@@ -2,12 +2,14 @@
 
 ghost use Rattle.p21_schema.specs.Place.{IsEntityOf};
 
+use crate::instance::Instance;
 use p21_express::{AttrDecl, EntityDecl};
 use p21_schema::{AttrId, EntityId, Schema};
 
 /// An attribute, and the entity that newly declares it.
 #[derive(Clone, Copy)]
 pub(crate) struct Attribute<'a> {
+    pub(crate) id: AttrId,
     pub(crate) owner: &'a EntityDecl,
     pub(crate) declared: &'a AttrDecl,
 }
@@ -21,6 +23,18 @@ pub(crate) fn count(schema: &Schema, complex: bool, entity: EntityId) -> usize
     } else {
         schema.row_count(entity)
     }
+}
+
+/// The attribute for which a parameter of an instance stands.
+pub(crate) fn attribute_in<'a>(
+    instance: &Instance<'a>,
+    rec: u64,
+    attr: u64,
+) -> Option<Attribute<'a>> {
+    let schema = instance.subject.schema;
+    let entity = schema.entity(instance.keyword(rec)?)?;
+    let position = usize::try_from(attr).ok()?;
+    attribute_of(schema, instance.is_complex(), entity, position)
 }
 
 /// An attribute of a record of the entity; none where it has no more.
@@ -46,7 +60,11 @@ pub(crate) fn attribute_of(
 fn newly_declared(schema: &Schema, attribute: AttrId) -> Option<Attribute<'_>> {
     for owner in &schema.declared().entities {
         if let Some(declared) = own_declaration(schema, owner, attribute) {
-            return Some(Attribute { owner, declared });
+            return Some(Attribute {
+                id: attribute,
+                owner,
+                declared,
+            });
         }
     }
     None

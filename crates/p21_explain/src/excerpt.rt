@@ -5,57 +5,40 @@ ghost use Rattle.std.specs.String.{string_bytes};
 ghost use Rattle.p21_explain.specs.Printed.{IsPrinted};
 
 use crate::place::{Place, place_of};
-use crate::said::{Part, say};
+use crate::said::Said;
 use crate::shown::{front_len, new_text, push_blanks, push_line_end, push_shown};
 use memchr::memchr;
 use std::alloc::{AllocError, Global};
 use unicode_width::UnicodeWidthStr;
 
-/// The fewest columns that a line is shown in.
-const FEWEST: usize = 24;
+/// How many columns a line is shown in.
+const COLUMNS: usize = 120;
 
 /// What stands for what is left out of a line.
 const LEFT_OUT: &[u8] = b"...";
 
 /// A paragraph on a place in a text, which is at most its length: its head, the line of the place with a caret under it, and what is
-/// said of it. The head tells the path, the line and the column, and the place that the report tells.
+/// said of it. The head gives the path, the line and the column, and the place that the report gives.
 pub(crate) fn paragraph(
     alloc: Global,
     path: &str,
     text: &[u8],
     at: usize,
-    told: u64,
-    said: &[u8],
-    width: usize,
+    reported: u64,
+    said: &Said,
 ) -> Result<String, AllocError>
     requires { at ≤ length text.now }
     ensures { IfOk result (λ printed. IsPrinted (string_bytes printed)) }
 {
     let place = place_of(text, at);
-    let head = head(alloc, path, &place, told)?;
+    let mut head = Said::new(alloc);
+    head.say((path, ":", place.line as u64))?;
+    head.say((":", place.column as u64, ": fault at ", reported))?;
     let mut printed = new_text(alloc);
-    push_line(&mut printed, &head)?;
-    push_excerpt(alloc, &mut printed, text, at, &place, width)?;
-    push_line(&mut printed, said)?;
+    push_line(&mut printed, head.bytes())?;
+    push_excerpt(alloc, &mut printed, text, at, &place)?;
+    push_line(&mut printed, said.bytes())?;
     Ok(printed)
-}
-
-/// The first line of a paragraph: `PATH:LINE:COLUMN: fault at PLACE`.
-fn head(alloc: Global, path: &str, place: &Place, told: u64) -> Result<Vec<u8>, AllocError> {
-    let mut head = Vec::new(alloc);
-    say(
-        &mut head,
-        &[
-            Part::Words(path),
-            Part::Words(":"),
-            Part::Number(place.line as u64),
-            Part::Words(":"),
-            Part::Number(place.column as u64),
-            Part::Words(": fault at "),
-            Part::Number(told),
-        ],
-    )?;
-    Ok(head)
 }
 
 /// Adds a line.
@@ -67,14 +50,13 @@ pub(crate) fn push_line(text: &mut String, line: &[u8]) -> Result<(), AllocError
     push_line_end(text)
 }
 
-/// Adds the line of a place, in so many columns, and a line with a caret under the place.
+/// Adds the line of a place, and a line with a caret under the place.
 fn push_excerpt(
     alloc: Global,
     text: &mut String,
     file: &[u8],
     at: usize,
     place: &Place,
-    width: usize,
 ) -> Result<(), AllocError>
     requires within { at ≤ length file.now }
     requires start { place.now.start ≤ at }
@@ -83,11 +65,11 @@ fn push_excerpt(
 {
     let line = line_from(file, place.start);
     let offset = (at - place.start).min(line.len());
-    let mut margin = Vec::new(alloc);
-    say(&mut margin, &[Part::Number(place.line as u64)])?;
-    let room = width.saturating_sub(margin.len()).max(FEWEST);
+    let mut margin = Said::new(alloc);
+    margin.say(place.line as u64)?;
+    let room = COLUMNS.saturating_sub(margin.len());
     let before = end_shown(alloc, &line[..offset], room / 3 * 2)?;
-    push_marked(text, &margin, before.as_str(), &line[offset..], room)
+    push_marked(text, margin.bytes(), before.as_str(), &line[offset..], room)
 }
 
 /// Adds a line by what is shown of it before a place and what stands behind, in so many columns, and a line with a caret under the place.

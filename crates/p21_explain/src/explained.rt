@@ -4,38 +4,95 @@ ghost use Rattle.std.specs.Prelude.{◌≤◌, length, IfOk};
 ghost use Rattle.std.specs.String.{string_bytes};
 ghost use Rattle.p21_explain.specs.Printed.{IsPrinted};
 
+use crate::attributes::Attribute;
 use crate::excerpt::paragraph;
 use crate::faults::say_instance_fault;
-use crate::grammar::{say_bad_token, say_too_deep, say_truncated, say_unexpected};
+use crate::grammar::{say_bad_token, say_truncated, say_unexpected};
 use crate::header::{say_header_entities, say_wrong_schema};
-use crate::instances::piece_at;
-use crate::said::say_words;
-use crate::subject::Subject;
+use crate::instance::Instance;
+use crate::json::object;
+use crate::said::Said;
+use p21_cut::{Cut, Cutter};
+use p21_express::EntityDecl;
 use p21_schema::Schema;
+use p21_spelling::Spellings;
 use p21_tree::{Fault, FaultKind};
 use std::alloc::{AllocError, Global};
 
-/// A fault of a file in words, as some lines of text: the path with the line and the column of the place to look at, and the fault's
-/// own place as the report tells it; that line of the file with a caret under the place; and what is wrong, in a sentence.
+/// A file, and the schema that it was checked against.
+#[derive(Clone, Copy)]
+pub struct Subject<'a> {
+    pub schema: &'a Schema,
+    /// The schema's names as its text spells them; where some lack, they are in upper case.
+    pub spellings: &'a Spellings,
+    /// The path of the file.
+    pub path: &'a str,
+    pub file: &'a [u8],
+}
+
+impl<'a> Subject<'a> {
+    /// The declaration of an entity.
+    pub(crate) fn entity(self, name: &[u8]) -> Option<&'a EntityDecl> {
+        let entity = self.schema.entity(name)?;
+        self.schema.declared().entities.get(entity.place())
+    }
+
+    /// The name of an entity or of a type, as the schema spells it.
+    pub(crate) fn name(self, name: &'a [u8]) -> &'a [u8] {
+        let spelling = match (self.schema.entity(name), self.schema.type_named(name)) {
+            (Some(entity), _) => self.spellings.entities.get(entity.place()),
+            (None, Some(defined)) => self.spellings.types.get(defined.place()),
+            (None, None) => None,
+        };
+        spelling.map_or(name, |it| it.as_slice())
+    }
+
+    /// The name of an attribute, as the schema spells it.
+    pub(crate) fn attribute_name(self, attribute: Attribute<'a>) -> &'a [u8] {
+        match self.spellings.attributes.get(attribute.id.place()) {
+            Some(spelling) => spelling,
+            None => &attribute.declared.name,
+        }
+    }
+}
+
+/// How a fault is explained.
+#[derive(Clone, Copy, Debug, PartialEq, Eq)]
+pub enum Format {
+    /// Lines of text: the path with the line and the column of the place to look at, and the fault's own place as the report gives it;
+    /// that line of the file, in 120 columns, with a caret under the place; and what is wrong.
+    Text,
+    /// A line with an object of JSON.
+    Json,
+}
+
+/// A fault of a file, explained. `kind` is the name of its kind in the report.
 ///
-/// The file is the one that the schema was asked about, and the fault is one of it; of another file or fault the sentence says less.
-/// The line of the file is shown in `width` columns, and in no fewer than 24. No byte of the file or the path is printed as it is
-/// that could be one of control. Memory alone can fail.
+/// The file is the one that the schema was asked about, and the fault is one of it; of another file or fault less is said. No byte of the
+/// file or the path is printed as it is that could be one of control. Memory alone can fail.
 pub fn explain_fault(
     alloc: Global,
-    schema: &Schema,
-    path: &str,
-    file: &[u8],
+    subject: Subject<'_>,
     fault: &Fault,
-    width: usize,
+    kind: &[u8],
+    format: Format,
 ) -> Result<String, AllocError>
     ensures { IfOk result (λ text. IsPrinted (string_bytes text)) }
 {
-    let mut said = Vec::new(alloc);
-    let at = in_text(file, fault.at);
-    let subject = Subject { schema, file };
-    let looked_at = say_fault(alloc, &mut said, subject, fault.kind, at)?.min(file.len());
-    paragraph(alloc, path, file, looked_at, fault.at, &said, width)
+    let mut said = Said::new(alloc);
+    let at = in_text(subject.file, fault.at);
+    let looked_at = say_fault(&mut said, subject, fault.kind, at)?.min(subject.file.len());
+    match format {
+        Format::Text => paragraph(
+            alloc,
+            subject.path,
+            subject.file,
+            looked_at,
+            fault.at,
+            &said,
+        ),
+        Format::Json => object(alloc, subject.path, subject.file, looked_at, kind, &said),
+    }
 }
 
 /// A place in a text; its end where it is not so long.
@@ -48,10 +105,21 @@ pub(crate) fn in_text(text: &[u8], at: u64) -> usize
     }
 }
 
+/// The instance that begins at a place.
+pub(crate) fn instance_at(
+    alloc: Global,
+    subject: Subject<'_>,
+    at: u64,
+) -> Result<Option<Instance<'_>>, AllocError> {
+    match Cutter::new(subject.file, in_text(subject.file, at)).next() {
+        Cut::Piece(piece) => Ok(Some(Instance::read(alloc, subject, &piece)?)),
+        Cut::Tail(_) => Ok(None),
+    }
+}
+
 /// Adds what is wrong; answers the place to look at.
 fn say_fault(
-    alloc: Global,
-    said: &mut Vec<u8>,
+    said: &mut Said,
     subject: Subject<'_>,
     kind: FaultKind,
     at: usize,
@@ -62,32 +130,18 @@ fn say_fault(
         FaultKind::BadToken => say_bad_token(said, subject.file, at)?,
         FaultKind::Unexpected => return say_unexpected(said, subject.file, at),
         FaultKind::Truncated => say_truncated(said, subject.file, at)?,
-        FaultKind::TooDeep => say_too_deep(said)?,
+        FaultKind::TooDeep => said.say(
+            "This is the 65th parenthesis that is open at once; at most 64 are allowed.",
+        )?,
         FaultKind::HeaderEntities => return say_header_entities(said, subject.file, at),
         FaultKind::WrongSchema => return say_wrong_schema(said, subject, at),
-        _ => return say_of_instance(alloc, said, subject, kind, at),
+        _ => {
+            if let Some(instance) = instance_at(said.alloc, subject, at as u64)? {
+                let inside = say_instance_fault(said, &instance, kind)?;
+                return Ok(instance.at.saturating_add(inside));
+            }
+            said.say("An instance has a fault that is not here.")?;
+        }
     }
     Ok(at)
-}
-
-/// The same, of a fault of an instance, which begins at the place.
-fn say_of_instance(
-    alloc: Global,
-    said: &mut Vec<u8>,
-    subject: Subject<'_>,
-    kind: FaultKind,
-    at: usize,
-) -> Result<usize, AllocError>
-    requires { at ≤ length subject.file.now }
-{
-    match piece_at(subject.file, at) {
-        Some(piece) => {
-            let inside = say_instance_fault(alloc, said, subject, &piece, kind)?;
-            Ok((piece.at as usize).saturating_add(inside))
-        }
-        None => {
-            say_words(said, "An instance is at fault that does not stand here.")?;
-            Ok(at)
-        }
-    }
 }

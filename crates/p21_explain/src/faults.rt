@@ -1,412 +1,378 @@
 //! Faults of an instance.
 
-ghost use Rattle.std.specs.Prelude.{◌≤◌, length};
 ghost use Rattle.p21_schema.specs.Place.{IsEntityOf};
 
-use crate::attributes::{Attribute, attribute_of, count};
+use crate::attributes::{Attribute, attribute_in, attribute_of, count};
 use crate::complex::{is_subtype, say_broken_rule};
-use crate::instances::{find, name_of};
+use crate::explained::Subject;
+use crate::instance::{Instance, Spot};
 use crate::names::say_nearest;
-use crate::records::{is_complex, keyword, keywords};
-use crate::redeclared::{Kinds, say_declared};
-use crate::references::{say_instance, say_kind, say_named};
-use crate::said::{Part, article, say, say_front, say_words};
-use crate::spots::{Spot, integer_in, parameter_count, reference_at, repeated_in, token_at};
-use crate::subject::Subject;
-use crate::types::{is_of_reals, is_select, type_named};
+use crate::redeclared::say_declared;
+use crate::references::{say_kind, say_named};
+use crate::said::{Front, Said, article};
+use crate::types::{Base, base_of, is_of_reals, type_named};
 use crate::values::say_value;
 use p21_schema::EntityId;
 use p21_text::Token;
-use p21_tree::{FaultKind, Piece};
-use std::alloc::{AllocError, Global};
+use p21_tree::FaultKind;
+use std::alloc::AllocError;
 
 /// The most subtypes that are named of an abstract entity.
 const MOST_SUBTYPES: usize = 5;
 
 /// Adds what is wrong with an instance; answers the place to look at, in bytes from the instance's first byte.
 pub(crate) fn say_instance_fault(
-    alloc: Global,
-    said: &mut Vec<u8>,
-    subject: Subject<'_>,
-    piece: &Piece<'_>,
+    said: &mut Said,
+    instance: &Instance<'_>,
     kind: FaultKind,
 ) -> Result<usize, AllocError> {
-    let bytes = piece.bytes;
     match kind {
-        FaultKind::DuplicateName => say_duplicate(alloc, said, subject, piece),
-        FaultKind::UnknownEntity => say_unknown(alloc, said, subject, piece),
-        FaultKind::AbstractEntity => say_abstract(said, subject, piece),
-        FaultKind::BadComplex => say_complex(alloc, said, subject, piece),
-        FaultKind::WrongCount { rec } => say_count(said, subject, piece, rec),
+        FaultKind::DuplicateName => say_duplicate(said, instance),
+        FaultKind::UnknownEntity => say_unknown(said, instance),
+        FaultKind::AbstractEntity => say_abstract(said, instance),
+        FaultKind::BadComplex => say_complex(said, instance),
+        FaultKind::WrongCount { rec } => say_count(said, instance, rec),
         FaultKind::BadAttribute { rec, attr } => {
-            say_attribute(said, subject, piece, rec, attr)?;
-            let at = place_in(bytes, Spot::Parameter { rec, attr });
-            say_words(said, ". In its place stands ")?;
-            say_value(said, bytes, at)?;
-            say_words(said, ".")?;
-            say_advice(said, subject, bytes, rec, attr)?;
-            Ok(at)
+            let found = say_attribute(said, instance, rec, attr)?;
+            say_bad_value(said, instance, found, rec, attr)
         }
         FaultKind::RepeatedReference { rec, attr } => {
-            say_attribute(said, subject, piece, rec, attr)?;
-            say_repeated(said, bytes, rec, attr)
+            say_attribute(said, instance, rec, attr)?;
+            say_repeated(said, instance, rec, attr)
         }
         FaultKind::MissingReference { rec, attr, name } => {
-            say_attribute(said, subject, piece, rec, attr)?;
-            say_name(said, ". It names #", name)?;
-            say_words(said, ", and no instance has that name.")?;
-            Ok(place_of_reference(bytes, rec, attr, name))
+            say_attribute(said, instance, rec, attr)?;
+            say_reference(said, name)?;
+            said.say(", but no instance has that name.")?;
+            Ok(instance.place_in(rec, attr, Token::Name(name)))
         }
         FaultKind::WrongReference { rec, attr, name } => {
-            say_attribute(said, subject, piece, rec, attr)?;
-            say_name(said, ". It names #", name)?;
-            say_words(said, ", which is ")?;
-            say_named(alloc, said, subject.file, name)?;
-            say_words(said, ", and not of such an entity.")?;
-            Ok(place_of_reference(bytes, rec, attr, name))
+            say_attribute(said, instance, rec, attr)?;
+            let from = say_reference(said, name)?;
+            said.say(", ")?;
+            say_named(said, instance.subject, name)?;
+            said.found = said.since(from);
+            said.say(", which is not an instance of that type.")?;
+            Ok(instance.place_in(rec, attr, Token::Name(name)))
         }
         _ => {
-            say_words(said, "This instance is at fault.")?;
+            said.say("This instance has a fault.")?;
             Ok(0)
         }
     }
 }
 
-/// Adds an instance name between words.
-fn say_name(said: &mut Vec<u8>, before: &str, name: u64) -> Result<(), AllocError> {
-    say(said, &[Part::Words(before), Part::Number(name)])
+/// Adds which instance name is there; answers how long what is said was before the name.
+fn say_reference(said: &mut Said, name: u64) -> Result<usize, AllocError> {
+    said.say(". Found ")?;
+    let from = said.len();
+    said.say(("#", name))?;
+    said.found = said.since(from);
+    Ok(from)
 }
 
 /// Adds which instance a list names twice.
 fn say_repeated(
-    said: &mut Vec<u8>,
-    bytes: &[u8],
+    said: &mut Said,
+    instance: &Instance<'_>,
     rec: u64,
     attr: u64,
 ) -> Result<usize, AllocError> {
-    say_words(said, ". In its place a SET or a LIST OF UNIQUE names ")?;
-    match repeated_in(bytes, rec, attr) {
+    said.say(". A SET or LIST OF UNIQUE in it names ")?;
+    match instance.repeated_in(said.alloc, rec, attr)? {
         Some((name, at)) => {
-            say_name(said, "#", name)?;
-            say_words(said, " twice.")?;
+            said.say(("#", name, " twice."))?;
             Ok(at)
         }
         None => {
-            say_words(said, "one instance twice.")?;
-            Ok(place_in(bytes, Spot::Parameter { rec, attr }))
+            said.say("an instance twice.")?;
+            Ok(instance.place_of(Spot::Parameter { rec, attr }))
         }
     }
 }
 
-/// Adds how an attribute's place is filled, where the parameter in it shows what was overlooked.
-fn say_advice(
-    said: &mut Vec<u8>,
-    subject: Subject<'_>,
-    bytes: &[u8],
+/// Adds what is there in an attribute's place, and what was perhaps meant.
+fn say_bad_value(
+    said: &mut Said,
+    instance: &Instance<'_>,
+    attribute: Option<Attribute<'_>>,
     rec: u64,
     attr: u64,
+) -> Result<usize, AllocError> {
+    let spot = Spot::Parameter { rec, attr };
+    let at = instance.place_of(spot).min(instance.bytes.len());
+    said.say(". Found ")?;
+    let from = said.len();
+    say_value(said, instance.bytes, at)?;
+    said.found = said.since(from);
+    said.say(".")?;
+    if let (Some(placed), Some(attribute)) = (instance.token_at(spot), attribute) {
+        let integer = instance.integer_in(rec, attr);
+        say_advice(said, instance.subject, attribute, placed.token, integer)?;
+    }
+    Ok(at)
+}
+
+/// Adds how a value of the attribute is written, where the first token of the parameter, or the first integer in it, shows what was
+/// perhaps meant.
+fn say_advice(
+    said: &mut Said,
+    subject: Subject<'_>,
+    attribute: Attribute<'_>,
+    token: Token<'_>,
+    integer: Option<&[u8]>,
 ) -> Result<(), AllocError> {
-    let Some(lexed) = token_at(bytes, Spot::Parameter { rec, attr }) else {
-        return Ok(());
-    };
-    match lexed.token {
-        Token::Dollar => say_words(said, " `$` may stand where the attribute is OPTIONAL."),
-        Token::Star => say_words(said, " `*` may stand where the attribute is derived."),
-        Token::Int(_) | Token::LParen if is_of_reals_in(subject, bytes, rec, attr) => {
-            say_point(said, integer_in(bytes, rec, attr))
+    let declared = subject.schema.declared();
+    let texpr = &attribute.declared.texpr;
+    match (base_of(declared, texpr), token) {
+        (_, Token::Dollar) => said.say(" `$` is allowed only for an OPTIONAL attribute."),
+        (_, Token::Star) => said.say(" `*` is allowed only for a derived attribute."),
+        (_, Token::Int(_) | Token::LParen) if is_of_reals(declared, texpr) => {
+            say_point(said, integer)
         }
-        Token::LParen | Token::Name(_) | Token::Keyword(_) | Token::UserKeyword(_) => Ok(()),
-        _ if is_of_select(subject, bytes, rec, attr) => say_words(
-            said,
-            " In a SELECT a value stands in the parentheses of its type, as LABEL('x').",
-        ),
+        (_, Token::Enumeration(b"TRUE" | b"FALSE" | b"UNKNOWN")) => {
+            said.say(" A BOOLEAN is written `.T.` or `.F.`, and an unknown LOGICAL `.U.`.")
+        }
+        (Base::Text, Token::Int(digits) | Token::Real(digits)) => {
+            said.say((" A STRING is in apostrophes, as in '", Front(digits), "'."))
+        }
+        (Base::Integer, Token::Real(_)) => said.say(" An INTEGER has no point."),
+        (Base::Aggregate, Token::Name(name)) => {
+            said.say((
+                " A list is in parentheses, also of one element, as in (#",
+                name,
+                ").",
+            ))
+        }
+        (Base::Items, Token::Str([_, ..])) => {
+            said.say(" An enumeration is between points, as in `.METRE.`.")
+        }
+        (base, Token::Str([])) if base != Base::Text => {
+            said.say(" A value that is not given is written `$`, where the attribute is OPTIONAL.")
+        }
+        (Base::Select, Token::LParen | Token::Name(_)) => Ok(()),
+        (Base::Select, Token::Keyword(_) | Token::UserKeyword(_)) => Ok(()),
+        (Base::Select, _) => {
+            said.say(" A value of a SELECT is written with its type, as in LABEL('x').")
+        }
         _ => Ok(()),
     }
 }
 
 /// Adds that a REAL has a point, where an integer stands for it.
-fn say_point(said: &mut Vec<u8>, integer: Option<&[u8]>) -> Result<(), AllocError> {
-    let Some(digits) = integer else {
-        return Ok(());
-    };
-    say_words(said, " A REAL is written with a point, as `")?;
-    say_front(said, digits)?;
-    say_words(said, ".`: without it, it is an INTEGER.")
-}
-
-/// Whether the attribute of a place is a REAL, or an aggregate of it.
-fn is_of_reals_in(subject: Subject<'_>, bytes: &[u8], rec: u64, attr: u64) -> bool {
-    match attribute_in(subject, bytes, rec, attr) {
-        Some(found) => is_of_reals(subject.schema.declared(), &found.declared.texpr),
-        None => false,
+fn say_point(said: &mut Said, integer: Option<&[u8]>) -> Result<(), AllocError> {
+    match integer {
+        Some(digits) => said.say((" A REAL has a point, as in `", Front(digits), ".`.")),
+        None => Ok(()),
     }
-}
-
-/// Whether the attribute of a place is a SELECT.
-fn is_of_select(subject: Subject<'_>, bytes: &[u8], rec: u64, attr: u64) -> bool {
-    match attribute_in(subject, bytes, rec, attr) {
-        Some(found) => is_select(subject.schema.declared(), &found.declared.texpr),
-        None => false,
-    }
-}
-
-/// The attribute for which a parameter of an instance stands.
-fn attribute_in<'a>(
-    subject: Subject<'a>,
-    bytes: &[u8],
-    rec: u64,
-    attr: u64,
-) -> Option<Attribute<'a>> {
-    let entity = subject.schema.entity(keyword(bytes, rec)?)?;
-    let position = usize::try_from(attr).ok()?;
-    attribute_of(subject.schema, is_complex(bytes), entity, position)
 }
 
 /// Adds the name of an instance.
-fn say_subject(said: &mut Vec<u8>, piece: &Piece<'_>) -> Result<(), AllocError> {
-    match name_of(piece) {
-        Some(name) => say_name(said, "#", name),
-        None => say_words(said, "The instance"),
-    }
-}
-
-/// The place of what stands at a spot of an instance; 0 where nothing does.
-fn place_in(bytes: &[u8], spot: Spot) -> usize
-    ensures { result ≤ length bytes.now }
-{
-    match token_at(bytes, spot) {
-        Some(lexed) => lexed.start.min(bytes.len()),
-        None => 0,
-    }
-}
-
-/// The place of an instance name in a parameter; 0 where it is not there.
-fn place_of_reference(bytes: &[u8], rec: u64, attr: u64, name: u64) -> usize {
-    match reference_at(bytes, rec, attr, name) {
-        Some(lexed) => lexed.start,
-        None => 0,
+fn say_subject(said: &mut Said, instance: &Instance<'_>) -> Result<(), AllocError> {
+    said.name = instance.name();
+    match said.name {
+        Some(name) => said.say(("#", name)),
+        None => said.say("The instance"),
     }
 }
 
 /// Adds which earlier instance has the same name.
-fn say_duplicate(
-    alloc: Global,
-    said: &mut Vec<u8>,
-    subject: Subject<'_>,
-    piece: &Piece<'_>,
-) -> Result<usize, AllocError> {
-    say_subject(said, piece)?;
-    say_words(said, " is the name of an earlier instance too")?;
-    if let Some(name) = name_of(piece) {
-        if let Some(earlier) = find(subject.file, name, piece.at as usize) {
-            say_words(said, ", of ")?;
-            say_instance(alloc, said, subject.file, &earlier)?;
-        }
+fn say_duplicate(said: &mut Said, instance: &Instance<'_>) -> Result<usize, AllocError> {
+    say_subject(said, instance)?;
+    said.say(" is already the name of ")?;
+    if let Some(name) = instance.name() {
+        say_named(said, instance.subject, name)?;
     }
-    say_words(said, ".")?;
+    said.say(".")?;
     Ok(0)
 }
 
 /// Adds which keyword is no entity, and the names near it.
-fn say_unknown(
-    alloc: Global,
-    said: &mut Vec<u8>,
-    subject: Subject<'_>,
-    piece: &Piece<'_>,
-) -> Result<usize, AllocError> {
-    let keywords = keywords(alloc, piece.bytes)?;
+fn say_unknown(said: &mut Said, instance: &Instance<'_>) -> Result<usize, AllocError> {
+    let keywords = instance.keywords(said.alloc)?;
     for (rec, keyword) in keywords.iter().enumerate() {
-        if subject.schema.entity(keyword).is_none() {
+        if instance.subject.schema.entity(keyword).is_none() {
             let rec = rec as u64;
-            say_record(said, piece, rec)?;
-            say_no_entity(alloc, said, subject, keyword)?;
-            return Ok(place_in(piece.bytes, Spot::Keyword { rec }));
+            say_record(said, instance, rec)?;
+            say_no_entity(said, instance.subject, keyword)?;
+            return Ok(instance.place_of(Spot::Keyword { rec }));
         }
     }
     Ok(0)
 }
 
 /// Adds that a keyword, which was named, is no entity.
-fn say_no_entity(
-    alloc: Global,
-    said: &mut Vec<u8>,
-    subject: Subject<'_>,
-    keyword: &[u8],
-) -> Result<(), AllocError> {
+fn say_no_entity(said: &mut Said, subject: Subject<'_>, keyword: &[u8]) -> Result<(), AllocError> {
     let declared = subject.schema.declared();
-    say(
-        said,
-        &[
-            Part::Words(", and the schema "),
-            Part::Bytes(&declared.name),
-            Part::Words(" has no such entity."),
-        ],
-    )?;
+    said.say((
+        ", but the schema ",
+        declared.name.as_slice(),
+        " has no such entity.",
+    ))?;
     if keyword.starts_with(b"!") {
-        return say_words(
-            said,
-            " A keyword with `!` is user-defined, and in no schema.",
-        );
+        return said.say(" A keyword with `!` is user-defined, and in no schema.");
     }
     if type_named(declared, keyword).is_some() {
-        return say_words(said, " It has a TYPE of that name, which has no instances.");
+        return said.say(" It has a TYPE of that name, which has no instances.");
     }
-    say_nearest(alloc, said, &declared.entities, keyword)
+    say_nearest(said, subject, keyword)
 }
 
 /// Adds that an entity is abstract, and subtypes of it.
-fn say_abstract(
-    said: &mut Vec<u8>,
-    subject: Subject<'_>,
-    piece: &Piece<'_>,
-) -> Result<usize, AllocError> {
-    let name = match keyword(piece.bytes, 0) {
-        Some(name) => name,
-        None => b"",
-    };
-    say_subject(said, piece)?;
-    say(
-        said,
-        &[
-            Part::Words(" is "),
-            Part::Words(article(name)),
-            Part::Bytes(name),
-            Part::Words(", which is an ABSTRACT SUPERTYPE: wanted is an instance of a subtype"),
-        ],
-    )?;
+fn say_abstract(said: &mut Said, instance: &Instance<'_>) -> Result<usize, AllocError> {
+    say_record(said, instance, 0)?;
+    said.say(", which is an ABSTRACT SUPERTYPE; expected ")?;
+    let from = said.len();
+    said.say("an instance of a subtype")?;
+    if let Some(name) = instance.keyword(0) {
+        say_subtypes(said, instance.subject, name)?;
+    }
+    said.wanted = said.since(from);
+    said.say(".")?;
+    Ok(instance.place_of(Spot::Keyword { rec: 0 }))
+}
+
+/// Adds the first subtypes of an entity.
+fn say_subtypes(said: &mut Said, subject: Subject<'_>, name: &[u8]) -> Result<(), AllocError> {
     let mut count: usize = 0;
     for entity in &subject.schema.declared().entities {
         if count < MOST_SUBTYPES && is_subtype(entity, name) {
             let before = if count == 0 { ", as " } else { ", " };
-            say(said, &[Part::Words(before), Part::Bytes(&entity.name)])?;
+            said.say((before, subject.name(&entity.name)))?;
             count += 1;
-        }
-    }
-    say_words(said, ".")?;
-    Ok(place_in(piece.bytes, Spot::Keyword { rec: 0 }))
-}
-
-/// Adds which rule a complex instance breaks.
-fn say_complex(
-    alloc: Global,
-    said: &mut Vec<u8>,
-    subject: Subject<'_>,
-    piece: &Piece<'_>,
-) -> Result<usize, AllocError> {
-    let keywords = keywords(alloc, piece.bytes)?;
-    say_subject(said, piece)?;
-    say_words(said, " is ")?;
-    say_kind(alloc, said, piece.bytes)?;
-    say_words(said, ": ")?;
-    let rec = say_broken_rule(said, subject.schema.declared(), &keywords)?;
-    Ok(place_in(piece.bytes, Spot::Keyword { rec }))
-}
-
-/// Adds how many attributes a record is to have, and how many it has.
-fn say_count(
-    said: &mut Vec<u8>,
-    subject: Subject<'_>,
-    piece: &Piece<'_>,
-    rec: u64,
-) -> Result<usize, AllocError> {
-    let bytes = piece.bytes;
-    let complex = is_complex(bytes);
-    let found = parameter_count(bytes, rec);
-    say_record(said, piece, rec)?;
-    let mut wanted: u64 = 0;
-    if let Some(keyword) = keyword(bytes, rec) {
-        if let Some(entity) = subject.schema.entity(keyword) {
-            wanted = count(subject.schema, complex, entity) as u64;
-            say_number(said, ", with ", wanted, " attribute")?;
-            say_attributes(said, subject, complex, entity)?;
-        }
-    }
-    say_number(said, "; it is given ", found, " value")?;
-    say_words(said, ".")?;
-    if found < wanted {
-        Ok(place_in(bytes, Spot::Close { rec }))
-    } else {
-        Ok(place_in(bytes, Spot::Parameter { rec, attr: wanted }))
-    }
-}
-
-/// Adds how many things there are.
-fn say_number(
-    said: &mut Vec<u8>,
-    before: &'static str,
-    number: u64,
-    thing: &'static str,
-) -> Result<(), AllocError> {
-    let plural = if number == 1 { "" } else { "s" };
-    say(said, &[Part::Words(before), Part::Number(number)])?;
-    say(said, &[Part::Words(thing), Part::Words(plural)])
-}
-
-/// Adds the names of the attributes of a record of an entity, in order.
-fn say_attributes(
-    said: &mut Vec<u8>,
-    subject: Subject<'_>,
-    complex: bool,
-    entity: EntityId,
-) -> Result<(), AllocError>
-    requires { IsEntityOf subject.schema.now entity }
-{
-    for position in 0..count(subject.schema, complex, entity) {
-        let before = if position == 0 { ": " } else { ", " };
-        if let Some(found) = attribute_of(subject.schema, complex, entity, position) {
-            say(
-                said,
-                &[Part::Words(before), Part::Bytes(&found.declared.name)],
-            )?;
         }
     }
     Ok(())
 }
 
-/// Adds what an instance is, as far as one of its records says: `#4711 is an IFCWALL`.
-fn say_record(said: &mut Vec<u8>, piece: &Piece<'_>, rec: u64) -> Result<(), AllocError> {
-    say_subject(said, piece)?;
-    let Some(keyword) = keyword(piece.bytes, rec) else {
-        return Ok(());
-    };
-    let (is, article) = if is_complex(piece.bytes) {
-        (" is a complex instance with the record ", "")
-    } else {
-        (" is ", article(keyword))
-    };
-    say(said, &[Part::Words(is), Part::Words(article)])?;
-    say_front(said, keyword)
+/// Adds which rule a complex instance breaks.
+fn say_complex(said: &mut Said, instance: &Instance<'_>) -> Result<usize, AllocError> {
+    let keywords = instance.keywords(said.alloc)?;
+    say_subject(said, instance)?;
+    said.say(" is ")?;
+    let from = said.len();
+    say_kind(said, instance)?;
+    said.found = said.since(from);
+    said.say(": ")?;
+    let rec = say_broken_rule(said, instance.subject, &keywords)?;
+    Ok(instance.place_of(Spot::Keyword { rec }))
 }
 
-/// Adds what an attribute of an instance is declared as.
-fn say_attribute(
-    said: &mut Vec<u8>,
+/// Adds how many attributes a record has by the schema, and how many values it is given.
+fn say_count(said: &mut Said, instance: &Instance<'_>, rec: u64) -> Result<usize, AllocError> {
+    say_record(said, instance, rec)?;
+    let mut wanted: u64 = 0;
+    if let Some(entity) = instance
+        .keyword(rec)
+        .and_then(|it| instance.subject.schema.entity(it))
+    {
+        said.say(", which has ")?;
+        wanted = say_attributes(said, instance.subject, instance.is_complex(), entity)?;
+    }
+    let found = instance.parameter_count(rec);
+    said.say(". Found ")?;
+    let from = said.len();
+    say_number(said, found, " value")?;
+    said.found = said.since(from);
+    said.say(".")?;
+    say_comma(said, instance, rec, wanted)?;
+    if found < wanted {
+        Ok(instance.place_of(Spot::Close { rec }))
+    } else {
+        Ok(instance.place_of(Spot::Parameter { rec, attr: wanted }))
+    }
+}
+
+/// Adds that a REAL has a point, where two integers stand for the first one of a record.
+fn say_comma(
+    said: &mut Said,
+    instance: &Instance<'_>,
+    rec: u64,
+    wanted: u64,
+) -> Result<(), AllocError> {
+    for attr in 0..wanted {
+        let next = attr.saturating_add(1);
+        let found = attribute_in(instance, rec, attr);
+        let is_real = found.is_some_and(|it| {
+            base_of(instance.subject.schema.declared(), &it.declared.texpr) == Base::Real
+        });
+        if let (true, Some(whole), Some(decimals)) = (
+            is_real,
+            instance.integer_at(rec, attr),
+            instance.integer_at(rec, next),
+        ) {
+            said.say((" A REAL has a point, as in `", Front(whole), "."))?;
+            return said.say((Front(decimals), "`; a comma separates parameters."));
+        }
+    }
+    Ok(())
+}
+
+/// Adds how many things there are.
+fn say_number(said: &mut Said, number: u64, thing: &'static str) -> Result<(), AllocError> {
+    said.say((number, thing, if number == 1 { "" } else { "s" }))
+}
+
+/// Adds how many attributes a record of an entity has, and their names in order; answers how many.
+fn say_attributes(
+    said: &mut Said,
     subject: Subject<'_>,
-    piece: &Piece<'_>,
+    complex: bool,
+    entity: EntityId,
+) -> Result<u64, AllocError>
+    requires { IsEntityOf subject.schema.now entity }
+{
+    let from = said.len();
+    let count = count(subject.schema, complex, entity);
+    say_number(said, count as u64, " attribute")?;
+    for position in 0..count {
+        let before = if position == 0 { ": " } else { ", " };
+        if let Some(found) = attribute_of(subject.schema, complex, entity, position) {
+            said.say((before, subject.attribute_name(found)))?;
+        }
+    }
+    said.wanted = said.since(from);
+    Ok(count as u64)
+}
+
+/// Adds what an instance is, as far as one of its records says: `#4711 is an IfcWall`.
+fn say_record(said: &mut Said, instance: &Instance<'_>, rec: u64) -> Result<(), AllocError> {
+    say_subject(said, instance)?;
+    let Some(keyword) = instance.keyword(rec) else {
+        return Ok(());
+    };
+    if instance.is_complex() {
+        said.say(" is a complex instance with the record ")?;
+    } else {
+        said.say((" is ", article(keyword)))?;
+    }
+    let from = said.len();
+    said.say(Front(instance.subject.name(keyword)))?;
+    said.entity = said.since(from);
+    Ok(())
+}
+
+/// Adds what an attribute of an instance is declared as; answers the attribute.
+fn say_attribute<'a>(
+    said: &mut Said,
+    instance: &Instance<'a>,
     rec: u64,
     attr: u64,
-) -> Result<(), AllocError> {
-    say_record(said, piece, rec)?;
-    say_words(said, "; its attribute ")?;
-    let found = attribute_in(subject, piece.bytes, rec, attr);
-    let (Some(keyword), Some(found)) = (keyword(piece.bytes, rec), found) else {
-        return say(said, &[Part::Number(attr)]);
+) -> Result<Option<Attribute<'a>>, AllocError> {
+    say_record(said, instance, rec)?;
+    said.say("; its attribute ")?;
+    let Some(found) = attribute_in(instance, rec, attr) else {
+        said.say(attr)?;
+        return Ok(None);
     };
-    say(
-        said,
-        &[
-            Part::Bytes(&found.declared.name),
-            Part::Words(" (attr "),
-            Part::Number(attr),
-            Part::Words("), which "),
-            Part::Bytes(&found.owner.name),
-            Part::Words(" declares,"),
-        ],
-    )?;
-    let kinds = Kinds {
-        bytes: piece.bytes,
-        complex: is_complex(piece.bytes),
-        keyword,
-    };
-    say_declared(said, subject.schema, found, kinds)
+    let from = said.len();
+    said.say(instance.subject.attribute_name(found))?;
+    said.attribute = said.since(from);
+    said.say((" (attr ", attr, "), declared in "))?;
+    said.say((instance.subject.name(&found.owner.name), ", is "))?;
+    let from = said.len();
+    let keywords = instance.keywords(said.alloc)?;
+    say_declared(said, instance.subject, found, &keywords)?;
+    said.wanted = said.since(from);
+    Ok(Some(found))
 }

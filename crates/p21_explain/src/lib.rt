@@ -3,30 +3,29 @@
 
 mod attributes;
 mod complex;
-mod device;
 mod excerpt;
 mod explained;
 mod faults;
 mod grammar;
 mod groups;
 mod header;
+mod instance;
 mod instances;
+mod json;
+mod mistakes;
 mod names;
 mod place;
-mod records;
 mod redeclared;
 mod references;
+mod refused;
 mod said;
-mod schema_text;
 mod shown;
-mod spots;
-mod subject;
 mod types;
 mod values;
 mod walk;
 
-pub use device::explain_device;
-pub use explained::explain_fault;
+pub use explained::{Format, Subject, explain_fault};
 pub use groups::summary;
+pub use p21_spelling::{Spellings, spell_names};
 pub use place::{Place, place_of};
-pub use schema_text::explain_schema_fault;
+pub use refused::{explain_device, explain_schema_fault};

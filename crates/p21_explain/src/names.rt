@@ -1,6 +1,7 @@
 //! Names that are near a name.
 
-use crate::said::{Part, say};
+use crate::explained::Subject;
+use crate::said::Said;
 use p21_express::EntityDecl;
 use std::alloc::{AllocError, Global};
 use strsim::generic_levenshtein;
@@ -14,30 +15,16 @@ struct Near<'a> {
 
 /// Adds a sentence of the nearest names of entities, two at most; of none that shares too little with the name.
 pub(crate) fn say_nearest(
-    alloc: Global,
-    said: &mut Vec<u8>,
-    entities: &[EntityDecl],
+    said: &mut Said,
+    subject: Subject<'_>,
     name: &[u8],
 ) -> Result<(), AllocError> {
-    match nearest(alloc, entities, name)? {
-        (Some(first), Some(second)) => say(
-            said,
-            &[
-                Part::Words(" The nearest names are "),
-                Part::Bytes(first.name),
-                Part::Words(" and "),
-                Part::Bytes(second.name),
-                Part::Words("."),
-            ],
-        ),
-        (Some(first), None) => say(
-            said,
-            &[
-                Part::Words(" The nearest name is "),
-                Part::Bytes(first.name),
-                Part::Words("."),
-            ],
-        ),
+    match nearest(said.alloc, &subject.schema.declared().entities, name)? {
+        (Some(first), Some(second)) => {
+            said.say((" The nearest names are ", subject.name(first.name)))?;
+            said.say((" and ", subject.name(second.name), "."))
+        }
+        (Some(first), None) => said.say((" The nearest name is ", subject.name(first.name), ".")),
         _ => Ok(()),
     }
 }

@@ -1,81 +1,63 @@
 //! What an attribute is declared as, in an instance.
 
 use crate::attributes::Attribute;
-use crate::records::has_keyword;
-use crate::said::{Part, say, say_words};
+use crate::explained::Subject;
+use crate::said::Said;
 use crate::types::{article_of, say_meaning, say_type};
 use p21_express::{AttrDecl, EntityDecl};
 use p21_schema::Schema;
 use std::alloc::AllocError;
 
-/// An instance, by the entities that it is of.
-#[derive(Clone, Copy)]
-pub(crate) struct Kinds<'a> {
-    pub(crate) bytes: &'a [u8],
-    pub(crate) complex: bool,
-    /// The keyword of the record that is looked at.
-    pub(crate) keyword: &'a [u8],
-}
-
-/// Adds what an attribute is: ` is an OPTIONAL IFCLABEL, which is a STRING(255)`, and what entities of the instance make of it.
+/// Adds what an attribute is: `an OPTIONAL IfcLabel, which is a STRING(255)`, and what entities of the instance, whose records have these
+/// keywords, make of it.
 pub(crate) fn say_declared(
-    said: &mut Vec<u8>,
-    schema: &Schema,
+    said: &mut Said,
+    subject: Subject<'_>,
     attribute: Attribute<'_>,
-    kinds: Kinds<'_>,
+    keywords: &[&[u8]],
 ) -> Result<(), AllocError> {
-    say_words(said, " is ")?;
-    say_form(said, schema, attribute.declared)?;
-    for entity in &schema.declared().entities {
-        if is_of(schema, kinds, &entity.name) {
-            say_again(said, schema, attribute, entity)?;
+    say_form(said, subject, attribute.declared)?;
+    for entity in &subject.schema.declared().entities {
+        if is_of(subject.schema, keywords, &entity.name) {
+            say_again(said, subject, attribute, entity)?;
         }
     }
     Ok(())
 }
 
 /// Adds the type of a declaration, with OPTIONAL where it has that.
-fn say_form(said: &mut Vec<u8>, schema: &Schema, declared: &AttrDecl) -> Result<(), AllocError> {
+fn say_form(said: &mut Said, subject: Subject<'_>, declared: &AttrDecl) -> Result<(), AllocError> {
     let before = if declared.optional {
         "an OPTIONAL "
     } else {
         article_of(&declared.texpr)
     };
-    say_words(said, before)?;
-    say_type(said, &declared.texpr)?;
-    say_meaning(said, schema.declared(), &declared.texpr)
+    said.say(before)?;
+    say_type(said, subject, &declared.texpr)?;
+    say_meaning(said, subject, &declared.texpr)
 }
 
 /// Adds how an entity declares an attribute again, where it does.
 fn say_again(
-    said: &mut Vec<u8>,
-    schema: &Schema,
+    said: &mut Said,
+    subject: Subject<'_>,
     attribute: Attribute<'_>,
     entity: &EntityDecl,
 ) -> Result<(), AllocError> {
+    let name = subject.name(&entity.name);
     for again in &entity.attributes {
-        if again.name == attribute.declared.name && is_through(schema, &again.of, attribute) {
-            say(
-                said,
-                &[
-                    Part::Words("; "),
-                    Part::Bytes(&entity.name),
-                    Part::Words(" declares it again as "),
-                ],
-            )?;
-            say_form(said, schema, again)?;
+        if again.name == attribute.declared.name
+            && is_through(subject.schema, &again.of, attribute)
+        {
+            said.say(("; ", name, " redeclares it as "))?;
+            say_form(said, subject, again)?;
         }
     }
     for derived in &entity.derived {
-        if derived.name == attribute.declared.name && is_through(schema, &derived.of, attribute) {
-            say(
-                said,
-                &[
-                    Part::Words("; "),
-                    Part::Bytes(&entity.name),
-                    Part::Words(" derives it, so `*` alone may stand for it"),
-                ],
-            )?;
+        if derived.name == attribute.declared.name
+            && is_through(subject.schema, &derived.of, attribute)
+        {
+            said.say(("; ", name, " derives it, so it is written `*`"))?;
         }
     }
     Ok(())
@@ -89,12 +71,11 @@ fn is_through(schema: &Schema, of: &Option<Vec<u8>>, attribute: Attribute<'_>) -
     }
 }
 
-/// Whether an instance is of an entity.
-fn is_of(schema: &Schema, kinds: Kinds<'_>, name: &[u8]) -> bool {
-    if kinds.complex {
-        has_keyword(kinds.bytes, name)
-    } else {
-        is_a(schema, kinds.keyword, name)
+/// Whether one of some records makes an instance one of an entity: in a complex instance by its own keyword, else also by its ancestors.
+fn is_of(schema: &Schema, keywords: &[&[u8]], name: &[u8]) -> bool {
+    match keywords {
+        [keyword] => is_a(schema, keyword, name),
+        _ => keywords.contains(&name),
     }
 }
 

@@ -1,78 +1,173 @@
-//! Sentences in the making.
+//! What is said of a fault, in the making.
 
 use itoa::Buffer;
-use std::alloc::AllocError;
-
-/// A part of a sentence.
-#[derive(Clone, Copy)]
-pub(crate) enum Part<'a> {
-    /// Words.
-    Words(&'a str),
-    /// Bytes of a file or of a schema, as they stand there.
-    Bytes(&'a [u8]),
-    /// A number, in decimal.
-    Number(u64),
-    /// A number with a sign, in decimal.
-    Signed(i64),
-}
+use std::alloc::{AllocError, Global};
 
 /// The most bytes of a value, or of an unknown name, that a sentence gives.
 const MOST: usize = 60;
 
 /// The most names of a list that a sentence gives.
-const MOST_NAMES: usize = 24;
+pub(crate) const MOST_NAMES: usize = 24;
 
-/// Adds words.
-pub(crate) fn say_words(said: &mut Vec<u8>, words: &str) -> Result<(), AllocError> {
-    said.extend_from_slice(words.as_bytes())
+/// Where a part of what is said stands in it.
+#[derive(Clone, Copy)]
+pub(crate) struct Span {
+    from: usize,
+    to: usize,
 }
 
-/// Adds some parts, one behind the other.
-pub(crate) fn say(said: &mut Vec<u8>, parts: &[Part<'_>]) -> Result<(), AllocError> {
-    for part in parts {
-        say_one(said, *part)?;
-    }
-    Ok(())
+/// What is said of a fault, and where in it these parts stand.
+#[derive(Drop)]
+pub(crate) struct Said {
+    pub(crate) alloc: Global,
+    bytes: Vec<u8>,
+    /// The name of the instance.
+    pub(crate) name: Option<u64>,
+    pub(crate) entity: Option<Span>,
+    pub(crate) attribute: Option<Span>,
+    pub(crate) wanted: Option<Span>,
+    pub(crate) found: Option<Span>,
 }
 
-/// Adds a part.
-fn say_one(said: &mut Vec<u8>, part: Part<'_>) -> Result<(), AllocError> {
-    match part {
-        Part::Words(words) => say_words(said, words),
-        Part::Bytes(bytes) => said.extend_from_slice(bytes),
-        Part::Number(number) => said.extend_from_slice(Buffer::new().format(number).as_bytes()),
-        Part::Signed(number) => said.extend_from_slice(Buffer::new().format(number).as_bytes()),
-    }
-}
-
-/// Adds bytes of a file, and of very many the first alone, with three points behind them.
-pub(crate) fn say_front(said: &mut Vec<u8>, bytes: &[u8]) -> Result<(), AllocError> {
-    if bytes.len() <= MOST {
-        return said.extend_from_slice(bytes);
-    }
-    let front = &bytes[..MOST];
-    said.extend_from_slice(front)?;
-    said.extend_from_slice(b"...")
-}
-
-/// Adds names with commas between them, and of very many the first alone, with three points behind them.
-pub(crate) fn say_names(said: &mut Vec<u8>, names: &[Vec<u8>]) -> Result<(), AllocError> {
-    for (position, name) in names.iter().enumerate() {
-        if position == MOST_NAMES {
-            return say_words(said, ", ...");
+impl Said {
+    /// Nothing is said yet.
+    pub(crate) fn new(alloc: Global) -> Said {
+        Said {
+            alloc,
+            bytes: Vec::new(alloc),
+            name: None,
+            entity: None,
+            attribute: None,
+            wanted: None,
+            found: None,
         }
-        if position > 0 {
-            say_words(said, ", ")?;
-        }
-        say(said, &[Part::Bytes(name)])?;
     }
-    Ok(())
+
+    /// Says more.
+    pub(crate) fn say<T: Say>(&mut self, what: T) -> Result<(), AllocError> {
+        what.say_in(&mut self.bytes)
+    }
+
+    /// How long it is.
+    pub(crate) fn len(&self) -> usize {
+        self.bytes.len()
+    }
+
+    /// What was said since it was so long.
+    pub(crate) fn since(&self, from: usize) -> Option<Span> {
+        Some(Span {
+            from,
+            to: self.bytes.len(),
+        })
+    }
+
+    /// A part.
+    pub(crate) fn part(&self, span: Option<Span>) -> Option<&[u8]> {
+        let span = span?;
+        self.bytes.get(span.from..span.to)
+    }
+
+    /// All of it.
+    pub(crate) fn bytes(&self) -> &[u8] {
+        &self.bytes
+    }
+}
+
+/// What can be said: words, bytes as they are, a number in decimal, or some of these one behind the other.
+pub(crate) trait Say: Copy {
+    /// Adds it.
+    fn say_in(self, bytes: &mut Vec<u8>) -> Result<(), AllocError>;
+}
+
+impl Say for &str {
+    fn say_in(self, bytes: &mut Vec<u8>) -> Result<(), AllocError> {
+        bytes.extend_from_slice(self.as_bytes())
+    }
+}
+
+impl Say for &[u8] {
+    fn say_in(self, bytes: &mut Vec<u8>) -> Result<(), AllocError> {
+        bytes.extend_from_slice(self)
+    }
+}
+
+impl Say for u64 {
+    fn say_in(self, bytes: &mut Vec<u8>) -> Result<(), AllocError> {
+        bytes.extend_from_slice(Buffer::new().format(self).as_bytes())
+    }
+}
+
+impl Say for i64 {
+    fn say_in(self, bytes: &mut Vec<u8>) -> Result<(), AllocError> {
+        bytes.extend_from_slice(Buffer::new().format(self).as_bytes())
+    }
+}
+
+impl<A: Say, B: Say> Say for (A, B) {
+    fn say_in(self, bytes: &mut Vec<u8>) -> Result<(), AllocError> {
+        self.0.say_in(bytes)?;
+        self.1.say_in(bytes)
+    }
+}
+
+impl<A: Say, B: Say, C: Say> Say for (A, B, C) {
+    fn say_in(self, bytes: &mut Vec<u8>) -> Result<(), AllocError> {
+        self.0.say_in(bytes)?;
+        self.1.say_in(bytes)?;
+        self.2.say_in(bytes)
+    }
+}
+
+impl<A: Say, B: Say, C: Say, D: Say> Say for (A, B, C, D) {
+    fn say_in(self, bytes: &mut Vec<u8>) -> Result<(), AllocError> {
+        ((self.0, self.1), (self.2, self.3)).say_in(bytes)
+    }
+}
+
+/// Bytes of a file: of very many the first alone, with three points behind them.
+#[derive(Clone, Copy)]
+pub(crate) struct Front<'a>(pub(crate) &'a [u8]);
+
+impl Say for Front<'_> {
+    fn say_in(self, bytes: &mut Vec<u8>) -> Result<(), AllocError> {
+        match self.0.get(..MOST) {
+            Some(front) if self.0.len() > MOST => (front, "...").say_in(bytes),
+            _ => self.0.say_in(bytes),
+        }
+    }
+}
+
+/// A name with an article before it.
+#[derive(Clone, Copy)]
+pub(crate) struct One<'a>(pub(crate) &'a [u8]);
+
+impl Say for One<'_> {
+    fn say_in(self, bytes: &mut Vec<u8>) -> Result<(), AllocError> {
+        (article(self.0), Front(self.0)).say_in(bytes)
+    }
 }
 
 /// The article before a name.
 pub(crate) fn article(name: &[u8]) -> &'static str {
     match name.first() {
-        Some(b'A' | b'E' | b'I' | b'O') => "an ",
+        Some(b'A' | b'E' | b'I' | b'O' | b'a' | b'e' | b'i' | b'o') => "an ",
         _ => "a ",
+    }
+}
+
+/// Names with commas between them: of very many the first alone, with three points behind them.
+#[derive(Clone, Copy)]
+pub(crate) struct Names<'a>(pub(crate) &'a [Vec<u8>]);
+
+impl Say for Names<'_> {
+    fn say_in(self, bytes: &mut Vec<u8>) -> Result<(), AllocError> {
+        for (position, name) in self.0.iter().enumerate() {
+            if position == MOST_NAMES {
+                return ", ...".say_in(bytes);
+            }
+            let before = if position == 0 { "" } else { ", " };
+            (before, name.as_slice()).say_in(bytes)?;
+        }
+        Ok(())
     }
 }

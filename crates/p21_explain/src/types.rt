@@ -1,18 +1,23 @@
 //! Types in EXPRESS.
 
-use crate::said::{Part, article, say, say_names, say_words};
-use p21_express::{Declarations, EntityDecl, TypeDecl, TypeExpr, Under};
+use crate::explained::Subject;
+use crate::said::{MOST_NAMES, Names, Said, article};
+use p21_express::{Declarations, TypeDecl, TypeExpr, Under};
 use p21_schema::{Bounds, Width};
 use std::alloc::AllocError;
 
 /// Adds a type as EXPRESS writes it.
-pub(crate) fn say_type(said: &mut Vec<u8>, texpr: &TypeExpr) -> Result<(), AllocError> {
+pub(crate) fn say_type(
+    said: &mut Said,
+    subject: Subject<'_>,
+    texpr: &TypeExpr,
+) -> Result<(), AllocError> {
     match texpr {
-        TypeExpr::Integer => say_words(said, "INTEGER"),
-        TypeExpr::Number => say_words(said, "NUMBER"),
-        TypeExpr::Boolean => say_words(said, "BOOLEAN"),
-        TypeExpr::Logical => say_words(said, "LOGICAL"),
-        TypeExpr::Real => say_words(said, "REAL"),
+        TypeExpr::Integer => said.say("INTEGER"),
+        TypeExpr::Number => said.say("NUMBER"),
+        TypeExpr::Boolean => said.say("BOOLEAN"),
+        TypeExpr::Logical => said.say("LOGICAL"),
+        TypeExpr::Real => said.say("REAL"),
         TypeExpr::Text(width) => say_width(said, "STRING", *width),
         TypeExpr::Binary(width) => say_width(said, "BINARY", *width),
         TypeExpr::Array {
@@ -22,7 +27,7 @@ pub(crate) fn say_type(said: &mut Vec<u8>, texpr: &TypeExpr) -> Result<(), Alloc
         } => {
             let of = if *optional { " OF OPTIONAL " } else { " OF " };
             say_aggregate(said, "ARRAY", *bounds, of)?;
-            say_type(said, item)
+            say_type(said, subject, item)
         }
         TypeExpr::List {
             bounds,
@@ -31,117 +36,108 @@ pub(crate) fn say_type(said: &mut Vec<u8>, texpr: &TypeExpr) -> Result<(), Alloc
         } => {
             let of = if *unique { " OF UNIQUE " } else { " OF " };
             say_aggregate(said, "LIST", *bounds, of)?;
-            say_type(said, item)
+            say_type(said, subject, item)
         }
         TypeExpr::Set { bounds, item, .. } => {
             say_aggregate(said, "SET", *bounds, " OF ")?;
-            say_type(said, item)
+            say_type(said, subject, item)
         }
         TypeExpr::Bag { bounds, item, .. } => {
             say_aggregate(said, "BAG", *bounds, " OF ")?;
-            say_type(said, item)
+            say_type(said, subject, item)
         }
-        TypeExpr::Named(name) => say(said, &[Part::Bytes(name)]),
+        TypeExpr::Named(name) => said.say(subject.name(name)),
     }
 }
 
 /// Adds a STRING or a BINARY of a width.
-fn say_width(said: &mut Vec<u8>, word: &str, width: Width) -> Result<(), AllocError> {
-    say_words(said, word)?;
+fn say_width(said: &mut Said, word: &str, width: Width) -> Result<(), AllocError> {
+    said.say(word)?;
     let Some(count) = width.count else {
         return Ok(());
     };
     let behind = if width.fixed { ") FIXED" } else { ")" };
-    say(
-        said,
-        &[Part::Words("("), Part::Number(count), Part::Words(behind)],
-    )
+    said.say(("(", count, behind))
 }
 
 /// Adds an aggregate up to its elements.
 fn say_aggregate(
-    said: &mut Vec<u8>,
+    said: &mut Said,
     word: &'static str,
     bounds: Bounds,
     of: &'static str,
 ) -> Result<(), AllocError> {
-    say(
-        said,
-        &[
-            Part::Words(word),
-            Part::Words(" ["),
-            bound(bounds.low),
-            Part::Words(":"),
-            bound(bounds.high),
-            Part::Words("]"),
-            Part::Words(of),
-        ],
-    )
+    said.say((word, " ["))?;
+    say_bound(said, bounds.low)?;
+    said.say(":")?;
+    say_bound(said, bounds.high)?;
+    said.say(("]", of))
 }
 
-/// A bound; `?` where it is not checked.
-fn bound(bound: Option<i64>) -> Part<'static> {
+/// Adds a bound; `?` where it is not checked.
+fn say_bound(said: &mut Said, bound: Option<i64>) -> Result<(), AllocError> {
     match bound {
-        Some(bound) => Part::Signed(bound),
-        None => Part::Words("?"),
+        Some(bound) => said.say(bound),
+        None => said.say("?"),
     }
 }
 
-/// Adds what the name in a type stands for, from type to type: `, which is an IFCREAL, which is a REAL`.
+/// Adds what the name in a type stands for, from type to type: `, which is an IfcReal, which is a REAL`.
 pub(crate) fn say_meaning(
-    said: &mut Vec<u8>,
-    declared: &Declarations,
+    said: &mut Said,
+    subject: Subject<'_>,
     texpr: &TypeExpr,
 ) -> Result<(), AllocError> {
+    let declared = subject.schema.declared();
     let mut named = name_in(texpr);
     for _ in 0..declared.types.len() {
-        let Some(name) = named else {
+        let Some(defined) = named.and_then(|name| type_named(declared, name)) else {
             return Ok(());
         };
-        let Some(defined) = type_named(declared, name) else {
-            return Ok(());
-        };
-        named = say_under(said, &defined.under)?;
+        named = say_under(said, subject, &defined.under)?;
     }
     Ok(())
 }
 
 /// Adds what stands under a type, and answers the name in it.
-fn say_under<'a>(said: &mut Vec<u8>, under: &'a Under) -> Result<Option<&'a [u8]>, AllocError> {
+fn say_under<'a>(
+    said: &mut Said,
+    subject: Subject<'_>,
+    under: &'a Under,
+) -> Result<Option<&'a [u8]>, AllocError> {
     match under {
         Under::Items(items) => {
-            say_listed(said, ", which is an ENUMERATION OF (", items)?;
+            said.say((", which is an ENUMERATION OF (", Names(items), ")"))?;
             Ok(None)
         }
         Under::Select(items) => {
-            say_listed(said, ", which is a SELECT (", items)?;
+            said.say(", which is a SELECT ")?;
+            say_selected(said, subject, items)?;
             Ok(None)
         }
         Under::Plain(texpr) => {
-            say_plain(said, texpr)?;
+            said.say((", which is ", article_of(texpr)))?;
+            say_type(said, subject, texpr)?;
             Ok(name_in(texpr))
         }
     }
 }
 
-/// Adds the names of a list, which stand in parentheses that these words open.
-fn say_listed(
-    said: &mut Vec<u8>,
-    words: &'static str,
+/// Adds the items of a SELECT.
+fn say_selected(
+    said: &mut Said,
+    subject: Subject<'_>,
     items: &[Vec<u8>],
 ) -> Result<(), AllocError> {
-    say_words(said, words)?;
-    say_names(said, items)?;
-    say_words(said, ")")
-}
-
-/// Adds which type another one is.
-fn say_plain(said: &mut Vec<u8>, texpr: &TypeExpr) -> Result<(), AllocError> {
-    say(
-        said,
-        &[Part::Words(", which is "), Part::Words(article_of(texpr))],
-    )?;
-    say_type(said, texpr)
+    for (position, item) in items.iter().take(MOST_NAMES).enumerate() {
+        let before = if position == 0 { "(" } else { ", " };
+        said.say((before, subject.name(item)))?;
+    }
+    said.say(if items.len() > MOST_NAMES {
+        ", ...)"
+    } else {
+        ")"
+    })
 }
 
 /// The article before a type.
@@ -165,23 +161,43 @@ fn name_in(texpr: &TypeExpr) -> Option<&[u8]> {
     }
 }
 
-/// Whether a type is a SELECT by its name.
-pub(crate) fn is_select(declared: &Declarations, texpr: &TypeExpr) -> bool {
+/// What a type is at last, by the names that stand for it, as far as the advice on its values goes.
+#[derive(Clone, Copy, PartialEq, Eq)]
+pub(crate) enum Base {
+    Integer,
+    Real,
+    Text,
+    Aggregate,
+    Items,
+    Select,
+    Other,
+}
+
+pub(crate) fn base_of(declared: &Declarations, texpr: &TypeExpr) -> Base {
     let mut texpr = texpr;
     for _ in 0..declared.types.len() {
         let TypeExpr::Named(name) = texpr else {
-            return false;
+            break;
         };
         match type_named(declared, name) {
             Some(defined) => match &defined.under {
-                Under::Select(_) => return true,
-                Under::Items(_) => return false,
+                Under::Select(_) => return Base::Select,
+                Under::Items(_) => return Base::Items,
                 Under::Plain(under) => texpr = under,
             },
-            None => return false,
+            None => break,
         }
     }
-    false
+    match texpr {
+        TypeExpr::Integer => Base::Integer,
+        TypeExpr::Real => Base::Real,
+        TypeExpr::Text(_) => Base::Text,
+        TypeExpr::Array { .. }
+        | TypeExpr::List { .. }
+        | TypeExpr::Set { .. }
+        | TypeExpr::Bag { .. } => Base::Aggregate,
+        _ => Base::Other,
+    }
 }
 
 /// Whether a type is REAL, or an aggregate of it, by its names.
@@ -218,16 +234,6 @@ pub(crate) fn type_named<'a>(declared: &'a Declarations, name: &[u8]) -> Option<
     for defined in &declared.types {
         if defined.name.as_slice() == name {
             return Some(defined);
-        }
-    }
-    None
-}
-
-/// The declaration of an entity.
-pub(crate) fn entity_named<'a>(declared: &'a Declarations, name: &[u8]) -> Option<&'a EntityDecl> {
-    for entity in &declared.entities {
-        if entity.name.as_slice() == name {
-            return Some(entity);
         }
     }
     None

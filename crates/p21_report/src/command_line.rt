@@ -1,4 +1,4 @@
-//! The program, over its words and any readers and writers.
+//! The program, over its arguments and any readers and writers.
 
 ghost use Rattle.std.specs.Prelude.{◌≡◌, Ok, Err};
 ghost use Rattle.p21_run.specs.declared.outcome.Outcome.TheVariants.{Complete, Faulty, SchemaRefused, Device as Failed, Memory as NoMemory};
@@ -19,16 +19,16 @@ use std::sync::Wait;
 use std::thread::Threads;
 use std::time::Clock;
 
-/// The program `p21check SCHEMA FILE [--lanes N] [--capacity N] [--all] [--distinct] [--explain[=N]] [--progress]`: reads the schema,
-/// checks the file against it by so many lanes (4, if not said) of this capacity (256), and writes the report to `output`, by `--all`
-/// with all faults of the file. With `--distinct` a SET or a LIST OF UNIQUE that names one instance twice is a fault. Where it is asked
-/// for, at most N faults (20) are then explained on `errors`, and a device that failed, where there is memory.
-/// `words` are the words of the command line, the program's own name first; FILE `-` is `input`, and `rt` opens the others,
-/// FILE only where the schema was read. The answer is the status to end with: 0 where the file was read, 1 where it has a
-/// fault, 2 where the words were refused (clap's text goes to `errors`), 3 where the schema was refused, 4 where a path cannot
-/// be opened, a reader or the writer failed, or a bound on bytes or calls was passed, 5 where memory was refused, or a thread for
-/// a lane. The help and the version go to `output`, with status 0. A failed write to `errors` changes no status. Nothing tells how far
-/// the run is.
+/// The program `p21check [OPTIONS] SCHEMA FILE`: reads the schema, checks the file against it by `--lanes` worker threads (4) of this
+/// `--capacity` (256), and writes the report to `output`; with `--all` that of every fault. With `--distinct` a SET or a LIST OF UNIQUE
+/// that names one instance twice is a fault. With `--explain` at most so many faults (20) are then explained on `errors`, and a device
+/// that failed, where there is memory; with `--format json` as objects.
+///
+/// `words` are the arguments of the command line, the program's own name first; FILE `-` is `input`, and `rt` opens the others,
+/// FILE only where the schema was read. The answer is the exit status: 0 where the file has no fault, 1 where it has one, 2 for a usage
+/// error (clap's text goes to `errors`), 3 where the schema was refused, 4 where a file could not be opened, read or written, or a limit
+/// on bytes or calls was exceeded, 5 without memory or a thread. The help and the version go to `output`, with status 0. A failed write
+/// to `errors` changes no status. No progress is shown.
 pub fn program<R, I, O, E>(
     rt: &R,
     alloc: Global,
@@ -51,9 +51,9 @@ where
     run_words(rt, alloc, words, input, output, errors, told)
 }
 
-/// The same as `program`, which tells how far the run is on a line of `progress`, where that is a terminal or the words ask for it
-/// (`--progress`): what it is at and how much of the file it has read, at most ten times a second. The line is removed before the report
-/// is written.
+/// The same as `program`, which shows its progress on a line of `progress`, where that is a terminal or `--progress` is given: what it is
+/// at and how much of the file it has read, at most ten times a second. The line is removed before the report is written. Where
+/// `progress` is a terminal, faults are explained unless `--explain=0` is given.
 pub fn program_with_progress<R, I, O, E, P>(
     rt: &R,
     alloc: Global,
@@ -143,7 +143,7 @@ where
     C: Clock + Sync + Drop,
     P: Write + Send + Drop,
 {
-    let wanted = what_is_wanted(alloc, words)?;
+    let wanted = what_is_wanted(alloc, words, told.is_terminal)?;
     let progress = Progress::new(told.clock, told.out, told.is_terminal || wanted.progress);
     status_of(run_told(rt, alloc, &wanted, &progress, input, output, said))
 }
@@ -172,6 +172,7 @@ where
         wanted.schema,
         wanted.file,
         wanted.explained,
+        wanted.format,
     );
     let outcome = if wanted.file == "-" {
         let file = Stream::new(input);

@@ -1,8 +1,11 @@
 //! Faults explained to whoever runs the program, and how far it is.
 
 use crate::progress::{Progress, Stage};
-use p21_explain::{explain_device, explain_fault, explain_schema_fault, summary};
+use p21_explain::{
+    Format, Subject, explain_device, explain_fault, explain_schema_fault, spell_names, summary,
+};
 use p21_express::SchemaError;
+use p21_render::{fault_line, schema_fault_line};
 use p21_run::{Listener, Outcome};
 use p21_schema::Schema;
 use p21_tree::Fault;
@@ -11,11 +14,9 @@ use std::io::{self, Write};
 use std::mem::forget;
 use std::time::Clock;
 
-/// How many columns a line of a file is shown in.
-const COLUMNS: usize = 120;
-
 /// What is said of an input that is too long.
-const TOO_LONG: &str = "a bound was passed: a schema has at most 16777216 bytes, a file 4294967296";
+const TOO_LONG: &str =
+    "a limit was exceeded: a schema has at most 16777216 bytes, a file 4294967296";
 
 /// Hears how far a run is, and its faults, and keeps what is to be said of these until the report is written. Where there is no memory
 /// for it, less is said.
@@ -27,8 +28,11 @@ pub(crate) struct Explainer<'a, C, P> {
     schema: &'a str,
     /// The path of the file.
     file: &'a str,
-    /// How many faults are explained at most; none where this is 0.
+    /// How many faults are explained at most.
     most: usize,
+    format: Format,
+    /// The text of the schema, where faults are explained.
+    text: Vec<u8>,
     said: String,
 }
 
@@ -40,6 +44,7 @@ impl<'a, C: Clock, P: Write> Explainer<'a, C, P> {
         schema: &'a str,
         file: &'a str,
         most: usize,
+        format: Format,
     ) -> Explainer<'a, C, P> {
         Explainer {
             alloc,
@@ -47,6 +52,8 @@ impl<'a, C: Clock, P: Write> Explainer<'a, C, P> {
             schema,
             file,
             most,
+            format,
+            text: Vec::new(alloc),
             said: String::new(alloc),
         }
     }
@@ -95,29 +102,52 @@ impl<'a, C: Clock, P: Write> Explainer<'a, C, P> {
     }
 
     fn add_line(&mut self, path: &str, words: &str) -> Result<(), AllocError> {
-        say(&mut self.said, explain_device(self.alloc, path, words)?)
+        let told = explain_device(self.alloc, path, words, self.format)?;
+        say(&mut self.said, told)
     }
 
-    /// Adds the first faults, and of several a summary.
+    /// Adds the first faults, and in text of several a summary.
     fn add(&mut self, schema: &Schema, file: &[u8], faults: &[Fault]) -> Result<(), AllocError> {
+        let spellings = spell_names(self.alloc, &self.text, schema.declared())?;
+        let subject = Subject {
+            schema,
+            spellings: &spellings,
+            path: self.file,
+            file,
+        };
         for fault in faults.iter().take(self.most) {
-            let told = explain_fault(self.alloc, schema, self.file, file, fault, COLUMNS)?;
+            let line = fault_line(self.alloc, fault)?;
+            let told = explain_fault(self.alloc, subject, fault, kind_in(&line), self.format)?;
             say(&mut self.said, told)?;
         }
-        if faults.len() > 1 {
-            say(&mut self.said, summary(self.alloc, schema, file, faults)?)?;
+        if faults.len() > 1 && self.format == Format::Text {
+            say(&mut self.said, summary(self.alloc, subject, faults)?)?;
         }
         Ok(())
     }
 
     /// Adds the fault of a schema.
     fn add_refused(&mut self, text: &[u8], error: &SchemaError) -> Result<(), AllocError> {
-        let told = explain_schema_fault(self.alloc, self.schema, text, error, COLUMNS)?;
+        let line = schema_fault_line(self.alloc, *error)?;
+        let told = explain_schema_fault(
+            self.alloc,
+            self.schema,
+            text,
+            error,
+            kind_in(&line),
+            self.format,
+        )?;
         say(&mut self.said, told)
     }
 }
 
 impl<C: Clock, P: Write> Listener for Explainer<'_, C, P> {
+    fn hear_schema(&mut self, text: &[u8]) {
+        if self.most > 0 {
+            let _ = self.text.extend_from_slice(text);
+        }
+    }
+
     fn hear_file(&mut self, file: &[u8]) {
         self.progress.begin(file);
     }
@@ -151,4 +181,16 @@ impl<C: Clock, P: Write> Listener for Explainer<'_, C, P> {
 /// Adds a text to what is said.
 fn say(said: &mut String, told: String) -> Result<(), AllocError> {
     said.push_str(told.as_str())
+}
+
+/// The name of a fault's kind in its line of a report: the word before `at`.
+fn kind_in(line: &[u8]) -> &[u8] {
+    let mut kind: &[u8] = b"";
+    for word in line.split(|byte| *byte == b' ') {
+        if word == b"at".as_slice() {
+            return kind;
+        }
+        kind = word;
+    }
+    kind
 }

@@ -1,14 +1,15 @@
-//! The words of the command line.
+//! The arguments of the command line.
 
 use crate::program_error::ProgramError;
 use clap::error::ErrorKind;
 use clap::{Arg, ArgAction, ArgMatches, Command, value_parser};
 use p21_desk::LaneCount;
+use p21_explain::Format;
 use p21_lanes::Capacity;
 use p21_schema::Rules;
 use std::alloc::{AllocError, Global};
 
-/// What the words ask for.
+/// What the arguments ask for.
 #[derive(Clone, Copy, Debug)]
 pub(crate) struct Wanted<'a> {
     /// The path of the schema.
@@ -17,35 +18,42 @@ pub(crate) struct Wanted<'a> {
     pub(crate) file: &'a str,
     pub(crate) lanes: LaneCount,
     pub(crate) capacity: Capacity,
-    /// Whether all faults are told, or the first alone.
+    /// Whether every fault is reported, or only the first.
     pub(crate) all: bool,
     pub(crate) rules: Rules,
-    /// How many faults are to be explained at most.
+    /// How many faults are explained at most.
     pub(crate) explained: usize,
-    /// Whether it is to be told how far the run is, terminal or not.
+    /// How they are explained.
+    pub(crate) format: Format,
+    /// Whether progress is shown, terminal or not.
     pub(crate) progress: bool,
 }
 
 /// The version of the program.
 const VERSION: &str = "0.1.0";
 
-/// What the help says of statuses.
-const STATUSES: &str = "\
-Status:
-  0  the file was read
-  1  the file has a fault
-  2  the words were refused
-  3  the schema was refused
-  4  a path could not be opened, a reader or a writer failed, or a bound was passed
-  5  there was no memory left, or a thread was refused";
+/// How many faults are explained where no number is given.
+const MOST_EXPLAINED: usize = 20;
 
-/// What the words ask for; the first word is the program's own name.
+/// What the help says of the exit status.
+const STATUSES: &str = "\
+Exit status:
+  0  the file has no fault
+  1  the file has a fault
+  2  usage error
+  3  the schema was refused
+  4  a file could not be opened, read or written, or a limit was exceeded
+  5  out of memory, or a thread could not be started";
+
+/// What the arguments ask for; the first is the program's own name. Where standard error is a terminal, faults are explained unless
+/// the arguments say otherwise.
 pub(crate) fn what_is_wanted<'a>(
     alloc: Global,
     words: &'a [String],
+    is_terminal: bool,
 ) -> Result<Wanted<'a>, ProgramError> {
     let matches = command(alloc)?.try_get_matches_from(words)?;
-    match wanted_by(&matches) {
+    match wanted_by(&matches, is_terminal) {
         Some(wanted) => Ok(wanted),
         None => Err(refused(
             alloc,
@@ -56,7 +64,10 @@ pub(crate) fn what_is_wanted<'a>(
 }
 
 /// What is asked for, if both paths and the numbers are there.
-fn wanted_by<'a>(matches: &ArgMatches<'a>) -> Option<Wanted<'a>> {
+fn wanted_by<'a>(matches: &ArgMatches<'a>, is_terminal: bool) -> Option<Wanted<'a>> {
+    let format = format_of(matches.get_str("format"));
+    let is_explained = is_terminal || format == Format::Json;
+    let most = if is_explained { MOST_EXPLAINED } else { 0 };
     Some(Wanted {
         schema: matches.get_str("SCHEMA")?,
         file: matches.get_str("FILE")?,
@@ -66,12 +77,23 @@ fn wanted_by<'a>(matches: &ArgMatches<'a>) -> Option<Wanted<'a>> {
         rules: Rules {
             distinct: matches.get_flag("distinct"),
         },
-        explained: matches.get_one::<u32>("explain").unwrap_or(0) as usize,
+        explained: match matches.get_one::<u32>("explain") {
+            Some(most) => most as usize,
+            None => most,
+        },
+        format,
         progress: matches.get_flag("progress"),
     })
 }
 
-/// What is told of words that are no text.
+fn format_of(name: Option<&str>) -> Format {
+    match name {
+        Some("json") => Format::Json,
+        _ => Format::Text,
+    }
+}
+
+/// The usage error of arguments that are not text.
 pub(crate) fn not_text(alloc: Global) -> ProgramError {
     refused(
         alloc,
@@ -80,7 +102,7 @@ pub(crate) fn not_text(alloc: Global) -> ProgramError {
     )
 }
 
-/// The error of words that are refused for a cause.
+/// The usage error of a kind.
 fn refused(alloc: Global, kind: ErrorKind, cause: &str) -> ProgramError {
     match words_error(alloc, kind, cause) {
         Ok(error) => ProgramError::from(error),
@@ -92,7 +114,7 @@ fn words_error(alloc: Global, kind: ErrorKind, cause: &str) -> Result<clap::Erro
     command(alloc)?.error(kind, cause)
 }
 
-/// The words that the program takes.
+/// The arguments that the program takes.
 fn command<'a>(alloc: Global) -> Result<Command<'a>, AllocError> {
     let command = Command::new(alloc, "p21check")
         .version(VERSION)
@@ -103,58 +125,56 @@ fn command<'a>(alloc: Global) -> Result<Command<'a>, AllocError> {
     with_options(alloc, command)
 }
 
-/// Adds the words that may be left out.
+/// Adds the options.
 fn with_options<'a>(alloc: Global, command: Command<'a>) -> Result<Command<'a>, AllocError> {
     let command = with_lanes(alloc, command)?;
     let command = with_faults(alloc, command)?;
+    let command = command.arg(explain(alloc))?.arg(format(alloc))?;
     command.arg(progress(alloc))
 }
 
-/// Adds the words that say how the file is read.
+/// Adds the options of the worker threads.
 fn with_lanes<'a>(alloc: Global, command: Command<'a>) -> Result<Command<'a>, AllocError> {
     command.arg(lanes(alloc))?.arg(capacity(alloc))
 }
 
-/// Adds the words that say which faults are told, and how.
+/// Adds the options that say which faults are reported.
 fn with_faults<'a>(alloc: Global, command: Command<'a>) -> Result<Command<'a>, AllocError> {
-    command
-        .arg(all(alloc))?
-        .arg(distinct(alloc))?
-        .arg(explain(alloc))
+    command.arg(all(alloc))?.arg(distinct(alloc))
 }
 
 fn schema<'a>(alloc: Global) -> Arg<'a> {
     Arg::new(alloc, "SCHEMA")
         .required(true)
-        .help("the EXPRESS schema to check against")
+        .help("EXPRESS schema to check against")
 }
 
 fn file<'a>(alloc: Global) -> Arg<'a> {
     Arg::new(alloc, "FILE")
         .required(true)
-        .help("the exchange structure to read; - is standard input")
+        .help("STEP file to check; - is standard input")
 }
 
 fn lanes<'a>(alloc: Global) -> Arg<'a> {
     number(alloc, "lanes")
         .default_value("4")
         .value_parser(value_parser!(u32).range(1..=64))
-        .help("how many threads read the file beside the one that deals it, 1 to 64")
+        .help("number of worker threads, 1 to 64")
 }
 
 fn capacity<'a>(alloc: Global) -> Arg<'a> {
     number(alloc, "capacity")
         .default_value("256")
         .value_parser(value_parser!(u32).range(1..=4096))
-        .help("how many instances may be out with one of them, 1 to 4096")
+        .help("most instances that wait for a worker thread, 1 to 4096")
 }
 
 fn all<'a>(alloc: Global) -> Arg<'a> {
-    flag(alloc, "all").help("tell all faults of the file, a line each, and not the first alone")
+    flag(alloc, "all").help("report every fault, one per line, instead of only the first")
 }
 
 fn distinct<'a>(alloc: Global) -> Arg<'a> {
-    flag(alloc, "distinct").help("tell where a SET or a LIST OF UNIQUE names one instance twice")
+    flag(alloc, "distinct").help("also report a SET or LIST OF UNIQUE that names an instance twice")
 }
 
 fn explain<'a>(alloc: Global) -> Arg<'a> {
@@ -162,24 +182,31 @@ fn explain<'a>(alloc: Global) -> Arg<'a> {
         .num_args(0..=1)
         .require_equals(true)
         .default_missing_value("20")
-        .value_parser(value_parser!(u32).range(1..=4294967295))
+        .value_parser(value_parser!(u32).range(0..=4294967295))
         .help(
-            "tell at most N faults, or 20, in the words of the file and of the schema, on standard error",
+            "explain the first N faults, or 20, on standard error; the default on a terminal, 0 for none",
         )
 }
 
-fn progress<'a>(alloc: Global) -> Arg<'a> {
-    flag(alloc, "progress").help(
-        "tell on standard error how far it is, also where that is no terminal",
-    )
+fn format<'a>(alloc: Global) -> Arg<'a> {
+    Arg::new(alloc, "format")
+        .long("format")
+        .value_name("FORMAT")
+        .default_value("text")
+        .value_parser(["text", "json"].as_slice())
+        .help("format of the explanations; json is one object per line and fault")
 }
 
-/// A word that is there or not.
+fn progress<'a>(alloc: Global) -> Arg<'a> {
+    flag(alloc, "progress").help("show progress on standard error even if it is not a terminal")
+}
+
+/// An option without a value.
 fn flag<'a>(alloc: Global, name: &'a str) -> Arg<'a> {
     Arg::new(alloc, name).long(name).action(ArgAction::SetTrue)
 }
 
-/// A word that a number follows.
+/// An option whose value is a number.
 fn number<'a>(alloc: Global, name: &'a str) -> Arg<'a> {
     Arg::new(alloc, name).long(name).value_name("N")
 }

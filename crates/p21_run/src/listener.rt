@@ -7,6 +7,9 @@ use p21_tree::Fault;
 /// Who hears how far a run is, and the faults that it finds, before it writes the report. What it does with them is its own affair: no
 /// contract of a run hangs on it.
 pub trait Listener {
+    /// Hears the text of the schema, where it is accepted, before the file is read.
+    fn hear_schema(&mut self, _text: &[u8]) {}
+
     /// Hears that all bytes of the file are there: its instances are read next.
     fn hear_file(&mut self, file: &[u8]);
 

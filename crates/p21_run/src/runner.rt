@@ -162,7 +162,10 @@ fn report<R: Threads + Wait + Sync, G: Gate + Sync, S: Source, F: Source, L: Lis
 {
     let schema_text = read_bounded(alloc, schema_in, SCHEMA_BOUNDS)?;
     match read_declarations(alloc, schema_text.as_slice()) {
-        Ok(declarations) => report_against(rt, alloc, declarations, file_in, by, rules, listener),
+        Ok(declarations) => {
+            listener.hear_schema(schema_text.as_slice());
+            report_against(rt, alloc, declarations, file_in, by, rules, listener)
+        }
         Err(error) => {
             listener.hear_refused(schema_text.as_slice(), &error);
             Ok(report_of_refusal(alloc, error)?)

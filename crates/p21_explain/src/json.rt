@@ -1,0 +1,81 @@
+//! A fault as an object of JSON, in a line.
+
+ghost use Rattle.std.specs.Prelude.{◌≤◌, length, IfOk};
+ghost use Rattle.std.specs.String.{string_bytes};
+ghost use Rattle.p21_explain.specs.Printed.{IsPrinted};
+
+use crate::excerpt::push_line;
+use crate::place::place_of;
+use crate::said::Said;
+use crate::shown::{new_text, push_shown};
+use std::alloc::{AllocError, Global};
+
+/// The object of a fault at a place in a text, which is at most its length: where it is, its kind, and what is said of it.
+pub(crate) fn object(
+    alloc: Global,
+    path: &str,
+    text: &[u8],
+    at: usize,
+    kind: &[u8],
+    said: &Said,
+) -> Result<String, AllocError>
+    requires { at ≤ length text.now }
+    ensures { IfOk result (λ printed. IsPrinted (string_bytes printed)) }
+{
+    let place = place_of(text, at);
+    let mut line = Said::new(alloc);
+    say_member(alloc, &mut line, "{", "file", Some(path.as_bytes()))?;
+    line.say((",\"byte\":", at as u64))?;
+    line.say((
+        ",\"line\":",
+        place.line as u64,
+        ",\"column\":",
+        place.column as u64,
+    ))?;
+    say_rest(alloc, &mut line, kind, said)?;
+    let mut printed = new_text(alloc);
+    push_line(&mut printed, line.bytes())?;
+    Ok(printed)
+}
+
+/// Adds the members that say what is wrong, and the end of the object.
+fn say_rest(alloc: Global, line: &mut Said, kind: &[u8], said: &Said) -> Result<(), AllocError> {
+    say_member(alloc, line, ",", "kind", Some(kind))?;
+    line.say(",\"name\":")?;
+    match said.name {
+        Some(name) => line.say(name)?,
+        None => line.say("null")?,
+    }
+    say_member(alloc, line, ",", "entity", said.part(said.entity))?;
+    say_member(alloc, line, ",", "attribute", said.part(said.attribute))?;
+    say_member(alloc, line, ",", "wanted", said.part(said.wanted))?;
+    say_member(alloc, line, ",", "found", said.part(said.found))?;
+    say_member(alloc, line, ",", "message", Some(said.bytes()))?;
+    line.say("}")
+}
+
+/// Adds a member, behind what stands before it: a text as a terminal may show it, or null.
+fn say_member(
+    alloc: Global,
+    line: &mut Said,
+    before: &str,
+    name: &str,
+    value: Option<&[u8]>,
+) -> Result<(), AllocError> {
+    line.say((before, "\"", name, "\":"))?;
+    let Some(value) = value else {
+        return line.say("null");
+    };
+    let mut shown = new_text(alloc);
+    push_shown(&mut shown, value, usize::MAX)?;
+    line.say("\"")?;
+    for part in shown.as_bytes().chunks(1) {
+        let escape = if matches!(part, b"\"" | b"\\") {
+            "\\"
+        } else {
+            ""
+        };
+        line.say((escape, part))?;
+    }
+    line.say("\"")
+}

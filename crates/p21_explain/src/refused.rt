@@ -1,0 +1,240 @@
+//! A fault of a schema or of a device, explained.
+
+ghost use Rattle.std.specs.Prelude.{◌≤◌, length, IfOk};
+ghost use Rattle.std.specs.String.{string_bytes};
+ghost use Rattle.p21_explain.specs.Printed.{IsPrinted};
+
+use crate::excerpt::{paragraph, push_line};
+use crate::explained::{Format, in_text};
+use crate::json::object;
+use crate::mistakes::other_format;
+use crate::place::place_of;
+use crate::said::{Front, Said};
+use crate::shown::new_text;
+use p21_express::SchemaError;
+use p21_spelling::next_word;
+use std::alloc::{AllocError, Global};
+
+/// A fault of a schema's text, explained as `explain_fault` explains those of a file. `Memory` is no fault of a text, and here too want of
+/// memory.
+pub fn explain_schema_fault(
+    alloc: Global,
+    path: &str,
+    text: &[u8],
+    error: &SchemaError,
+    kind: &[u8],
+    format: Format,
+) -> Result<String, AllocError>
+    ensures { IfOk result (λ printed. IsPrinted (string_bytes printed)) }
+{
+    let place = match error {
+        SchemaError::Syntax(place)
+        | SchemaError::NotSupported(place)
+        | SchemaError::Repeated(place)
+        | SchemaError::UnknownName(place)
+        | SchemaError::Cycle(place)
+        | SchemaError::BadRedeclaration(place) => *place,
+        SchemaError::Memory => return Err(AllocError),
+    };
+    let at = in_text(text, place);
+    let mut said = Said::new(alloc);
+    say_rule(&mut said, text, at, error)?;
+    match format {
+        Format::Text => paragraph(alloc, path, text, at, place, &said),
+        Format::Json => object(alloc, path, text, at, kind, &said),
+    }
+}
+
+/// A device that failed, in a line: its path or name, and what the system says of it. Memory alone can fail.
+pub fn explain_device<'a>(
+    alloc: Global,
+    path: &'a str,
+    words: &'a str,
+    format: Format,
+) -> Result<String, AllocError>
+    ensures { IfOk result (λ text. IsPrinted (string_bytes text)) }
+{
+    let mut said = Said::new(alloc);
+    said.say((path, ": ", words))?;
+    if format == Format::Json {
+        return object(alloc, path, b"", 0, b"Device", &said);
+    }
+    let mut text = new_text(alloc);
+    push_line(&mut text, said.bytes())?;
+    Ok(text)
+}
+
+/// The words of forms that are not supported, and what to do about each.
+const FORMS: [(&str, &str); 7] = [
+    ("USE", LONG_FORM),
+    ("REFERENCE", LONG_FORM),
+    (
+        "SUBTYPE_CONSTRAINT",
+        " Remove it, up to END_SUBTYPE_CONSTRAINT and its `;`: it does not affect conformance as it is checked here.",
+    ),
+    (
+        "EXTENSIBLE",
+        " An extensible type gets items from other schemas: write it without EXTENSIBLE and GENERIC_ENTITY, with all its items, as in the long form of the schema.",
+    ),
+    (
+        "GENERIC_ENTITY",
+        " It does not affect conformance: remove it.",
+    ),
+    (
+        "BASED_ON",
+        " The type adds items to those of another: list all its items instead, as in `SELECT (a, b)` or `ENUMERATION OF (a, b)`.",
+    ),
+    (
+        "RENAMED",
+        " It does not affect conformance: remove it and the name after it.",
+    ),
+];
+
+/// What to do about an interface to another schema.
+const LONG_FORM: &str =
+    " It takes declarations from another schema: use the long form of the schema, which has all declarations in one text.";
+
+/// Adds which rule is broken at a place, and what to do about it.
+fn say_rule(said: &mut Said, text: &[u8], at: usize, error: &SchemaError) -> Result<(), AllocError>
+    requires { at ≤ length text.now }
+{
+    let rest = &text[at..];
+    let word = match word_at(rest) {
+        b"" => rest.get(..1).unwrap_or(rest),
+        word => word,
+    };
+    if word.is_empty() {
+        return said.say("The schema ends here, before END_SCHEMA and its `;`.");
+    }
+    let front = text[..at].trim_ascii_end();
+    said.say("`")?;
+    let from = said.len();
+    said.say(Front(word))?;
+    said.found = said.since(from);
+    match error {
+        SchemaError::Syntax(_) => {
+            said.say("` is not expected here.")?;
+            said.say(syntax_advice(text, front, rest))
+        }
+        SchemaError::NotSupported(_) if is_select_alone(front, word) => {
+            say_select_alone(said, text, front, word)
+        }
+        SchemaError::NotSupported(_) => said.say(("` is not supported here.", form_advice(word))),
+        SchemaError::Memory => Ok(()),
+        SchemaError::Repeated(_) => said.say("` is declared a second time."),
+        SchemaError::UnknownName(_) => said.say("` is not declared, or not as what fits here."),
+        SchemaError::Cycle(_) => said.say("` is declared in terms of itself."),
+        SchemaError::BadRedeclaration(_) => said.say(
+            "` must redeclare exactly one attribute of an ancestor, which is neither derived nor already redeclared.",
+        ),
+    }
+}
+
+/// What to do about what begins a text and is not expected behind what stands before it.
+fn syntax_advice(text: &[u8], before: &[u8], rest: &[u8]) -> &'static str {
+    if before.is_empty() {
+        return other_format(text).unwrap_or("");
+    }
+    if ends_with_word(before, b"ABSTRACT") {
+        return " Write ABSTRACT SUPERTYPE.";
+    }
+    match rest {
+        [b'\'', ..] if is_behind_schema(before) => {
+            " Remove the version after the name of the schema."
+        }
+        [b'\'' | b'"', ..] => " The string is perhaps not closed.",
+        [b'(', b'*', ..] => " The remark is not closed: each `(*` needs its `*)`.",
+        [26, ..] => " Remove this byte.",
+        _ => "",
+    }
+}
+
+/// Whether a text ends with a word, in either case.
+fn ends_with_word(text: &[u8], word: &[u8]) -> bool {
+    let front = text.len().saturating_sub(word.len());
+    text[front..].eq_ignore_ascii_case(word)
+}
+
+/// Whether a text ends with SCHEMA and a name.
+fn is_behind_schema(text: &[u8]) -> bool {
+    let mut words = text
+        .rsplit(|byte| byte.is_ascii_whitespace())
+        .filter(|it| !it.is_empty());
+    words
+        .nth(1)
+        .is_some_and(|it| it.eq_ignore_ascii_case(b"SCHEMA"))
+}
+
+/// What to do about a form that is not supported, by its word.
+fn form_advice(word: &[u8]) -> &'static str {
+    for (other, advice) in FORMS {
+        if word.eq_ignore_ascii_case(other.as_bytes()) {
+            return advice;
+        }
+    }
+    " At most 64 aggregates may be nested: declare a TYPE for the inner ones."
+}
+
+/// Whether a word that is not supported stands alone under a type: there it names a SELECT.
+fn is_select_alone(before: &[u8], word: &[u8]) -> bool {
+    let is_form = [
+        "EXTENSIBLE",
+        "GENERIC_ENTITY",
+        "ARRAY",
+        "LIST",
+        "SET",
+        "BAG",
+    ]
+    .iter()
+    .any(|it| word.eq_ignore_ascii_case(it.as_bytes()));
+    before.ends_with(b"=") && !is_form
+}
+
+/// Adds what to do about a SELECT that stands alone under a type, and where it is declared.
+fn say_select_alone(
+    said: &mut Said,
+    text: &[u8],
+    before: &[u8],
+    word: &[u8],
+) -> Result<(), AllocError> {
+    said.say("` is a SELECT")?;
+    if let Some(at) = type_at(text, word) {
+        let line = place_of(text, at.min(text.len())).line;
+        said.say((", declared at line ", line as u64))?;
+    }
+    said.say(". A type that is just another SELECT is not supported: write `")?;
+    let from = said.len();
+    let names = before.rsplit(|byte| *byte == b'=' || byte.is_ascii_whitespace());
+    for name in names.filter(|it| !it.is_empty()).take(1) {
+        said.say(("TYPE ", name, " = "))?;
+    }
+    said.say(("SELECT (", word, ");"))?;
+    said.wanted = said.since(from);
+    said.say("`, which admits the same values.")
+}
+
+/// The place of the name that is declared behind TYPE.
+fn type_at(text: &[u8], name: &[u8]) -> Option<usize> {
+    let mut rest = text;
+    let mut is_behind_type = false;
+    for _ in 0..text.len() {
+        let (word, behind) = next_word(rest)?;
+        if is_behind_type && word.eq_ignore_ascii_case(name) {
+            let left = behind.len().saturating_add(word.len());
+            return Some(text.len().saturating_sub(left));
+        }
+        is_behind_type = word.eq_ignore_ascii_case(b"TYPE");
+        rest = behind;
+    }
+    None
+}
+
+/// The word that begins a text; nothing where none does.
+fn word_at(text: &[u8]) -> &[u8] {
+    for (len, byte) in text.iter().enumerate() {
+        if !(byte.is_ascii_alphanumeric() || *byte == b'_') {
+            return &text[..len];
+        }
+    }
+    text
+}
