@@ -3,9 +3,9 @@ use Rattle.std.proofs.Common.{◌≡◌, ◌≢◌, ◌-◌, inl, inr, ℕ, zero
 use Rattle.std.specs.Prelude.{nat_eq, position, slice_get}
 use Rattle.std.specs.Cmp.{nat_eq_equiv}
 use Rattle.std.specs.Option.{SomeIff}
-use Rattle.std.proofs.lemmas.Bool.{cases_Bool}
+use Rattle.std.proofs.lemmas.Bool.{cases_Bool, cases_lt}
 use Rattle.std.proofs.lemmas.Bool.Decides.{nat_tests}
-use Rattle.std.proofs.lemmas.List.{get_or-map, get_or-set_other, get_or-set_same, length-map}
+use Rattle.std.proofs.lemmas.List.{get_or-map, get_or-replicate, get_or-set_other, get_or-set_same, get_or_past, length-map, length-replicate}
 use Rattle.std.proofs.lemmas.List.Quantifiers.{position-Some}
 use Rattle.std.proofs.lemmas.Map.Entries.{lookup_from_place}
 use Rattle.std.proofs.lemmas.Nat.{div-add-mod'}
@@ -57,8 +57,20 @@ block_kept t u number numbers was updates name = elim (cases_Bool (nat_eq number
 abbrev pub zeros : List ℕ
 zeros = replicate 16 0
 
+all_zero : (within : ℕ) → get_or zeros within 0 ≡ 0
+all_zero within = elim (cases_lt within 16) [
+  | inl less ↦ get_or-replicate 16 within 0 0 less
+  | inr past ↦ get_or_past zeros within 0 (omega (arith, past, length-replicate 16 zero))
 ]
 
+pub block_added : (t u : NameTable) (number : ℕ) → get nat_eq t.blocks number ≡ None → Updates nat_eq t.blocks u.blocks number (Some zeros) → KeepsPlaces t u
+block_added t u number none updates name = elim (cases_Bool (nat_eq number (name / 16))) [
+  | inl same ↦
+      let block : number ≡ name / 16 = same_number number (name / 16) same in
+      let new : get nat_eq u.blocks (name / 16) ≡ Some zeros = subst (λ b. get nat_eq u.blocks b ≡ Some zeros) block updates.1 in
+      let old : get nat_eq t.blocks (name / 16) ≡ None = subst (λ b. get nat_eq t.blocks b ≡ None) block none in
+      ap (λ b. place_in b (name % 16)) new ∙ (ap place_by (all_zero (name % 16)) ∙ sym (ap (λ b. place_in b (name % 16)) old))
+  | inr different ↦ ap (λ b. place_in b (name % 16)) (updates.2 (name / 16) different)
 ]
 
 -- what a block has for a name
