@@ -30,7 +30,8 @@ impl AttrId {
     pub fn place(self) -> usize
         ensures { result ≡ self.index }
     {
-        self.index
+        let Self { index } = self;
+        index
     }
 }
 
@@ -46,6 +47,7 @@ impl TypeId {
     pub fn place(self) -> usize
         ensures { result ≡ self.index }
     {
-        self.index
+        let Self { index } = self;
+        index
     }
 }
