@@ -121,8 +121,8 @@ fn say_rule(said: &mut Said, text: &[u8], at: usize, error: &SchemaError) -> Res
         }
         SchemaError::NotSupported(_) => said.say(("` is not supported here.", form_advice(word))),
         SchemaError::Memory => Ok(()),
-        SchemaError::Repeated(_) => said.say("` is declared a second time."),
-        SchemaError::UnknownName(_) => said.say("` is not declared, or not as what fits here."),
+        SchemaError::Repeated(_) => said.say("` is named a second time."),
+        SchemaError::UnknownName(_) => said.say("` is not declared, or is of the wrong kind."),
         SchemaError::Cycle(_) => said.say("` is declared in terms of itself."),
         SchemaError::BadRedeclaration(_) => said.say(
             "` must redeclare exactly one attribute of an ancestor, which is neither derived nor already redeclared.",
