@@ -12,7 +12,7 @@ const RANDOM: &str = "/dev/urandom";
 const CALLS: u32 = 16;
 
 /// A key that nobody knows before the run; or the one that is always the same, where no bytes for it can be had.
-pub(crate) fn drawn_key<R: Files>(rt: &R) -> HashKey {
+pub fn drawn_key<R: Files>(rt: &R) -> HashKey {
     let mut random = Opened::new(rt, RANDOM);
     let mut bytes = [0; 8];
     for _ in 0..CALLS {

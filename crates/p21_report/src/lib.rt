@@ -11,5 +11,6 @@ mod watched;
 mod words;
 
 pub use command_line::{program, program_with_progress, unreadable_words};
+pub use drawn_key::drawn_key;
 pub use p21_render::{counts, fault_line, render};
 pub use p21_run::{IoFault, Outcome, Sink, Source, Stream, run};
