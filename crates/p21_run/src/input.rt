@@ -12,28 +12,28 @@ const CHUNK: usize = 65536;
 
 /// What one input may take.
 #[derive(Clone, Copy, Debug)]
-pub(crate) struct Bounds {
+pub struct Bounds {
     /// The most bytes.
-    pub(crate) bytes: usize,
+    pub bytes: usize,
     /// The most calls of `read`; an interrupted one counts and is made again.
-    pub(crate) calls: u64,
+    pub calls: u64,
 }
 
 /// The bounds of a schema.
-pub(crate) const SCHEMA_BOUNDS: Bounds = Bounds {
+pub const SCHEMA_BOUNDS: Bounds = Bounds {
     bytes: 16_777_216,
     calls: 16_777_216,
 };
 
 /// The bounds of an exchange structure.
-pub(crate) const FILE_BOUNDS: Bounds = Bounds {
+pub const FILE_BOUNDS: Bounds = Bounds {
     bytes: 4_294_967_296,
     calls: 16_777_216,
 };
 
 /// Why an input was not read.
 #[derive(Clone, Copy, Debug, PartialEq, Eq)]
-pub(crate) enum InputError {
+pub enum InputError {
     /// The source failed, or a bound was passed.
     Device,
     /// There was no memory left.
@@ -49,7 +49,7 @@ impl From<AllocError> for InputError {
 }
 
 /// Reads a source to its end. `Device` where a call fails or a bound is passed.
-pub(crate) fn read_bounded<S: Source>(
+pub fn read_bounded<S: Source>(
     alloc: Global,
     source: &mut S,
     bounds: Bounds,

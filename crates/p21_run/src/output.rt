@@ -6,18 +6,14 @@ ghost use Rattle.std.specs.Io.KnownBytes.{Appends};
 use crate::source::{IoFault, Sink};
 
 /// The most calls of `write` for a report; one that was interrupted or took no byte counts and is made again.
-pub(crate) const WRITE_CALLS: u64 = 16_777_216;
+pub const WRITE_CALLS: u64 = 16_777_216;
 
 /// The sink failed, or the bound on calls was passed.
 #[derive(Clone, Copy, Debug, PartialEq, Eq)]
-pub(crate) struct OutputError;
+pub struct OutputError;
 
 /// Writes a text in so many calls at most. Where that fails, a front of it is written.
-pub(crate) fn write_bounded<S: Sink>(
-    sink: &mut S,
-    text: &[u8],
-    calls: u64,
-) -> Result<(), OutputError>
+pub fn write_bounded<S: Sink>(sink: &mut S, text: &[u8], calls: u64) -> Result<(), OutputError>
     ensures whole { OnOk result (Appends (S.taken sink.old) (S.taken sink.new) text.now) }
     ensures front { OnErr result ((n : ℕ) × Appends (S.taken sink.old) (S.taken sink.new) (take n text.now)) }
     ensures cause { OnErr result (S.marked sink.new ≡ false → calls ≤ length text.now) }

@@ -1,0 +1,159 @@
+//! The words of the command line.
+
+use clap::error::ErrorKind;
+use clap::{Arg, ArgAction, ArgMatches, Command, value_parser};
+use p21_desk::LaneCount;
+use p21_lanes::Capacity;
+use p21_schema::Rules;
+use std::alloc::{AllocError, Global};
+
+/// What the words ask for.
+#[derive(Clone, Copy, Debug)]
+pub(crate) struct Wanted<'a> {
+    /// The path of the schema.
+    pub(crate) schema: &'a str,
+    /// The path of the file; `-` is the standard input.
+    pub(crate) file: &'a str,
+    /// The path of the JSON; `-` is the standard output.
+    pub(crate) json: &'a str,
+    pub(crate) lanes: LaneCount,
+    pub(crate) capacity: Capacity,
+    pub(crate) rules: Rules,
+}
+
+/// The version of the program.
+const VERSION: &str = "0.1.0";
+
+/// What the help says of statuses.
+const STATUSES: &str = "\
+Status:
+  0  the file was read, and its model written
+  1  the file has a fault
+  2  the words were refused
+  3  the schema was refused
+  4  a path could not be opened, a reader or a writer failed, or a bound was passed
+  5  there was no memory left, or a thread was refused";
+
+/// Why nothing is asked for.
+#[derive(Debug, Drop)]
+pub(crate) enum Refusal {
+    /// The words were refused, or ask for the help.
+    Words(clap::Error),
+    /// There was no memory left.
+    Memory,
+}
+
+impl From<AllocError> for Refusal {
+    fn from(_error: AllocError) -> Refusal {
+        Refusal::Memory
+    }
+}
+
+impl From<clap::Error> for Refusal {
+    fn from(error: clap::Error) -> Refusal {
+        if error.kind() == ErrorKind::OutOfMemory {
+            return Refusal::Memory;
+        }
+        Refusal::Words(error)
+    }
+}
+
+/// What the words ask for; the first word is the program's own name.
+pub(crate) fn what_is_wanted<'a>(
+    alloc: Global,
+    words: &'a [String],
+) -> Result<Wanted<'a>, Refusal> {
+    let matches = command(alloc)?.try_get_matches_from(words)?;
+    match wanted_by(&matches) {
+        Some(wanted) => Ok(wanted),
+        None => Err(missing(alloc)?),
+    }
+}
+
+/// What is told where a word is missing.
+fn missing(alloc: Global) -> Result<Refusal, AllocError> {
+    let error = command(alloc)?.error(
+        ErrorKind::MissingRequiredArgument,
+        "no SCHEMA, no FILE or no OUT is given",
+    )?;
+    Ok(Refusal::Words(error))
+}
+
+/// What is asked for, if the paths and the numbers are there.
+fn wanted_by<'a>(matches: &ArgMatches<'a>) -> Option<Wanted<'a>> {
+    Some(Wanted {
+        schema: matches.get_str("SCHEMA")?,
+        file: matches.get_str("FILE")?,
+        json: matches.get_str("json")?,
+        lanes: matches.get_one("lanes").and_then(LaneCount::new)?,
+        capacity: matches.get_one("capacity").and_then(Capacity::new)?,
+        rules: Rules {
+            distinct: matches.get_flag("distinct"),
+        },
+    })
+}
+
+/// The words that the program takes.
+fn command<'a>(alloc: Global) -> Result<Command<'a>, AllocError> {
+    let command = Command::new(alloc, "p21export")
+        .version(VERSION)
+        .about(
+            "Checks a STEP file (ISO 10303-21) against an EXPRESS schema, and writes its model as JSON",
+        )
+        .after_help(STATUSES)
+        .arg(schema(alloc))?
+        .arg(file(alloc))?
+        .arg(json(alloc))?;
+    command
+        .arg(lanes(alloc))?
+        .arg(capacity(alloc))?
+        .arg(distinct(alloc))
+}
+
+fn schema<'a>(alloc: Global) -> Arg<'a> {
+    Arg::new(alloc, "SCHEMA")
+        .required(true)
+        .help("the EXPRESS schema to check against")
+}
+
+fn file<'a>(alloc: Global) -> Arg<'a> {
+    Arg::new(alloc, "FILE")
+        .required(true)
+        .help("the exchange structure to read; - is standard input")
+}
+
+fn json<'a>(alloc: Global) -> Arg<'a> {
+    Arg::new(alloc, "json")
+        .long("json")
+        .value_name("OUT")
+        .required(true)
+        .help(
+            "where the model is written, a line for the header and one for each instance; - is standard output",
+        )
+}
+
+fn lanes<'a>(alloc: Global) -> Arg<'a> {
+    number(alloc, "lanes")
+        .default_value("4")
+        .value_parser(value_parser!(u32).range(1..=64))
+        .help("how many threads read the file beside the one that deals it, 1 to 64")
+}
+
+fn capacity<'a>(alloc: Global) -> Arg<'a> {
+    number(alloc, "capacity")
+        .default_value("256")
+        .value_parser(value_parser!(u32).range(1..=4096))
+        .help("how many instances may be out with one of them, 1 to 4096")
+}
+
+fn distinct<'a>(alloc: Global) -> Arg<'a> {
+    Arg::new(alloc, "distinct")
+        .long("distinct")
+        .action(ArgAction::SetTrue)
+        .help("tell where a SET or a LIST OF UNIQUE names one instance twice")
+}
+
+/// A word that a number follows.
+fn number<'a>(alloc: Global, name: &'a str) -> Arg<'a> {
+    Arg::new(alloc, name).long(name).value_name("N")
+}
