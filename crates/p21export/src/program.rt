@@ -3,7 +3,7 @@
 use crate::words::{Refusal, Wanted, what_is_wanted};
 use p21_crew::OpenGate;
 use p21_export::{How, Outcome, Silent, Sink, Source, Stream, export};
-use p21_hash::HashKey;
+use p21_report::drawn_key;
 use std::alloc::Global;
 use std::fs::{self, File, Files, OpenFile};
 use std::io::{Read, Write};
@@ -95,19 +95,19 @@ fn export_from<R: Files + Threads + Wait + Sync, S: Read + Drop, F: Source, O: W
     }
 }
 
-/// How the file is read.
-fn how(wanted: &Wanted<'_>) -> How<'static, OpenGate> {
+/// How the file is read, by a key that nobody knows before.
+fn how<R: Files>(rt: &R, wanted: &Wanted<'_>) -> How<'static, OpenGate> {
     How {
         gate: &OpenGate,
         lanes: wanted.lanes,
         capacity: wanted.capacity,
         rules: wanted.rules,
-        key: HashKey::default(),
+        key: drawn_key(rt),
     }
 }
 
 /// Exports to the standard output.
-fn export_to_output<R: Threads + Wait + Sync, S: Source, F: Source, O: Write>(
+fn export_to_output<R: Files + Threads + Wait + Sync, S: Source, F: Source, O: Write>(
     rt: &R,
     alloc: Global,
     wanted: &Wanted<'_>,
@@ -119,7 +119,7 @@ fn export_to_output<R: Threads + Wait + Sync, S: Source, F: Source, O: Write>(
     let outcome = export(
         rt,
         alloc,
-        &how(wanted),
+        &how(rt, wanted),
         schema,
         file,
         &mut Stream::new(&mut *output),
@@ -156,7 +156,7 @@ fn export_beside<R: Files + Threads + Wait + Sync, S: Source, F: Source, O: Writ
     let outcome = export(
         rt,
         alloc,
-        &how(wanted),
+        &how(rt, wanted),
         schema,
         file,
         &mut Stream::new(&mut beside),
