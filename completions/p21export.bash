@@ -1,0 +1,28 @@
+# Completion of p21export for bash.
+_p21export() {
+    local word=${COMP_WORDS[COMP_CWORD]} previous=${COMP_WORDS[COMP_CWORD - 1]} place=0 index
+    case $previous in
+    --lanes) mapfile -t COMPREPLY < <(compgen -W '1 2 4 8 16 32 64' -- "$word") && return ;;
+    --capacity) mapfile -t COMPREPLY < <(compgen -W '1 16 64 256 1024 4096' -- "$word") && return ;;
+    --json) compopt -o filenames && mapfile -t COMPREPLY < <(compgen -f -- "$word") && return ;;
+    esac
+    if [[ $word == -* ]]; then
+        mapfile -t COMPREPLY < <(compgen -W '--json --lanes --capacity --distinct --help --version' -- "$word")
+        return
+    fi
+    # The first word that is no option and no value of one is the schema, the second the file.
+    for ((index = 1; index < COMP_CWORD; index++)); do
+        case ${COMP_WORDS[index]} in
+        --lanes | --capacity | --json) ((index++)) ;;
+        --*) ;;
+        *) ((place++)) ;;
+        esac
+    done
+    compopt -o filenames
+    if [ "$place" = 0 ]; then
+        mapfile -t COMPREPLY < <(compgen -d -- "$word" && compgen -f -X '!*.exp' -- "$word")
+    else
+        mapfile -t COMPREPLY < <(compgen -d -- "$word" && compgen -f -X '!*.@(stp|step|ifc|p21)' -- "$word")
+    fi
+}
+complete -F _p21export p21export
