@@ -95,19 +95,31 @@ fn export_from<R: Files + Threads + Wait + Sync, S: Read + Drop, F: Source, O: W
     }
 }
 
+/// A key that nobody knows before the run, so that none can choose names that take long; or the one that is always the same, where no bytes
+/// for it can be had.
+fn drawn_key<R: Files>(rt: &R) -> HashKey {
+    let mut bytes = [0; 8];
+    if let Ok(mut random) = File::open(rt, "/dev/urandom")
+        && random.read(&mut bytes).is_ok()
+    {
+        return HashKey::new(u64::from_le_bytes(bytes));
+    }
+    HashKey::default()
+}
+
 /// How the file is read.
-fn how(wanted: &Wanted<'_>) -> How<'static, OpenGate> {
+fn how(wanted: &Wanted<'_>, key: HashKey) -> How<'static, OpenGate> {
     How {
         gate: &OpenGate,
         lanes: wanted.lanes,
         capacity: wanted.capacity,
         rules: wanted.rules,
-        key: HashKey::default(),
+        key,
     }
 }
 
 /// Exports to the standard output.
-fn export_to_output<R: Threads + Wait + Sync, S: Source, F: Source, O: Write>(
+fn export_to_output<R: Files + Threads + Wait + Sync, S: Source, F: Source, O: Write>(
     rt: &R,
     alloc: Global,
     wanted: &Wanted<'_>,
@@ -119,7 +131,7 @@ fn export_to_output<R: Threads + Wait + Sync, S: Source, F: Source, O: Write>(
     let outcome = export(
         rt,
         alloc,
-        &how(wanted),
+        &how(wanted, drawn_key(rt)),
         schema,
         file,
         &mut Stream::new(&mut *output),
@@ -156,7 +168,7 @@ fn export_beside<R: Files + Threads + Wait + Sync, S: Source, F: Source, O: Writ
     let outcome = export(
         rt,
         alloc,
-        &how(wanted),
+        &how(wanted, drawn_key(rt)),
         schema,
         file,
         &mut Stream::new(&mut beside),
