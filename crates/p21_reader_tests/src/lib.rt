@@ -14,6 +14,8 @@ mod judges;
 #[cfg(test)]
 mod lanes_tests;
 #[cfg(test)]
+mod pieces_tests;
+#[cfg(test)]
 mod reference_tests;
 #[cfg(test)]
 mod run_tests;
