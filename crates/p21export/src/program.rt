@@ -89,10 +89,47 @@ fn export_from<R: Files + Threads + Wait + Sync, S: Read + Drop, F: Source, O: W
     if wanted.json == "-" {
         return export_to_output(rt, alloc, wanted, &mut schema, file, output);
     }
+    if is_no_file(rt, wanted.json) {
+        return export_onto(rt, alloc, wanted, &mut schema, file, output);
+    }
     match export_beside(rt, alloc, wanted, &mut schema, file, output) {
         Ok(outcome) => outcome,
         Err(outcome) => outcome,
     }
+}
+
+/// Whether something stands at the path that is no regular file, as a device or a pipe: nothing may take its place.
+fn is_no_file<R: Files>(rt: &R, path: &str) -> bool {
+    match fs::metadata(rt, path) {
+        Ok(found) => !found.is_file(),
+        Err(_) => false,
+    }
+}
+
+/// Exports onto what stands at the path that is wanted.
+fn export_onto<R: Files + Threads + Wait + Sync, S: Source, F: Source, O: Write>(
+    rt: &R,
+    alloc: Global,
+    wanted: &Wanted<'_>,
+    schema: &mut S,
+    file: &mut F,
+    output: &mut O,
+) -> Outcome {
+    let Ok(mut onto) = File::create(rt, wanted.json) else {
+        return Outcome::Device;
+    };
+    let mut fault = Vec::new(alloc);
+    let outcome = export(
+        rt,
+        alloc,
+        &how(wanted, drawn_key(rt)),
+        schema,
+        file,
+        &mut Stream::new(&mut onto),
+        &mut Stream::new(&mut fault),
+        &mut Silent,
+    );
+    told(outcome, output, fault.as_slice())
 }
 
 /// A key that nobody knows before the run, so that none can choose names that take long; or the one that is always the same, where no bytes
