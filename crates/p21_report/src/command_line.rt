@@ -4,8 +4,8 @@ ghost use Rattle.std.specs.Prelude.{◌≡◌, Ok, Err};
 ghost use Rattle.p21_run.specs.declared.outcome.Outcome.TheVariants.{Complete, Faulty, SchemaRefused, Device as Failed, Memory as NoMemory};
 ghost use Rattle.p21_report.specs.declared.program_error.ProgramError.TheVariants.{Device, Memory};
 
-use crate::drawn_key::drawn_key;
 use crate::explainer::Explainer;
+use crate::key::drawn_key;
 use crate::opened::{LastError, Opened};
 use crate::program_error::ProgramError;
 use crate::progress::{NoClock, Progress, Stage};

@@ -2,8 +2,8 @@
 #![tactic(auto)]
 
 mod command_line;
-mod drawn_key;
 mod explainer;
+mod key;
 mod opened;
 mod program_error;
 mod progress;
@@ -11,6 +11,6 @@ mod watched;
 mod words;
 
 pub use command_line::{program, program_with_progress, unreadable_words};
-pub use drawn_key::drawn_key;
+pub use key::drawn_key;
 pub use p21_render::{counts, fault_line, render};
 pub use p21_run::{IoFault, Outcome, Sink, Source, Stream, run};
