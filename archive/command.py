@@ -24,7 +24,7 @@ STATUSES = '''
 Status:
   0    all files were read
   1    some have a fault
-  2    the words were refused
+  2    usage error
   4    some could not be tried, or the table could not be written
   130  it was interrupted
 '''
@@ -57,7 +57,7 @@ def options(words: List[str]) -> argparse.Namespace:
     parser.add_argument('--transfer', action='store_true', help='send files, schemas and program to the hosts, which share no folder with this one')
     parser.add_argument('--part', metavar='I/N', type=part, default=Part(1, 1), help='look at the I-th of N parts of the files alone')
     parser.add_argument('--out', metavar='FOLDER', default='p21archive.out', help='where the table goes [default: %(default)s]')
-    parser.add_argument('--resume', action='store_true', help='go on where a run into that folder was broken off')
+    parser.add_argument('--resume', action='store_true', help='continue an interrupted run into that folder')
     return parser.parse_intermixed_args(words)
 
 

@@ -35,7 +35,10 @@ pub(crate) fn program<R: Files + Threads + Wait + Sync, I: Read, O: Write, E: Wr
 
 /// What the program ends with where its words could not be read.
 pub(crate) fn unreadable_words<E: Write>(errors: &mut E) -> u8 {
-    let _ = writeln!(errors, "p21export: the words are no text");
+    let _ = writeln!(
+        errors,
+        "p21export: invalid UTF-8 was detected in one or more arguments"
+    );
     2
 }
 

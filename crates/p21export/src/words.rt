@@ -26,13 +26,13 @@ const VERSION: &str = "0.1.0";
 
 /// What the help says of statuses.
 const STATUSES: &str = "\
-Status:
+Exit status:
   0  the file was read, and its model written
   1  the file has a fault
-  2  the words were refused
+  2  usage error
   3  the schema was refused
-  4  a path could not be opened, a reader or a writer failed, or a bound was passed
-  5  there was no memory left, or a thread was refused";
+  4  a file could not be opened, read or written, or a limit was exceeded
+  5  out of memory, or a thread could not be started";
 
 /// Why nothing is asked for.
 #[derive(Debug, Drop)]
@@ -74,7 +74,7 @@ pub(crate) fn what_is_wanted<'a>(
 fn missing(alloc: Global) -> Result<Refusal, AllocError> {
     let error = command(alloc)?.error(
         ErrorKind::MissingRequiredArgument,
-        "no SCHEMA, no FILE or no OUT is given",
+        "SCHEMA, FILE or --json OUT is missing",
     )?;
     Ok(Refusal::Words(error))
 }
@@ -136,21 +136,21 @@ fn lanes<'a>(alloc: Global) -> Arg<'a> {
     number(alloc, "lanes")
         .default_value("4")
         .value_parser(value_parser!(u32).range(1..=64))
-        .help("how many threads read the file beside the one that deals it, 1 to 64")
+        .help("number of worker threads, 1 to 64")
 }
 
 fn capacity<'a>(alloc: Global) -> Arg<'a> {
     number(alloc, "capacity")
         .default_value("256")
         .value_parser(value_parser!(u32).range(1..=4096))
-        .help("how many instances may be out with one of them, 1 to 4096")
+        .help("most instances that wait for a worker thread, 1 to 4096")
 }
 
 fn distinct<'a>(alloc: Global) -> Arg<'a> {
     Arg::new(alloc, "distinct")
         .long("distinct")
         .action(ArgAction::SetTrue)
-        .help("tell where a SET or a LIST OF UNIQUE names one instance twice")
+        .help("also report a SET or LIST OF UNIQUE that names an instance twice")
 }
 
 /// A word that a number follows.
