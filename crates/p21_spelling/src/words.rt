@@ -12,6 +12,11 @@ fn is_part(byte: u8) -> bool {
     byte.is_ascii_alphanumeric() || byte == b'_'
 }
 
+/// Whether some bytes are one that stands by itself; a remark also begins with a parenthesis.
+fn is_symbol(bytes: &[u8]) -> bool {
+    matches!(bytes, [symbol] if b";:,()[]\\".contains(symbol))
+}
+
 /// How many bytes of a name stand at the front.
 fn part_len(text: &[u8]) -> usize
     ensures { result ≤ length text.now }
@@ -84,7 +89,7 @@ pub fn next_word(text: &[u8]) -> Option<(&[u8], &[u8])>
     while !rest.is_empty() {
         let (front, behind) = rest.split_at(front_len(rest));
         rest = behind;
-        if is_letter(front[0]) || b";:,()[]\\".contains(&front[0]) {
+        if is_letter(front[0]) || is_symbol(front) {
             return Some((front, rest));
         }
     }
