@@ -23,10 +23,10 @@ USAGE, FAILED, INTERRUPTED = 2, 4, 130
 STATUSES = '''
 Status:
   0    all files were read
-  1    some have a fault
+  1    some files have a fault
   2    usage error
-  4    some could not be tried, or the table could not be written
-  130  it was interrupted
+  4    some files could not be checked, or the table could not be written
+  130  interrupted
 '''
 
 
@@ -48,16 +48,16 @@ def jobs(text: str) -> int:
 def options(words: List[str]) -> argparse.Namespace:
     """What the words ask for."""
     parser = argparse.ArgumentParser(
-        prog='p21archive', description='Checks all STEP files below some folders, each against the schema that it names.', epilog=STATUSES,
+        prog='p21archive', description='Checks all STEP files in some folders and their subfolders, each against the schema that it names.', epilog=STATUSES,
         formatter_class=argparse.RawDescriptionHelpFormatter, allow_abbrev=False)
-    parser.add_argument('folders', metavar='FOLDER', nargs='+', help='a folder to look through')
-    parser.add_argument('--schemas', metavar='FOLDER', required=True, help='the folder of the EXPRESS schemas, *.exp')
-    parser.add_argument('--jobs', metavar='N', type=jobs, help='how many files at a time on each machine [default: as many as it has processors]')
-    parser.add_argument('--hosts', metavar='FILE', help='the hosts that work, a line each, as GNU parallel has them')
-    parser.add_argument('--transfer', action='store_true', help='send files, schemas and program to the hosts, which share no folder with this one')
-    parser.add_argument('--part', metavar='I/N', type=part, default=Part(1, 1), help='look at the I-th of N parts of the files alone')
-    parser.add_argument('--out', metavar='FOLDER', default='p21archive.out', help='where the table goes [default: %(default)s]')
-    parser.add_argument('--resume', action='store_true', help='continue an interrupted run into that folder')
+    parser.add_argument('folders', metavar='FOLDER', nargs='+', help='folder to search for STEP files')
+    parser.add_argument('--schemas', metavar='FOLDER', required=True, help='folder with the EXPRESS schemas, *.exp')
+    parser.add_argument('--jobs', metavar='N', type=jobs, help='number of files to check at a time on each machine [default: its number of processors]')
+    parser.add_argument('--hosts', metavar='FILE', help='file with the hosts to use, one per line, as GNU parallel reads them')
+    parser.add_argument('--transfer', action='store_true', help='send the files, the schemas and the program to hosts that share no folder with this machine')
+    parser.add_argument('--part', metavar='I/N', type=part, default=Part(1, 1), help='check only part I of N of the files')
+    parser.add_argument('--out', metavar='FOLDER', default='p21archive.out', help='folder for the results [default: %(default)s]')
+    parser.add_argument('--resume', action='store_true', help='continue the interrupted run in that folder')
     return parser.parse_intermixed_args(words)
 
 
