@@ -58,43 +58,33 @@ pub(crate) fn attribute_of(
 
 /// The declaration that newly declares an attribute.
 fn newly_declared(schema: &Schema, attribute: AttrId) -> Option<Attribute<'_>> {
+    let mut place = attribute.place();
     for owner in &schema.declared().entities {
-        if let Some(declared) = own_declaration(schema, owner, attribute) {
-            return Some(Attribute {
-                id: attribute,
-                owner,
-                declared,
-            });
+        match explicit_at(owner, place) {
+            Ok(declared) => {
+                return Some(Attribute {
+                    id: attribute,
+                    owner,
+                    declared,
+                });
+            }
+            Err(left) => place = left,
         }
     }
     None
 }
 
-/// The same, where it stands in this entity.
-fn own_declaration<'a>(
-    schema: &Schema,
-    owner: &'a EntityDecl,
-    attribute: AttrId,
-) -> Option<&'a AttrDecl> {
-    let entity = schema.entity(&owner.name)?;
-    for position in 0..schema.own_count(entity) {
-        if schema.own(entity, position) == attribute {
-            return explicit_at(owner, position);
-        }
-    }
-    None
-}
-
-/// The explicit attribute that an entity newly declares with so many before it.
-fn explicit_at(owner: &EntityDecl, position: usize) -> Option<&AttrDecl> {
-    let mut before = position;
+/// The explicit attribute that an entity newly declares with so many before it; where there is none, how many more it would have to
+/// declare before it.
+fn explicit_at(owner: &EntityDecl, place: usize) -> Result<&AttrDecl, usize> {
+    let mut left = place;
     for declared in &owner.attributes {
         if declared.of.is_none() {
-            if before == 0 {
-                return Some(declared);
+            if left == 0 {
+                return Ok(declared);
             }
-            before -= 1;
+            left -= 1;
         }
     }
-    None
+    Err(left)
 }

@@ -13,21 +13,23 @@ pub(crate) fn say_broken_rule(
 ) -> Result<u64, AllocError> {
     for (rec, keyword) in keywords.iter().enumerate() {
         if keywords[..rec].contains(keyword) {
-            said.say((subject.name(keyword), " is there twice."))?;
+            said.say((subject.name(keyword), " occurs twice."))?;
             return Ok(rec as u64);
         }
     }
     for (rec, keyword) in keywords.iter().enumerate() {
         if let Some(lacking) = lacking_supertype(subject, keywords, keyword) {
-            said.say((subject.name(keyword), " is there without its supertype "))?;
-            said.say((subject.name(lacking), "."))?;
+            let (name, lacking) = (subject.name(keyword), subject.name(lacking));
+            said.say((name, " occurs without its supertype ", lacking, "."))?;
             return Ok(rec as u64);
         }
     }
     for (rec, keyword) in keywords.iter().enumerate() {
         if lacks_subtype(subject, keywords, keyword) {
-            said.say(subject.name(keyword))?;
-            said.say(" is an ABSTRACT SUPERTYPE, and is there without a subtype.")?;
+            said.say((
+                subject.name(keyword),
+                " is an ABSTRACT SUPERTYPE, and occurs without a subtype.",
+            ))?;
             return Ok(rec as u64);
         }
     }

@@ -107,11 +107,8 @@ fn line_from(file: &[u8], start: usize) -> &[u8]
         Some(len) => len,
         None => rest.len(),
     };
-    if len > 0 && rest[len - 1] == b'\r' {
-        &rest[..len - 1]
-    } else {
-        &rest[..len]
-    }
+    let line = &rest[..len];
+    line.strip_suffix(b"\r").unwrap_or(line)
 }
 
 /// The end of some bytes as it is shown in so many columns, with three points before it where that is not all of them.

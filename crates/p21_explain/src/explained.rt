@@ -131,7 +131,7 @@ fn say_fault(
         FaultKind::Unexpected => return say_unexpected(said, subject.file, at),
         FaultKind::Truncated => say_truncated(said, subject.file, at)?,
         FaultKind::TooDeep => said.say(
-            "This is the 65th parenthesis that is open at once; at most 64 are allowed.",
+            "Here 65 parentheses are open at once; at most 64 are allowed.",
         )?,
         FaultKind::HeaderEntities => return say_header_entities(said, subject.file, at),
         FaultKind::WrongSchema => return say_wrong_schema(said, subject, at),

@@ -10,9 +10,10 @@ use crate::names::say_nearest;
 use crate::redeclared::say_declared;
 use crate::references::{say_kind, say_named};
 use crate::said::{Front, Said, article};
-use crate::types::{Base, base_of, is_of_reals, type_named};
+use crate::types::{Base, base_of, base_under, is_of_reals, type_named};
 use crate::values::say_value;
-use p21_schema::EntityId;
+use p21_express::TypeExpr;
+use p21_schema::{EntityId, Schema};
 use p21_text::Token;
 use p21_tree::FaultKind;
 use std::alloc::AllocError;
@@ -122,49 +123,74 @@ fn say_advice(
     token: Token<'_>,
     integer: Option<&[u8]>,
 ) -> Result<(), AllocError> {
-    let declared = subject.schema.declared();
     let texpr = &attribute.declared.texpr;
-    match (base_of(declared, texpr), token) {
-        (_, Token::Dollar) => said.say(" `$` is allowed only for an OPTIONAL attribute."),
-        (_, Token::Star) => said.say(" `*` is allowed only for a derived attribute."),
-        (_, Token::Int(_) | Token::LParen) if is_of_reals(declared, texpr) => {
-            say_point(said, integer)
+    let base = base_of(subject.schema, texpr);
+    let words = advice(base, token);
+    if !words.is_empty() {
+        return said.say(words);
+    }
+    match (base, token, integer) {
+        (Base::Real | Base::Aggregate, Token::Int(_) | Token::LParen, Some(digits))
+            if is_of_reals(subject.schema.declared(), texpr) => {
+            said.say((" A REAL has a point, as in `", Front(digits), ".`."))
         }
-        (_, Token::Enumeration(b"TRUE" | b"FALSE" | b"UNKNOWN")) => {
-            said.say(" A BOOLEAN is written `.T.` or `.F.`, and an unknown LOGICAL `.U.`.")
-        }
-        (Base::Text, Token::Int(digits) | Token::Real(digits)) => {
+        (Base::Text, Token::Int(digits) | Token::Real(digits), _) => {
             said.say((" A STRING is in apostrophes, as in '", Front(digits), "'."))
         }
-        (Base::Integer, Token::Real(_)) => said.say(" An INTEGER has no point."),
-        (Base::Aggregate, Token::Name(name)) => {
-            said.say((
-                " A list is in parentheses, also of one element, as in (#",
-                name,
-                ").",
-            ))
-        }
-        (Base::Items, Token::Str([_, ..])) => {
-            said.say(" An enumeration is between points, as in `.METRE.`.")
-        }
-        (base, Token::Str([])) if base != Base::Text => {
-            said.say(" A value that is not given is written `$`, where the attribute is OPTIONAL.")
-        }
-        (Base::Select, Token::LParen | Token::Name(_)) => Ok(()),
-        (Base::Select, Token::Keyword(_) | Token::UserKeyword(_)) => Ok(()),
-        (Base::Select, _) => {
-            said.say(" A value of a SELECT is written with its type, as in LABEL('x').")
-        }
+        (Base::Aggregate, Token::Name(name), _) => said.say((
+            " A list is in parentheses, even with one element, as in (#",
+            name,
+            ").",
+        )),
+        (Base::Select, Token::LParen | Token::Name(_), _) => Ok(()),
+        (Base::Select, Token::Keyword(_) | Token::UserKeyword(_), _) => Ok(()),
+        (Base::Select, _, _) => say_typed(said, subject.schema, texpr),
         _ => Ok(()),
     }
 }
 
-/// Adds that a REAL has a point, where an integer stands for it.
-fn say_point(said: &mut Said, integer: Option<&[u8]>) -> Result<(), AllocError> {
-    match integer {
-        Some(digits) => said.say((" A REAL has a point, as in `", Front(digits), ".`.")),
-        None => Ok(()),
+/// The advice that depends on the type and the token alone; nothing where there is none.
+fn advice(base: Base, token: Token<'_>) -> &'static str {
+    match token {
+        Token::Dollar => " `$` is allowed only for an OPTIONAL attribute.",
+        Token::Star => " `*` is allowed only for a derived attribute.",
+        Token::Enumeration(b"TRUE" | b"FALSE" | b"UNKNOWN") => {
+            " A BOOLEAN is written `.T.` or `.F.`, and an unknown LOGICAL `.U.`."
+        }
+        Token::Real(_) if base == Base::Integer => " An INTEGER has no point.",
+        Token::Str([]) if base != Base::Text => {
+            " A value that is not given is written `$`, where the attribute is OPTIONAL."
+        }
+        Token::Str(_) if base == Base::Items => {
+            " An enumeration value is between points, as in `.METRE.`."
+        }
+        _ => "",
     }
+}
+
+/// Adds that a value of a SELECT is written with its type, and how, where a type of strings is one.
+fn say_typed(said: &mut Said, schema: &Schema, texpr: &TypeExpr) -> Result<(), AllocError> {
+    said.say(" A value of a SELECT is written with its type")?;
+    match text_in(schema, texpr) {
+        Some(name) => said.say((", as in ", name, "('x').")),
+        None => said.say("."),
+    }
+}
+
+/// The first type of strings that a SELECT reaches.
+fn text_in<'a>(schema: &'a Schema, texpr: &TypeExpr) -> Option<&'a [u8]> {
+    let TypeExpr::Named(name) = texpr else {
+        return None;
+    };
+    let select = schema.type_named(name)?;
+    for defined in &schema.declared().types {
+        if let Some(reached) = schema.select_has(select, &defined.name) {
+            if base_under(schema.under(reached)) == Base::Text {
+                return Some(&defined.name);
+            }
+        }
+    }
+    None
 }
 
 /// Adds the name of an instance.
@@ -189,8 +215,7 @@ fn say_duplicate(said: &mut Said, instance: &Instance<'_>) -> Result<usize, Allo
 
 /// Adds which keyword is no entity, and the names near it.
 fn say_unknown(said: &mut Said, instance: &Instance<'_>) -> Result<usize, AllocError> {
-    let keywords = instance.keywords(said.alloc)?;
-    for (rec, keyword) in keywords.iter().enumerate() {
+    for (rec, keyword) in instance.keywords().iter().enumerate() {
         if instance.subject.schema.entity(keyword).is_none() {
             let rec = rec as u64;
             say_record(said, instance, rec)?;
@@ -237,7 +262,7 @@ fn say_subtypes(said: &mut Said, subject: Subject<'_>, name: &[u8]) -> Result<()
     let mut count: usize = 0;
     for entity in &subject.schema.declared().entities {
         if count < MOST_SUBTYPES && is_subtype(entity, name) {
-            let before = if count == 0 { ", as " } else { ", " };
+            let before = if count == 0 { ", such as " } else { ", " };
             said.say((before, subject.name(&entity.name)))?;
             count += 1;
         }
@@ -247,14 +272,13 @@ fn say_subtypes(said: &mut Said, subject: Subject<'_>, name: &[u8]) -> Result<()
 
 /// Adds which rule a complex instance breaks.
 fn say_complex(said: &mut Said, instance: &Instance<'_>) -> Result<usize, AllocError> {
-    let keywords = instance.keywords(said.alloc)?;
     say_subject(said, instance)?;
     said.say(" is ")?;
     let from = said.len();
     say_kind(said, instance)?;
     said.found = said.since(from);
     said.say(": ")?;
-    let rec = say_broken_rule(said, instance.subject, &keywords)?;
+    let rec = say_broken_rule(said, instance.subject, instance.keywords())?;
     Ok(instance.place_of(Spot::Keyword { rec }))
 }
 
@@ -294,7 +318,7 @@ fn say_comma(
         let next = attr.saturating_add(1);
         let found = attribute_in(instance, rec, attr);
         let is_real = found.is_some_and(|it| {
-            base_of(instance.subject.schema.declared(), &it.declared.texpr) == Base::Real
+            base_of(instance.subject.schema, &it.declared.texpr) == Base::Real
         });
         if let (true, Some(whole), Some(decimals)) = (
             is_real,
@@ -371,8 +395,7 @@ fn say_attribute<'a>(
     said.say((" (attr ", attr, "), declared in "))?;
     said.say((instance.subject.name(&found.owner.name), ", is "))?;
     let from = said.len();
-    let keywords = instance.keywords(said.alloc)?;
-    say_declared(said, instance.subject, found, &keywords)?;
+    say_declared(said, instance.subject, found, instance.keywords())?;
     said.wanted = said.since(from);
     Ok(Some(found))
 }

@@ -3,7 +3,7 @@
 ghost use Rattle.std.specs.Prelude.{◌≤◌, length};
 
 use crate::instances::{data_start, last_before};
-use crate::mistakes::{meant_by_bytes, meant_by_token, other_format};
+use crate::mistakes::{instead_of_file, meant_by_bytes, meant_by_token};
 use crate::place::place_of;
 use crate::said::{Front, Said};
 use crate::walk::Walk;
@@ -58,10 +58,7 @@ impl<'a> Before<'a> {
             }
             _ => 0,
         };
-        let front = match file.get(start..at) {
-            Some(front) => front,
-            None => b"",
-        };
+        let front = file.get(start..at).unwrap_or(b"".as_slice());
         text.extend_from_slice(front)?;
         text.push(b' ')?;
         let last = last_token(front);
@@ -196,7 +193,7 @@ pub(crate) fn say_bad_token(said: &mut Said, file: &[u8], at: usize) -> Result<(
     }
     before.say_expected(said)?;
     before.say_beginning(said, file)?;
-    match other_format(file) {
+    match instead_of_file(rest) {
         Some(format) if before.is_beginning() => said.say(format),
         _ if is_open => Ok(()),
         _ => said.say(meant_by_bytes(rest, before.last)),
@@ -244,7 +241,7 @@ fn has_paired_quotes(text: &[u8]) -> bool {
     single.is_none()
 }
 
-/// Adds which token is there, and what the grammar expects; answers the place to look at: of an instance that is not ended, its end.
+/// Adds which token is there, and what the grammar expects; answers the place to look at: of an instance that is not terminated, its end.
 pub(crate) fn say_unexpected(said: &mut Said, file: &[u8], at: usize) -> Result<usize, AllocError>
     requires { at ≤ length file.now }
 {
@@ -252,7 +249,7 @@ pub(crate) fn say_unexpected(said: &mut Said, file: &[u8], at: usize) -> Result<
     let mut before = Before::read(said.alloc, file, at)?;
     if let Some(name) = before.unfinished(file)? {
         said.name = Some(name);
-        said.say(("#", name, " is not ended: expected `;` here, found "))?;
+        said.say(("#", name, " is not terminated: expected `;` here, found "))?;
         say_token(said, file, lexed)?;
         said.say(" ")?;
         say_place(said, file, lexed.start)?;
@@ -264,7 +261,7 @@ pub(crate) fn say_unexpected(said: &mut Said, file: &[u8], at: usize) -> Result<
     before.say_behind(said)?;
     before.say_expected(said)?;
     before.say_beginning(said, file)?;
-    match other_format(file) {
+    match instead_of_file(&file[lexed.start..]) {
         Some(format) if before.is_beginning() => said.say(format)?,
         _ => said.say(meant_by_token(lexed.token, before.last))?,
     }
@@ -273,13 +270,10 @@ pub(crate) fn say_unexpected(said: &mut Said, file: &[u8], at: usize) -> Result<
 
 /// Adds a token as it is written.
 fn say_token(said: &mut Said, file: &[u8], lexed: Lexed<'_>) -> Result<(), AllocError> {
-    let written = match file.get(lexed.start..lexed.after) {
-        Some(written) => written,
-        None => b"",
-    };
+    let written = file.get(lexed.start..lexed.after);
     said.say("`")?;
     let from = said.len();
-    said.say(Front(written))?;
+    said.say(Front(written.unwrap_or(b"".as_slice())))?;
     said.found = said.since(from);
     said.say("`")
 }

@@ -7,6 +7,7 @@ ghost use Rattle.p21_explain.specs.Printed.{IsPrinted};
 use crate::attributes::attribute_in;
 use crate::excerpt::push_line;
 use crate::explained::{Subject, instance_at};
+use crate::instance::Instance;
 use crate::said::{Front, Said};
 use crate::shown::new_text;
 use p21_tree::{Fault, FaultKind};
@@ -33,7 +34,7 @@ pub fn summary(alloc: Global, subject: Subject<'_>, faults: &[Fault]) -> Result<
 {
     let mut groups = Vec::new(alloc);
     for fault in faults {
-        add(alloc, &mut groups, subject, fault)?;
+        add(&mut groups, group_of(alloc, subject, fault)?)?;
     }
     groups.sort_by_key(|group: &Group<'_>| u64::MAX - group.count)?;
     printed(alloc, subject, &groups)
@@ -77,50 +78,61 @@ fn push_group(
     push_line(text, line.bytes())
 }
 
-/// Counts a fault with those that it is like.
-fn add<'a>(
+/// What a fault has in common with others that are like it.
+fn group_of<'a>(
     alloc: Global,
-    groups: &mut Vec<Group<'a>>,
     subject: Subject<'a>,
     fault: &Fault,
-) -> Result<(), AllocError> {
+) -> Result<Group<'a>, AllocError> {
     let (words, rec, attr) = sort_of(fault.kind);
     let instance = instance_at(alloc, subject, fault.at)?;
-    let keyword: &[u8] = match (rec, &instance) {
-        (Some(rec), Some(instance)) => instance.keyword(rec).unwrap_or(b"".as_slice()),
-        _ => b"",
+    let (keyword, name) = match (rec, &instance) {
+        (Some(rec), Some(instance)) => names_in(instance, rec, attr),
+        _ => (b"".as_slice(), b"".as_slice()),
     };
-    for group in groups.iter_mut() {
-        if group.words == words && group.keyword == keyword && group.attr == attr {
-            group.count = group.count.saturating_add(1);
-            return Ok(());
-        }
-    }
-    let mut name: &[u8] = b"";
-    if let (Some(rec), Some(attr), Some(instance)) = (rec, attr, &instance) {
-        if let Some(found) = attribute_in(instance, rec, attr) {
-            name = subject.attribute_name(found);
-        }
-    }
-    groups.push(Group {
+    Ok(Group {
         words,
         keyword,
         attr,
         name,
         count: 1,
-    })?;
+    })
+}
+
+/// The keyword of a record of an instance, and the name of one of its attributes.
+fn names_in<'a>(instance: &Instance<'a>, rec: u64, attr: Option<u64>) -> (&'a [u8], &'a [u8]) {
+    let keyword = instance.keyword(rec).unwrap_or(b"".as_slice());
+    let name = match attr.and_then(|attr| attribute_in(instance, rec, attr)) {
+        Some(found) => instance.subject.attribute_name(found),
+        None => b"".as_slice(),
+    };
+    (keyword, name)
+}
+
+/// Counts a fault with those that it is like.
+fn add<'a>(groups: &mut Vec<Group<'a>>, added: Group<'a>) -> Result<(), AllocError> {
+    for group in groups.iter_mut() {
+        if group.words == added.words
+            && group.keyword == added.keyword
+            && group.attr == added.attr
+        {
+            group.count = group.count.saturating_add(1);
+            return Ok(());
+        }
+    }
+    groups.push(added)?;
     Ok(())
 }
 
 /// What is wrong, by the kind of a fault, and the record and the attribute, where the fault is of one.
 fn sort_of(kind: FaultKind) -> (&'static str, Option<u64>, Option<u64>) {
     match kind {
-        FaultKind::BadToken => ("no token", None, None),
+        FaultKind::BadToken => ("invalid token", None, None),
         FaultKind::Unexpected => ("unexpected token", None, None),
         FaultKind::Truncated => ("unexpected end", None, None),
         FaultKind::TooDeep => ("too many open parentheses", None, None),
         FaultKind::HeaderEntities => ("wrong header entities", None, None),
-        FaultKind::WrongSchema => ("another schema", None, None),
+        FaultKind::WrongSchema => ("file of another schema", None, None),
         FaultKind::DuplicateName => ("repeated instance name", Some(0), None),
         FaultKind::UnknownEntity => ("unknown entity", Some(0), None),
         FaultKind::AbstractEntity => ("abstract entity", Some(0), None),
@@ -128,10 +140,14 @@ fn sort_of(kind: FaultKind) -> (&'static str, Option<u64>, Option<u64>) {
         FaultKind::WrongCount { rec } => ("wrong number of values", Some(rec), None),
         FaultKind::BadAttribute { rec, attr } => ("invalid value", Some(rec), Some(attr)),
         FaultKind::MissingReference { rec, attr, .. } => {
-            ("reference to no instance", Some(rec), Some(attr))
+            ("reference to a missing instance", Some(rec), Some(attr))
         }
         FaultKind::WrongReference { rec, attr, .. } => {
-            ("reference to another type", Some(rec), Some(attr))
+            (
+                "reference to an instance of the wrong type",
+                Some(rec),
+                Some(attr),
+            )
         }
         FaultKind::RepeatedReference { rec, attr } => {
             ("instance named twice", Some(rec), Some(attr))

@@ -26,15 +26,14 @@ pub(crate) fn say_header_entities(
             said.say(
                 "The header must begin with FILE_DESCRIPTION, FILE_NAME and FILE_SCHEMA. Expected ",
             )?;
-            said.say((*wanted, " as its entity ", position, "; found "))?;
+            said.say((*wanted, " as header entity ", position, "; found "))?;
             say_keyword(said, lexed.token)?;
             return Ok(lexed.start);
         }
     }
     said.say(
-        "FILE_SCHEMA must have one parameter, a list of one string, which is the schema's name: ",
+        "FILE_SCHEMA must have one parameter, a list of one string, which is the schema's name: FILE_SCHEMA(('NAME'));",
     )?;
-    said.say("FILE_SCHEMA(('NAME'));")?;
     Ok(header_entity(file, at, 2).start)
 }
 

@@ -46,6 +46,7 @@ pub(crate) struct Instance<'a> {
     /// Its place, in bytes from the file's first byte.
     pub(crate) at: usize,
     tokens: Vec<Placed<'a>>,
+    keywords: Vec<&'a [u8]>,
 }
 
 impl<'a> Instance<'a> {
@@ -56,11 +57,15 @@ impl<'a> Instance<'a> {
         piece: &Piece<'a>,
     ) -> Result<Instance<'a>, AllocError> {
         let mut tokens = Vec::new(alloc);
+        let mut keywords = Vec::new(alloc);
         let mut spots = Spots::new(piece.bytes);
         for _ in 0..piece.bytes.len() {
-            match spots.next() {
-                Some(placed) => tokens.push(placed)?,
-                None => break,
+            let Some(placed) = spots.next() else {
+                break;
+            };
+            tokens.push(placed)?;
+            if let (Spot::Keyword { .. }, Some(keyword)) = (placed.spot, keyword_of(placed.token)) {
+                keywords.push(keyword)?;
             }
         }
         Ok(Instance {
@@ -68,6 +73,7 @@ impl<'a> Instance<'a> {
             bytes: piece.bytes,
             at: piece.at as usize,
             tokens,
+            keywords,
         })
     }
 
@@ -78,10 +84,7 @@ impl<'a> Instance<'a> {
 
     /// The place of that token; of the instance where there is none.
     pub(crate) fn place_of(&self, spot: Spot) -> usize {
-        match self.token_at(spot) {
-            Some(placed) => placed.start,
-            None => 0,
-        }
+        self.token_at(spot).map_or(0, |it| it.start)
     }
 
     /// Its name.
@@ -103,14 +106,8 @@ impl<'a> Instance<'a> {
     }
 
     /// The keywords of the records, in their order.
-    pub(crate) fn keywords(&self, alloc: Global) -> Result<Vec<&'a [u8]>, AllocError> {
-        let mut keywords = Vec::new(alloc);
-        for placed in &self.tokens {
-            if let (Spot::Keyword { .. }, Some(keyword)) = (placed.spot, keyword_of(placed.token)) {
-                keywords.push(keyword)?;
-            }
-        }
-        Ok(keywords)
+    pub(crate) fn keywords(&self) -> &[&'a [u8]] {
+        &self.keywords
     }
 
     /// How many parameters a record has.
@@ -123,14 +120,10 @@ impl<'a> Instance<'a> {
 
     /// The place of this token in a parameter; of the instance where it is not there.
     pub(crate) fn place_in(&self, rec: u64, attr: u64, token: Token<'_>) -> usize {
-        let found = self
-            .tokens
+        self.tokens
             .iter()
-            .find(|it| it.spot.is_in(rec, attr) && it.token == token);
-        match found {
-            Some(placed) => placed.start,
-            None => 0,
-        }
+            .find(|it| it.spot.is_in(rec, attr) && it.token == token)
+            .map_or(0, |it| it.start)
     }
 
     /// The integer that a parameter is.

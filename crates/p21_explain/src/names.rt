@@ -59,8 +59,5 @@ fn nearest<'a>(
 
 /// Whether a name is nearer than another, or there is no other.
 fn is_nearer(near: &Near<'_>, other: &Option<Near<'_>>) -> bool {
-    match other {
-        Some(other) => near.distance < other.distance,
-        None => true,
-    }
+    other.is_none_or(|other| near.distance < other.distance)
 }

@@ -65,10 +65,8 @@ fn say_again(
 
 /// Whether a redeclaration through this entity is one of an attribute of that name.
 fn is_through(schema: &Schema, of: &Option<Vec<u8>>, attribute: Attribute<'_>) -> bool {
-    match of {
-        Some(of) => is_a(schema, of, &attribute.owner.name),
-        None => false,
-    }
+    of.as_ref()
+        .is_some_and(|of| is_a(schema, of, &attribute.owner.name))
 }
 
 /// Whether one of some records makes an instance one of an entity: in a complex instance by its own keyword, else also by its ancestors.

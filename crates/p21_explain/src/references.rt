@@ -23,13 +23,12 @@ pub(crate) fn say_named(
 
 /// Adds what an instance is: its entity, or of a complex one those of its records.
 pub(crate) fn say_kind(said: &mut Said, instance: &Instance<'_>) -> Result<(), AllocError> {
-    let keywords = instance.keywords(said.alloc)?;
     if instance.is_complex() {
         said.say("a complex instance of ")?;
-    } else if let Some(keyword) = keywords.first() {
+    } else if let Some(keyword) = instance.keywords().first() {
         said.say(article(keyword))?;
     }
-    for (position, keyword) in keywords.iter().enumerate() {
+    for (position, keyword) in instance.keywords().iter().enumerate() {
         let before = if position == 0 { "" } else { ", " };
         said.say((before, instance.subject.name(keyword)))?;
     }

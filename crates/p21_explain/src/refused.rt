@@ -7,7 +7,7 @@ ghost use Rattle.p21_explain.specs.Printed.{IsPrinted};
 use crate::excerpt::{paragraph, push_line};
 use crate::explained::{Format, in_text};
 use crate::json::object;
-use crate::mistakes::other_format;
+use crate::mistakes::instead_of_schema;
 use crate::place::place_of;
 use crate::said::{Front, Said};
 use crate::shown::new_text;
@@ -114,12 +114,15 @@ fn say_rule(said: &mut Said, text: &[u8], at: usize, error: &SchemaError) -> Res
     match error {
         SchemaError::Syntax(_) => {
             said.say("` is not expected here.")?;
-            said.say(syntax_advice(text, front, rest))
+            said.say(syntax_advice(front, rest))
         }
-        SchemaError::NotSupported(_) if is_select_alone(front, word) => {
-            say_select_alone(said, text, front, word)
-        }
-        SchemaError::NotSupported(_) => said.say(("` is not supported here.", form_advice(word))),
+        SchemaError::NotSupported(_) => match type_at(text, word) {
+            Some(declared) if stands_alone(rest) => {
+                let line = place_of(text, declared.min(text.len())).line;
+                say_select_alone(said, front, word, line as u64)
+            }
+            _ => said.say(("` is not supported here.", form_advice(word))),
+        },
         SchemaError::Memory => Ok(()),
         SchemaError::Repeated(_) => said.say("` is named a second time."),
         SchemaError::UnknownName(_) => said.say("` is not declared, or is of the wrong kind."),
@@ -131,15 +134,15 @@ fn say_rule(said: &mut Said, text: &[u8], at: usize, error: &SchemaError) -> Res
 }
 
 /// What to do about what begins a text and is not expected behind what stands before it.
-fn syntax_advice(text: &[u8], before: &[u8], rest: &[u8]) -> &'static str {
+fn syntax_advice(before: &[u8], rest: &[u8]) -> &'static str {
     if before.is_empty() {
-        return other_format(text).unwrap_or("");
+        return instead_of_schema(rest).unwrap_or("");
     }
-    if ends_with_word(before, b"ABSTRACT") {
+    if ends_with(before, b"ABSTRACT", 0) {
         return " Write ABSTRACT SUPERTYPE.";
     }
     match rest {
-        [b'\'', ..] if is_behind_schema(before) => {
+        [b'\'', ..] if ends_with(before, b"SCHEMA", 1) => {
             " Remove the version after the name of the schema."
         }
         [b'\'' | b'"', ..] => " The string is perhaps not closed.",
@@ -149,25 +152,17 @@ fn syntax_advice(text: &[u8], before: &[u8], rest: &[u8]) -> &'static str {
     }
 }
 
-/// Whether a text ends with a word, in either case.
-fn ends_with_word(text: &[u8], word: &[u8]) -> bool {
-    let front = text.len().saturating_sub(word.len());
-    text[front..].eq_ignore_ascii_case(word)
-}
-
-/// Whether a text ends with SCHEMA and a name.
-fn is_behind_schema(text: &[u8]) -> bool {
-    let mut words = text
-        .rsplit(|byte| byte.is_ascii_whitespace())
-        .filter(|it| !it.is_empty());
-    words
-        .nth(1)
-        .is_some_and(|it| it.eq_ignore_ascii_case(b"SCHEMA"))
+/// Whether a text ends with a word, in either case, and so many words behind that.
+fn ends_with(text: &[u8], word: &[u8], behind: usize) -> bool {
+    text.rsplit(|byte| byte.is_ascii_whitespace())
+        .filter(|it| !it.is_empty())
+        .nth(behind)
+        .is_some_and(|it| it.eq_ignore_ascii_case(word))
 }
 
 /// What to do about a form that is not supported, by its word.
 fn form_advice(word: &[u8]) -> &'static str {
-    for (other, advice) in FORMS {
+    for (other, advice) in &FORMS {
         if word.eq_ignore_ascii_case(other.as_bytes()) {
             return advice;
         }
@@ -175,38 +170,28 @@ fn form_advice(word: &[u8]) -> &'static str {
     " At most 64 aggregates may be nested: declare a TYPE for the inner ones."
 }
 
-/// Whether a word that is not supported stands alone under a type: there it names a SELECT.
-fn is_select_alone(before: &[u8], word: &[u8]) -> bool {
-    let is_form = [
-        "EXTENSIBLE",
-        "GENERIC_ENTITY",
-        "ARRAY",
-        "LIST",
-        "SET",
-        "BAG",
-    ]
-    .iter()
-    .any(|it| word.eq_ignore_ascii_case(it.as_bytes()));
-    before.ends_with(b"=") && !is_form
+/// Whether nothing stands between the word that begins a text and the semicolon behind it: under a type it then names another.
+fn stands_alone(text: &[u8]) -> bool {
+    let Some((_, behind)) = next_word(text) else {
+        return false;
+    };
+    next_word(behind).is_some_and(|(word, _)| word == b";".as_slice())
 }
 
-/// Adds what to do about a SELECT that stands alone under a type, and where it is declared.
+/// Adds what to do about a SELECT that stands alone under a type, and in which line it is declared.
 fn say_select_alone(
     said: &mut Said,
-    text: &[u8],
     before: &[u8],
     word: &[u8],
+    line: u64,
 ) -> Result<(), AllocError> {
-    said.say("` is a SELECT")?;
-    if let Some(at) = type_at(text, word) {
-        let line = place_of(text, at.min(text.len())).line;
-        said.say((", declared at line ", line as u64))?;
-    }
+    said.say(("` is a SELECT, declared at line ", line))?;
     said.say(". A type that is just another SELECT is not supported: write `")?;
     let from = said.len();
-    let names = before.rsplit(|byte| *byte == b'=' || byte.is_ascii_whitespace());
-    for name in names.filter(|it| !it.is_empty()).take(1) {
-        said.say(("TYPE ", name, " = "))?;
+    let mut parts = before.rsplit(|byte| *byte == b'=' || byte.is_ascii_whitespace());
+    match parts.find(|it| !it.is_empty()) {
+        Some(name) if !name.ends_with(b"*)") => said.say(("TYPE ", name, " = "))?,
+        _ => {}
     }
     said.say(("SELECT (", word, ");"))?;
     said.wanted = said.since(from);

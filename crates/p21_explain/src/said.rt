@@ -6,9 +6,6 @@ use std::alloc::{AllocError, Global};
 /// The most bytes of a value, or of an unknown name, that a sentence gives.
 const MOST: usize = 60;
 
-/// The most names of a list that a sentence gives.
-pub(crate) const MOST_NAMES: usize = 24;
-
 /// Where a part of what is said stands in it.
 #[derive(Clone, Copy)]
 pub(crate) struct Span {
@@ -137,37 +134,10 @@ impl Say for Front<'_> {
     }
 }
 
-/// A name with an article before it.
-#[derive(Clone, Copy)]
-pub(crate) struct One<'a>(pub(crate) &'a [u8]);
-
-impl Say for One<'_> {
-    fn say_in(self, bytes: &mut Vec<u8>) -> Result<(), AllocError> {
-        (article(self.0), Front(self.0)).say_in(bytes)
-    }
-}
-
 /// The article before a name.
 pub(crate) fn article(name: &[u8]) -> &'static str {
     match name.first() {
         Some(b'A' | b'E' | b'I' | b'O' | b'a' | b'e' | b'i' | b'o') => "an ",
         _ => "a ",
-    }
-}
-
-/// Names with commas between them: of very many the first alone, with three points behind them.
-#[derive(Clone, Copy)]
-pub(crate) struct Names<'a>(pub(crate) &'a [Vec<u8>]);
-
-impl Say for Names<'_> {
-    fn say_in(self, bytes: &mut Vec<u8>) -> Result<(), AllocError> {
-        for (position, name) in self.0.iter().enumerate() {
-            if position == MOST_NAMES {
-                return ", ...".say_in(bytes);
-            }
-            let before = if position == 0 { "" } else { ", " };
-            (before, name.as_slice()).say_in(bytes)?;
-        }
-        Ok(())
     }
 }

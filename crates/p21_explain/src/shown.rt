@@ -106,11 +106,8 @@ fn last_piece(bytes: &[u8]) -> (Option<char>, usize)
 
 /// How many columns a piece of so many bytes takes.
 fn columns_of(char: Option<char>, len: usize) -> usize {
-    let columns = match char {
-        Some(char) => columns_of_char(char),
-        None => None,
-    };
-    columns.unwrap_or(len.saturating_mul(COLUMNS_OF_BYTE))
+    char.and_then(columns_of_char)
+        .unwrap_or(len.saturating_mul(COLUMNS_OF_BYTE))
 }
 
 /// How many columns a character takes that is shown as it is; none where it is not.

@@ -1,10 +1,13 @@
 //! Types in EXPRESS.
 
 use crate::explained::Subject;
-use crate::said::{MOST_NAMES, Names, Said, article};
+use crate::said::{Said, article};
 use p21_express::{Declarations, TypeDecl, TypeExpr, Under};
-use p21_schema::{Bounds, Width};
+use p21_schema::{Bounds, Resolved, ResolvedExpr, Schema, Width};
 use std::alloc::AllocError;
+
+/// The most names of a list that a sentence gives.
+const MOST_NAMES: usize = 24;
 
 /// Adds a type as EXPRESS writes it.
 pub(crate) fn say_type(
@@ -12,42 +15,27 @@ pub(crate) fn say_type(
     subject: Subject<'_>,
     texpr: &TypeExpr,
 ) -> Result<(), AllocError> {
-    match texpr {
-        TypeExpr::Integer => said.say("INTEGER"),
-        TypeExpr::Number => said.say("NUMBER"),
-        TypeExpr::Boolean => said.say("BOOLEAN"),
-        TypeExpr::Logical => said.say("LOGICAL"),
-        TypeExpr::Real => said.say("REAL"),
-        TypeExpr::Text(width) => say_width(said, "STRING", *width),
-        TypeExpr::Binary(width) => say_width(said, "BINARY", *width),
-        TypeExpr::Array {
-            bounds,
-            optional,
-            item,
-        } => {
-            let of = if *optional { " OF OPTIONAL " } else { " OF " };
-            say_aggregate(said, "ARRAY", *bounds, of)?;
-            say_type(said, subject, item)
-        }
-        TypeExpr::List {
-            bounds,
-            unique,
-            item,
-        } => {
-            let of = if *unique { " OF UNIQUE " } else { " OF " };
-            say_aggregate(said, "LIST", *bounds, of)?;
-            say_type(said, subject, item)
-        }
-        TypeExpr::Set { bounds, item, .. } => {
-            say_aggregate(said, "SET", *bounds, " OF ")?;
-            say_type(said, subject, item)
-        }
-        TypeExpr::Bag { bounds, item, .. } => {
-            say_aggregate(said, "BAG", *bounds, " OF ")?;
-            say_type(said, subject, item)
-        }
-        TypeExpr::Named(name) => said.say(subject.name(name)),
-    }
+    let (word, bounds, item) = match texpr {
+        TypeExpr::Integer => return said.say("INTEGER"),
+        TypeExpr::Number => return said.say("NUMBER"),
+        TypeExpr::Boolean => return said.say("BOOLEAN"),
+        TypeExpr::Logical => return said.say("LOGICAL"),
+        TypeExpr::Real => return said.say("REAL"),
+        TypeExpr::Text(width) => return say_width(said, "STRING", *width),
+        TypeExpr::Binary(width) => return say_width(said, "BINARY", *width),
+        TypeExpr::Array { bounds, item, .. } => ("ARRAY", bounds, item),
+        TypeExpr::List { bounds, item, .. } => ("LIST", bounds, item),
+        TypeExpr::Set { bounds, item, .. } => ("SET", bounds, item),
+        TypeExpr::Bag { bounds, item, .. } => ("BAG", bounds, item),
+        TypeExpr::Named(name) => return said.say(subject.name(name)),
+    };
+    let of = match texpr {
+        TypeExpr::Array { optional: true, .. } => " OF OPTIONAL ",
+        TypeExpr::List { unique: true, .. } => " OF UNIQUE ",
+        _ => " OF ",
+    };
+    say_aggregate(said, word, *bounds, of)?;
+    say_type(said, subject, item)
 }
 
 /// Adds a STRING or a BINARY of a width.
@@ -107,12 +95,13 @@ fn say_under<'a>(
 ) -> Result<Option<&'a [u8]>, AllocError> {
     match under {
         Under::Items(items) => {
-            said.say((", which is an ENUMERATION OF (", Names(items), ")"))?;
+            said.say(", which is an ENUMERATION OF ")?;
+            say_names(said, None, items)?;
             Ok(None)
         }
         Under::Select(items) => {
             said.say(", which is a SELECT ")?;
-            say_selected(said, subject, items)?;
+            say_names(said, Some(subject), items)?;
             Ok(None)
         }
         Under::Plain(texpr) => {
@@ -123,17 +112,18 @@ fn say_under<'a>(
     }
 }
 
-/// Adds the items of a SELECT.
-fn say_selected(
+/// Adds names in parentheses, of very many the first alone: as the schema of the subject spells them, or as they are.
+fn say_names(
     said: &mut Said,
-    subject: Subject<'_>,
-    items: &[Vec<u8>],
+    subject: Option<Subject<'_>>,
+    names: &[Vec<u8>],
 ) -> Result<(), AllocError> {
-    for (position, item) in items.iter().take(MOST_NAMES).enumerate() {
+    for (position, name) in names.iter().take(MOST_NAMES).enumerate() {
         let before = if position == 0 { "(" } else { ", " };
-        said.say((before, subject.name(item)))?;
+        let spelled = subject.map_or(name.as_slice(), |it| it.name(name));
+        said.say((before, spelled))?;
     }
-    said.say(if items.len() > MOST_NAMES {
+    said.say(if names.len() > MOST_NAMES {
         ", ...)"
     } else {
         ")"
@@ -173,21 +163,7 @@ pub(crate) enum Base {
     Other,
 }
 
-pub(crate) fn base_of(declared: &Declarations, texpr: &TypeExpr) -> Base {
-    let mut texpr = texpr;
-    for _ in 0..declared.types.len() {
-        let TypeExpr::Named(name) = texpr else {
-            break;
-        };
-        match type_named(declared, name) {
-            Some(defined) => match &defined.under {
-                Under::Select(_) => return Base::Select,
-                Under::Items(_) => return Base::Items,
-                Under::Plain(under) => texpr = under,
-            },
-            None => break,
-        }
-    }
+pub(crate) fn base_of(schema: &Schema, texpr: &TypeExpr) -> Base {
     match texpr {
         TypeExpr::Integer => Base::Integer,
         TypeExpr::Real => Base::Real,
@@ -196,7 +172,29 @@ pub(crate) fn base_of(declared: &Declarations, texpr: &TypeExpr) -> Base {
         | TypeExpr::List { .. }
         | TypeExpr::Set { .. }
         | TypeExpr::Bag { .. } => Base::Aggregate,
+        TypeExpr::Named(name) => match schema.type_named(name) {
+            Some(defined) => base_under(schema.under(defined)),
+            None => Base::Other,
+        },
         _ => Base::Other,
+    }
+}
+
+/// The same of what stands under a type.
+pub(crate) fn base_under(under: &Resolved) -> Base {
+    match under {
+        Resolved::Items(_) => Base::Items,
+        Resolved::Select(_) => Base::Select,
+        Resolved::Plain(ResolvedExpr::Integer) => Base::Integer,
+        Resolved::Plain(ResolvedExpr::Real) => Base::Real,
+        Resolved::Plain(ResolvedExpr::Text(_)) => Base::Text,
+        Resolved::Plain(
+            ResolvedExpr::Array { .. }
+            | ResolvedExpr::List { .. }
+            | ResolvedExpr::Set { .. }
+            | ResolvedExpr::Bag { .. },
+        ) => Base::Aggregate,
+        Resolved::Plain(_) => Base::Other,
     }
 }
 

@@ -15,9 +15,9 @@ pub(crate) fn say_value(said: &mut Said, text: &[u8], at: usize) -> Result<(), A
     match token {
         Token::Int(digits) => said.say(("the integer ", Front(digits))),
         Token::Real(digits) => said.say(("the real `", Front(digits), "`")),
-        Token::Enumeration(name) => said.say(("the enumeration `.", Front(name), ".`")),
+        Token::Enumeration(name) => said.say(("the enumeration value `.", Front(name), ".`")),
         Token::Name(name) => said.say(("the instance name #", name)),
-        Token::Dollar => said.say("`$`, which is no value"),
+        Token::Dollar => said.say("`$` (no value)"),
         Token::Star => said.say("`*`"),
         Token::Str(body) => {
             let characters = string_len(body);

@@ -12,9 +12,8 @@ pub(crate) struct Walk<'a> {
     at: usize,
     /// How many parentheses are open.
     open: usize,
-    /// The last token that was passed, and the one before it; `End` where there is none.
+    /// The last token that was passed; `End` where there is none.
     last: Token<'a>,
-    before: Token<'a>,
     ghost within: { at ≤ length text.now },
 }
 
@@ -28,7 +27,6 @@ impl<'a> Walk<'a> {
             at,
             open: 0,
             last: Token::End,
-            before: Token::End,
         }
     }
 
@@ -41,7 +39,6 @@ impl<'a> Walk<'a> {
             _ => {}
         }
         self.at = lexed.after;
-        self.before = self.last;
         self.last = lexed.token;
         lexed
     }
@@ -54,10 +51,5 @@ impl<'a> Walk<'a> {
     /// The last token that was passed; `End` before the first.
     pub(crate) fn last(&self) -> Token<'a> {
         self.last
-    }
-
-    /// The token before that.
-    pub(crate) fn before(&self) -> Token<'a> {
-        self.before
     }
 }
