@@ -166,7 +166,7 @@ fn capacity<'a>(alloc: Global) -> Arg<'a> {
     number(alloc, "capacity")
         .default_value("256")
         .value_parser(value_parser!(u32).range(1..=4096))
-        .help("most instances that wait for a worker thread, 1 to 4096")
+        .help("maximum number of instances that wait for a worker thread, 1 to 4096")
 }
 
 fn all<'a>(alloc: Global) -> Arg<'a> {
@@ -184,7 +184,7 @@ fn explain<'a>(alloc: Global) -> Arg<'a> {
         .default_missing_value("20")
         .value_parser(value_parser!(u32).range(0..=4294967295))
         .help(
-            "explain the first N faults, or 20, on standard error; the default on a terminal, 0 for none",
+            "explain the first N faults, or 20, on standard error; on a terminal this is the default, and 0 turns it off",
         )
 }
 
@@ -194,7 +194,7 @@ fn format<'a>(alloc: Global) -> Arg<'a> {
         .value_name("FORMAT")
         .default_value("text")
         .value_parser(["text", "json"].as_slice())
-        .help("format of the explanations; json is one object per line and fault")
+        .help("format of the explanations; json writes one object per fault, each on its own line")
 }
 
 fn progress<'a>(alloc: Global) -> Arg<'a> {
