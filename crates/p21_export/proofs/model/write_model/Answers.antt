@@ -14,7 +14,7 @@ use Rattle.p21_export.proofs.model.write_model.Goals as goal
 pub write_others-requires : goal.write_others-requires
 write_others-requires g c =
     let is = map plain_instance c.args.instances.now in
-    subst (λ (t : Schema). AllByRecursion (λ i. AreKnown t i.records) is) (sym c.in_ok-terms.ensures) (known_read c.args.schema.now c.args.file.now is c.requires.read)
+    (c.type_bounds.sync-R, subst (λ (t : Schema). AllByRecursion (λ i. AreKnown t i.records) is) (sym c.in_ok-terms.ensures) (known_read c.args.schema.now c.args.file.now is c.requires.read))
 
 pub returns : goal.returns
 returns g c =
