@@ -1,6 +1,6 @@
--- Instances of the same entities with the same tokens.
+-- Instances with the same tokens.
 use Rattle.std.proofs.Common.{◌≡◌, ◌≢◌, ◌⊎◌, ◌↔◌, ℕ, zero, suc, Bool, true, false, List, [], ◌∷◌, ◌++◌, Some, None, map, length, refl, sym, ap, subst, ◌∙◌, inl, inr, ⊎_elim, arith}
-use Rattle.std.specs.Prelude.{slice_get, codes, ◌==◌}
+use Rattle.std.specs.Prelude.{slice_get, slice_index, codes, ◌==◌}
 use Rattle.std.specs.List.{AllByRecursion}
 use Rattle.std.proofs.lemmas.Bool.{eqb-true, eqb-false}
 use Rattle.std.proofs.lemmas.Fmt.{decimal_injective}
@@ -26,6 +26,8 @@ use Rattle.p21_json.specs.Same.{AreSame, AreSameRecords, IsSameInstance}
 use Rattle.p21_json.specs.Same as same
 use Rattle.p21_json.specs.Spellings.{HaveSpellings, HasItsRecords, RecordHasSpellings}
 use Rattle.p21_json.specs.Where.{IsOf, IsLogicalAt, IsLogicalAttribute, attribute}
+use Rattle.p21_json.specs.Spelled.{IsSpelled}
+use Rattle.p21_json.proofs.NameLemmas.{same_keyword}
 use Rattle.p21_json.proofs.InstanceLemmas.{member_value}
 use Rattle.p21_json.proofs.SameLemmas.{Both, OfOneType, pairs, seam, turn, same_value, same_number_token}
 use Rattle.p21_json.proofs.SlotLemmas.{IsPair, stars, values, pair_of}
@@ -261,11 +263,67 @@ module _ (s : Schema) (wf : IsWellFormed s) (i j : Instance) (faultless : IsLoca
       let one : x.keyword ≡ f.keyword = cc in
       let rest : map (λ (e : Entry). e.keyword) es ≡ map (λ (e : Entry). e.keyword) fs = cc in ((one, p zero x f refl refl one), paired alike es fs rest (λ r. p (suc r)))
 
--- instances of the same entities with the same tokens are the same but for spelling
+-- ---- the entities of instances with the same tokens
+
+-- the first letter of a key
+first_letter : Token → ℕ
+first_letter (json.key k) = slice_index k 0
+first_letter other = 0
+
+same_string : {v w : List ℕ} → json.string v ≡ json.string w → v ≡ w
+same_string e = cc
+
+other_key : (u : Token) → u ≡ json.key (codes "records") → u ≡ json.key (codes "type") → ⊥
+unfolding first_letter
+other_key u h k = let e : first_letter (json.key (codes "records")) ≡ first_letter (json.key (codes "type")) = ap first_letter (sym h ∙ k) in absurd (omega arith)
+
+-- a simple instance begins with its type, and a complex one with its records
+begins_type : (s : Schema) (i : Instance) (es : List Entry) (ps r : List Part) (u : Token) (tokens : List Token) → IsBehindName s i false es ps → AreTokensOf s (ps ++ r) (u ∷ tokens) → u ≡ json.key (codes "type")
+begins_type s i [] ps r u tokens x h = absurd x
+begins_type s i (e ∷ es) ps r u tokens x h = (subst (λ (l : List Part). AreTokensOf s (l ++ r) (u ∷ tokens)) x.2 h).0
+
+begins_records : (s : Schema) (i : Instance) (es : List Entry) (ps r : List Part) (u : Token) (tokens : List Token) → IsBehindName s i true es ps → AreTokensOf s (ps ++ r) (u ∷ tokens) → u ≡ json.key (codes "records")
+begins_records s i es ps r u tokens x h = (subst (λ (l : List Part). AreTokensOf s (l ++ r) (u ∷ tokens)) x.2 h).0
+
+no_tokens : (s : Schema) (i : Instance) (b : Bool) (es : List Entry) (ps r : List Part) → IsBehindName s i b es ps → AreTokensOf s (ps ++ r) [] → ⊥
+no_tokens s i true es ps r x h = subst (λ (l : List Part). AreTokensOf s (l ++ r) []) x.2 h
+no_tokens s i false [] ps r x h = x
+no_tokens s i false (e ∷ es) ps r x h = subst (λ (l : List Part). AreTokensOf s (l ++ r) []) x.2 h
+
+-- both are simple or both complex
+both_complex : (s : Schema) (i j : Instance) (b c : Bool) (es fs : List Entry) (ps qs r q : List Part) (tokens : List Token) → IsBehindName s i b es ps → IsBehindName s j c fs qs → AreTokensOf s (ps ++ r) tokens → AreTokensOf s (qs ++ q) tokens → b ≡ c
+both_complex s i j b c es fs ps qs r q [] x y h k = absurd (no_tokens s i b es ps r x h)
+both_complex s i j true true es fs ps qs r q (u ∷ tokens) x y h k = refl
+both_complex s i j false false es fs ps qs r q (u ∷ tokens) x y h k = refl
+both_complex s i j true false es fs ps qs r q (u ∷ tokens) x y h k = absurd (other_key u (begins_records s i es ps r u tokens x h) (begins_type s j fs qs q u tokens y k))
+both_complex s i j false true es fs ps qs r q (u ∷ tokens) x y h k = absurd (other_key u (begins_records s j fs qs q u tokens y k) (begins_type s i es ps r u tokens x h))
+
+abbrev keywords_in : List Entry → List (List ℕ)
+keywords_in es = map (λ (e : Entry). e.keyword) es
+
+-- simple ones are of one entity
+one_entity : (s : Schema) (i j : Instance) (es fs : List Entry) → HasItsRecords false es → HasItsRecords false fs → AllByRecursion RecordHasSpellings es → AllByRecursion RecordHasSpellings fs → (ps qs r q : List Part) (tokens : List Token) → IsBehindName s i false es ps → IsBehindName s j false fs qs → AreTokensOf s (ps ++ r) tokens → AreTokensOf s (qs ++ q) tokens → keywords_in es ≡ keywords_in fs
+one_entity s i j [] fs m n c d ps qs r q tokens x y h k = absurd m
+one_entity s i j (e ∷ g ∷ es) fs m n c d ps qs r q tokens x y h k = absurd m
+one_entity s i j (e ∷ []) [] m n c d ps qs r q tokens x y h k = absurd n
+one_entity s i j (e ∷ []) (f ∷ g ∷ fs) m n c d ps qs r q tokens x y h k = absurd n
+one_entity s i j (e ∷ []) (f ∷ []) m n c d ps qs r q tokens x y h k =
+    let front = label (codes "type") ∷ name e.keyword ∷ [] in
+    let other = label (codes "type") ∷ name f.keyword ∷ [] in
+    let rest = label (codes "attributes") ∷ exactly json.begin_object ∷ (members_parts i x.0 e.params ++ exactly json.end_object ∷ []) in
+    let behind = label (codes "attributes") ∷ exactly json.begin_object ∷ (members_parts j y.0 f.params ++ exactly json.end_object ∷ []) in
+    let both = pairs s front other (rest ++ r) (behind ++ q) tokens refl (subst (λ (l : List Part). AreTokensOf s (l ++ r) tokens) x.2 h) (subst (λ (l : List Part). AreTokensOf s (l ++ q) tokens) y.2 k) in
+    let (spelled, of_first, is_first) = both.0.1.0.1 in
+    let (again, of_second, is_second) = both.0.1.0.2 in
+    let text : spelled ≡ again = same_string (sym is_first ∙ is_second) in
+    let one = same_keyword again e.keyword f.keyword c.0.0 d.0.0 (subst (λ (b : List ℕ). IsSpelled b e.keyword) text of_first) of_second in
+    ap (λ (n : List ℕ). n ∷ []) one
+
+-- ---- instances
+
+-- instances with the same tokens are the same but for spelling
 pub same_instance : (s : Schema) → IsWellFormed s → LosesNothing s
-same_instance s wf i j tokens a b cs ks x y =
-    let alike : (o : Origin) → IsLogicalAt s (attribute i o) ↔ IsLogicalAt s (attribute j o) = λ o. (logical_as s i j o ks, logical_as s j i o (sym ks)) in
-    let p = paired s wf i j a.faultless b.faultless cs ks alike i.records j.records ks (record_pair s wf i j a.faultless b.faultless cs ks) in
+same_instance s wf i j tokens a b of_one x y =
     let close = exactly json.end_object in
     let front = exactly json.begin_object ∷ label (codes "id") ∷ decimal_part i.name ∷ [] in
     let again = exactly json.begin_object ∷ label (codes "id") ∷ decimal_part j.name ∷ [] in
@@ -274,7 +332,18 @@ same_instance s wf i j tokens a b cs ks x y =
     let opened = pairs s front again (x.are_parts.0 ++ close ∷ []) (y.are_parts.0 ++ close ∷ []) tokens refl h k in
     let number = opened.0.1.1.0 in
     let one = decimal_injective i.name j.name a.spelled.name b.spelled.name (same_number_token (sym number.1 ∙ number.2)) in
+    let cs : i.complex ≡ j.complex = both_complex s i j i.complex j.complex i.records j.records x.are_parts.0 y.are_parts.0 (close ∷ []) (close ∷ []) opened.1.0 x.are_parts.1 y.are_parts.1 opened.1.1 opened.1.2 in
     let its = subst (λ (c : Bool). HasItsRecords c j.records) (sym cs) b.spelled.one in
     let behind = subst (λ (c : Bool). IsBehindName s j c j.records y.are_parts.0) (sym cs) y.are_parts.1 in
+    let entities : (c : Bool) → i.complex ≡ c → keywords i ≡ keywords j = λ c.
+    elim c as (λ c. i.complex ≡ c → keywords i ≡ keywords j) [
+      | true ↦ of_one
+      | false ↦ λ e.
+          one_entity s i j i.records j.records (subst (λ (c : Bool). HasItsRecords c i.records) e a.spelled.one) (subst (λ (c : Bool). HasItsRecords c j.records) e its) a.spelled.records b.spelled.records x.are_parts.0 y.are_parts.0 (close ∷ []) (close ∷ []) opened.1.0
+          (subst (λ (c : Bool). IsBehindName s i c i.records x.are_parts.0) e x.are_parts.1) (subst (λ (c : Bool). IsBehindName s j c j.records y.are_parts.0) e behind) opened.1.1 opened.1.2
+    ] in
+    let ks = entities i.complex refl in
+    let alike : (o : Origin) → IsLogicalAt s (attribute i o) ↔ IsLogicalAt s (attribute j o) = λ o. (logical_as s i j o ks, logical_as s j i o (sym ks)) in
+    let p = paired s wf i j a.faultless b.faultless cs ks alike i.records j.records ks (record_pair s wf i j a.faultless b.faultless cs ks) in
     let made = same_behind s wf i j alike cs i.complex i.records j.records a.spelled.one its p a.spelled.records b.spelled.records x.are_parts.0 y.are_parts.0 x.are_parts.1 behind (close ∷ []) (close ∷ []) opened.1.0 opened.1.1 opened.1.2 in
     record { name = one; complex = cs; records = made.0 }

@@ -1,5 +1,5 @@
 -- What holds of the JSON of every model: its numbers are numbers of JSON, and nothing is lost but how values are spelled.
-use Rattle.std.specs.Prelude.{◌≡◌, ◌⊎◌, ℕ, List, None}
+use Rattle.std.specs.Prelude.{◌≡◌, ◌⊎◌, ℕ, true, List, None}
 use Rattle.json.specs.Token.{Token}
 use Rattle.json.specs.Print.{IsNumber}
 use Rattle.p21_text.specs.Spelling.{IsInt, IsReal}
@@ -47,6 +47,6 @@ pub record IsWrittenAs (s : Schema) (i : Instance) (tokens : List Token) : Type 
   pub are_parts : IsInstanceParts s i parts
   pub are_tokens : AreTokensOf s parts tokens
 
--- Two instances of the same entities with the same tokens are the same but for spelling.
+-- Two instances with the same tokens are the same but for spelling. Complex ones are asked to be of the same entities.
 abbrev pub LosesNothing : Schema → Type 0
-LosesNothing s = (i j : Instance) → (tokens : List Token) → IsSound s i → IsSound s j → i.complex ≡ j.complex → keywords i ≡ keywords j → IsWrittenAs s i tokens → IsWrittenAs s j tokens → IsSameInstance i j
+LosesNothing s = (i j : Instance) → (tokens : List Token) → IsSound s i → IsSound s j → (i.complex ≡ true → keywords i ≡ keywords j) → IsWrittenAs s i tokens → IsWrittenAs s j tokens → IsSameInstance i j

@@ -16,8 +16,8 @@ pub fn no_value_is_lost()
     ensures { (s : Schema) → IsWellFormed s → LosesNoValue s }
 {}
 
-/// Nothing of an instance is lost but how it is spelled: two of the same entities, without a fault by themselves, with the same tokens are
-/// the same but for that, and where they stand.
+/// Nothing of an instance is lost but how it is spelled: two with the same tokens, without a fault by themselves, are the same but for that,
+/// and where they stand. Complex ones are asked to be of the same entities.
 pub fn nothing_is_lost()
     ensures { (s : Schema) → IsWellFormed s → LosesNothing s }
 {}
