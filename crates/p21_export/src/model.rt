@@ -1,6 +1,6 @@
 //! Writing a model.
 
-ghost use Rattle.std.specs.Prelude.{◌≡◌, ◌+◌, ◌<◌, ◌≤◌, ℕ, List, Ok, IfOk, OnOk, drop, length, map, take};
+ghost use Rattle.std.specs.Prelude.{◌≡◌, ◌+◌, ◌<◌, ◌≤◌, ℕ, List, Ok, Err, IfOk, OnOk, drop, false, length, map, take, true};
 ghost use Rattle.std.specs.Fork.{slice_chunk};
 ghost use Rattle.std.specs.Io.KnownBytes.{Appends};
 ghost use Rattle.std.specs.List.{AllByRecursion};
@@ -8,6 +8,7 @@ ghost use Rattle.p21_tree.specs.Texts.{BeginsPreface};
 ghost use Rattle.p21_tree.specs.Views.{plain_instance, plain_preface};
 ghost use Rattle.p21_reader.specs.Reading.{IsReading};
 ghost use Rattle.p21_spelling.specs.Spelled.{AreSpelled};
+ghost use Rattle.p21_run.specs.declared.input.InputError.TheVariants.{Device};
 ghost use Rattle.p21_json.specs.Header.{IsHeaderParts};
 ghost use Rattle.p21_json.specs.Instances.{AreKnown};
 ghost use Rattle.p21_json.specs.Lines.{AreLines, IsLineOf};
@@ -39,7 +40,9 @@ pub(crate) fn write_model<R: Threads + Sync, K: Sink>(
 ) -> Result<(), InputError>
     requires spelled { AreSpelled schema.now spelled.now }
     requires read { IsReading schema.now file.now (Ok (map plain_instance instances.now)) }
-    ensures { OnOk result ((text : List ℕ) × (IsExport schema.now file.now text × Appends (K.taken out.old) (K.taken out.new) text)) }
+    ensures written { OnOk result ((text : List ℕ) × (IsExport schema.now file.now text × Appends (K.taken out.old) (K.taken out.new) text)) }
+    ensures unfailed { OnOk result (K.failed out.new ≡ K.failed out.old) }
+    ensures failed { K.failed out.old ≡ false → K.failed out.new ≡ true → result ≡ Err Device }
 {
     let terms = Terms::new(alloc, schema, spelled)?;
     let preface = preface_of(alloc, file)?;
@@ -66,7 +69,9 @@ fn write_first<K: Sink>(
     out: &mut K,
 ) -> Result<(), InputError>
     requires { 3 ≤ length preface.now.entities.items }
-    ensures { OnOk result ((first : List ℕ) × (IsLineOf terms.now (IsHeaderParts (plain_preface preface.now)) first × Appends (K.taken out.old) (K.taken out.new) first)) }
+    ensures written { OnOk result ((first : List ℕ) × (IsLineOf terms.now (IsHeaderParts (plain_preface preface.now)) first × Appends (K.taken out.old) (K.taken out.new) first)) }
+    ensures unfailed { OnOk result (K.failed out.new ≡ K.failed out.old) }
+    ensures failed { K.failed out.old ≡ false → K.failed out.new ≡ true → result ≡ Err Device }
 {
     let text = write_header(alloc, terms, preface)?;
     write(out, text.as_slice())
@@ -82,7 +87,9 @@ fn write_others<R: Threads + Sync, K: Sink>(
     out: &mut K,
 ) -> Result<(), InputError>
     requires { AllByRecursion (λ i. AreKnown terms.now i.records) (map plain_instance instances.now) }
-    ensures { OnOk result ((others : List ℕ) × (AreLines terms.now (map plain_instance instances.now) others × Appends (K.taken out.old) (K.taken out.new) others)) }
+    ensures written { OnOk result ((others : List ℕ) × (AreLines terms.now (map plain_instance instances.now) others × Appends (K.taken out.old) (K.taken out.new) others)) }
+    ensures unfailed { OnOk result (K.failed out.new ≡ K.failed out.old) }
+    ensures failed { K.failed out.old ≡ false → K.failed out.new ≡ true → result ≡ Err Device }
 {
     let mut start = 0;
     while start < instances.len() {
@@ -121,7 +128,9 @@ fn write_round<R: Threads + Sync, K: Sink>(
     out: &mut K,
 ) -> Result<(), InputError>
     requires { AllByRecursion (λ i. AreKnown terms.now i.records) (map plain_instance instances.now) }
-    ensures { OnOk result ((lines : List ℕ) × (AreLines terms.now (map plain_instance instances.now) lines × Appends (K.taken out.old) (K.taken out.new) lines)) }
+    ensures written { OnOk result ((lines : List ℕ) × (AreLines terms.now (map plain_instance instances.now) lines × Appends (K.taken out.old) (K.taken out.new) lines)) }
+    ensures unfailed { OnOk result (K.failed out.new ≡ K.failed out.old) }
+    ensures failed { K.failed out.old ≡ false → K.failed out.new ≡ true → result ≡ Err Device }
 {
     let size = instances.len().div_ceil(lanes.get() as usize).max(1);
     let part = move |number: usize| -> Result<Vec<u8>, AllocError>
@@ -157,7 +166,9 @@ fn lines_of_part(
 
 /// Writes a text.
 pub(crate) fn write<K: Sink>(out: &mut K, text: &[u8]) -> Result<(), InputError>
-    ensures { OnOk result (Appends (K.taken out.old) (K.taken out.new) text.now) }
+    ensures written { OnOk result (Appends (K.taken out.old) (K.taken out.new) text.now) }
+    ensures unfailed { OnOk result (K.failed out.new ≡ K.failed out.old) }
+    ensures failed { K.failed out.old ≡ false → K.failed out.new ≡ true → result ≡ Err Device }
 {
     match write_bounded(out, text, WRITE_CALLS) {
         Ok(()) => Ok(()),

@@ -66,6 +66,7 @@ pub fn export<
     ensures exported { (schema_text file : List ℕ) → S.remaining schema_in.old ≡ Some schema_text → F.remaining file_in.old ≡ Some file → result ≡ Complete → OfDeclared how.now.rules schema_text (λ s. Exports s file (K.taken out.old) (K.taken out.new)) }
     ensures told { (schema_text file : List ℕ) → S.remaining schema_in.old ≡ Some schema_text → F.remaining file_in.old ≡ Some file → result ≡ Faulty → OfDeclared how.now.rules schema_text (λ s. TellsFault s file (T.taken told.old) (T.taken told.new)) }
     ensures kept { result ≡ Faulty ⊎ result ≡ SchemaRefused → out.new ≡ out.old }
+    ensures writer_failed { K.failed out.old ≡ false → K.failed out.new ≡ true → result ≡ Failed }
     ensures unread { (schema_text : List ℕ) → S.remaining schema_in.old ≡ Some schema_text → HasNoReading schema_text → file_in.new ≡ file_in.old }
     ensures schema_failed { S.failed schema_in.old ≡ false → S.failed schema_in.new ≡ true → (result ≡ Failed) × (file_in.new ≡ file_in.old) × (out.new ≡ out.old) }
     ensures file_failed { F.failed file_in.old ≡ false → F.failed file_in.new ≡ true → (result ≡ Failed) × (out.new ≡ out.old) }
@@ -98,6 +99,7 @@ fn exported<
     ensures exported { (schema_text file : List ℕ) → S.remaining schema_in.old ≡ Some schema_text → F.remaining file_in.old ≡ Some file → result ≡ Ok Complete → OfDeclared how.now.rules schema_text (λ s. Exports s file (K.taken out.old) (K.taken out.new)) }
     ensures told { (schema_text file : List ℕ) → S.remaining schema_in.old ≡ Some schema_text → F.remaining file_in.old ≡ Some file → result ≡ Ok Faulty → OfDeclared how.now.rules schema_text (λ s. TellsFault s file (T.taken told.old) (T.taken told.new)) }
     ensures kept { result ≡ Ok Faulty ⊎ result ≡ Ok SchemaRefused → out.new ≡ out.old }
+    ensures writer_failed { K.failed out.old ≡ false → K.failed out.new ≡ true → result ≡ Err Device }
     ensures unread { (schema_text : List ℕ) → S.remaining schema_in.old ≡ Some schema_text → HasNoReading schema_text → file_in.new ≡ file_in.old }
     ensures schema_failed { S.failed schema_in.old ≡ false → S.failed schema_in.new ≡ true → (result ≡ Err Device) × (file_in.new ≡ file_in.old) × (out.new ≡ out.old) }
     ensures file_failed { F.failed file_in.old ≡ false → F.failed file_in.new ≡ true → (result ≡ Err Device) × (out.new ≡ out.old) }
@@ -158,6 +160,7 @@ fn export_against<
     ensures exported { (file : List ℕ) → F.remaining file_in.old ≡ Some file → result ≡ Ok Complete → Exports (with_rules (plain_schema declarations) how.now.rules) file (K.taken out.old) (K.taken out.new) }
     ensures told { (file : List ℕ) → F.remaining file_in.old ≡ Some file → result ≡ Ok Faulty → TellsFault (with_rules (plain_schema declarations) how.now.rules) file (T.taken told.old) (T.taken told.new) }
     ensures kept { result ≡ Ok Faulty ⊎ result ≡ Ok SchemaRefused → out.new ≡ out.old }
+    ensures writer_failed { K.failed out.old ≡ false → K.failed out.new ≡ true → result ≡ Err Device }
     ensures file_failed { F.failed file_in.old ≡ false → F.failed file_in.new ≡ true → (result ≡ Err Device) × (out.new ≡ out.old) }
 {
     let spelled = spell_names(alloc, text, &declarations)?;
@@ -194,6 +197,7 @@ fn export_file<R: Threads + Wait + Sync, G: Gate + Sync, K: Sink, T: Sink, L: Li
     ensures exported { result ≡ Ok Complete → Exports schema.now file.now (K.taken out.old) (K.taken out.new) }
     ensures told { result ≡ Ok Faulty → TellsFault schema.now file.now (T.taken told.old) (T.taken told.new) }
     ensures kept { result ≡ Ok Faulty ⊎ result ≡ Ok SchemaRefused → out.new ≡ out.old }
+    ensures writer_failed { K.failed out.old ≡ false → K.failed out.new ≡ true → result ≡ Err Device }
 {
     match read_lanes(rt, alloc, schema, how.gate, file, how.lanes, how.capacity) {
         Ok(reading) => {
@@ -226,6 +230,7 @@ fn export_reading<R: Threads + Sync, G, K: Sink, T: Sink, L: Listener>(
     ensures exported { result ≡ Ok Complete → Exports schema.now file.now (K.taken out.old) (K.taken out.new) }
     ensures told { result ≡ Ok Faulty → TellsFault schema.now file.now (T.taken told.old) (T.taken told.new) }
     ensures kept { result ≡ Ok Faulty ⊎ result ≡ Ok SchemaRefused → out.new ≡ out.old }
+    ensures writer_failed { K.failed out.old ≡ false → K.failed out.new ≡ true → result ≡ Err Device }
 {
     match &reading.answer {
         Ok(model) => {
