@@ -1,1 +1,2 @@
 pub mod ModelLemmas
+pub mod SpellingLemmas

@@ -1,6 +1,7 @@
 -- The instances of a file that was read name entities, and lines that are written part by part.
-use Rattle.std.proofs.Common.{◌≡◌, ◌⊎◌, ℕ, Bool, true, false, List, [], ◌∷◌, ◌++◌, Ok, Option, None, inl, inr, ◌+◌, ◌≤◌, length, take, drop, map, refl, sym, ap, subst, ◌∙◌, ⊎_elim}
+use Rattle.std.proofs.Common.{◌≡◌, ◌⊎◌, ℕ, Bool, true, false, List, [], ◌∷◌, ◌++◌, Ok, Option, None, inl, inr, ◌+◌, ◌≤◌, length, take, drop, map, refl, sym, ap, subst, ◌∙◌, ⊎_elim, ◌*◌, arith}
 use Rattle.std.specs.List.{AllByRecursion}
+use Rattle.std.specs.Fork.{slice_chunk}
 use Rattle.std.specs.Str.{bytes_eq}
 use Rattle.std.proofs.lemmas.Bool.{false≢true}
 use Rattle.std.specs.Io.KnownBytes.{Appends}
@@ -111,3 +112,21 @@ pub written_all : (s : Schema) (a b : Option (List ℕ)) (is : List RawInstance)
 written_all s a b is start w h =
     let same : map plain_instance is ≡ w.done = w.parts ∙ ap (λ (l : List RawInstance). w.done ++ map plain_instance l) (drop_all start is h) ∙ append-nil w.done in
     (w.text, (subst (λ l. AreLines s l w.text) (sym same) w.are, w.taken))
+
+-- the instances of a part name entities
+pub known_chunk : (s : Schema) (is : List RawInstance) (size n : ℕ) → AllByRecursion (λ i. AreKnown s i.records) (map plain_instance is) → AllByRecursion (λ i. AreKnown s i.records) (map plain_instance (slice_chunk is size n))
+known_chunk s is size n h =
+    known_front s (drop (n * size) is) size (all_back (λ i. AreKnown s i.records) (map plain_instance (take (n * size) is)) (map plain_instance (drop (n * size) is)) (subst (AllByRecursion (λ i. AreKnown s i.records)) (split is (n * size)) h))
+
+-- of some instances the first parts were written
+pub chunks_none : (s : Schema) (start : Option (List ℕ)) (is : List RawInstance) (size : ℕ) → AllByRecursion (λ i. AreKnown s i.records) (map plain_instance is) → WrittenUpTo s start start (map plain_instance is) (map plain_instance (drop (0 * size) is))
+chunks_none s start is size h =
+    let none : 0 ≡ 0 * size = omega arith in
+    subst (λ (n : ℕ). WrittenUpTo s start start (map plain_instance is) (map plain_instance (drop n is))) none (written_none s start (map plain_instance is) h)
+
+-- and one part further
+pub chunks_more : (s : Schema) (a b c : Option (List ℕ)) (is : List RawInstance) (size i : ℕ) (text : List ℕ) → WrittenUpTo s a b (map plain_instance is) (map plain_instance (drop (i * size) is)) → AreLines s (map plain_instance (slice_chunk is size i)) text → Appends b c text
+    → WrittenUpTo s a c (map plain_instance is) (map plain_instance (drop ((i + 1) * size) is))
+chunks_more s a b c is size i text w ls t =
+    let next : i * size + size ≡ (i + 1) * size = omega arith in
+    subst (λ (l : List RawInstance). WrittenUpTo s a c (map plain_instance is) (map plain_instance l)) (drop-drop size (i * size) is ∙ ap (λ (n : ℕ). drop n is) next) (written_more s a b c (map plain_instance is) (drop (i * size) is) size text w ls t)

@@ -1,45 +1,53 @@
 //! Writing a model.
 
-ghost use Rattle.std.specs.Prelude.{◌≡◌, ◌+◌, ◌<◌, ◌≤◌, ℕ, List, Ok, IfOk, OnOk, drop, length, map, take};
+ghost use Rattle.std.specs.Prelude.{◌≡◌, ◌+◌, ◌<◌, ◌≤◌, ℕ, List, Ok, Err, IfOk, OnOk, drop, false, length, map, take, true};
+ghost use Rattle.std.specs.Fork.{slice_chunk};
 ghost use Rattle.std.specs.Io.KnownBytes.{Appends};
 ghost use Rattle.std.specs.List.{AllByRecursion};
 ghost use Rattle.p21_tree.specs.Texts.{BeginsPreface};
 ghost use Rattle.p21_tree.specs.Views.{plain_instance, plain_preface};
 ghost use Rattle.p21_reader.specs.Reading.{IsReading};
 ghost use Rattle.p21_spelling.specs.Spelled.{AreSpelled};
+ghost use Rattle.p21_run.specs.declared.input.InputError.TheVariants.{Device};
 ghost use Rattle.p21_json.specs.Header.{IsHeaderParts};
 ghost use Rattle.p21_json.specs.Instances.{AreKnown};
 ghost use Rattle.p21_json.specs.Lines.{AreLines, IsLineOf};
 ghost use Rattle.p21_export.specs.Export.{IsExport};
 
+use p21_desk::LaneCount;
 use p21_json::{Terms, write_header, write_lines};
 use p21_run::{InputError, OutputError, Sink, WRITE_CALLS, write_bounded};
 use p21_schema::Schema;
 use p21_spelling::Spellings;
 use p21_tree::{Preface, RawInstance, TreeError, read_preface};
-use std::alloc::Global;
+use std::alloc::{AllocError, Global};
+use std::thread::{Threads, map_indices};
 
-/// How many instances are rendered before they are written.
-const PART: usize = 4096;
+/// How many bytes of the file the instances have, but for the last of them, that are rendered before they are written.
+const ROUND: u64 = 1 << 20;
 
 /// Writes the model of a file that was read against a schema, whose text spells its names so: the line of its header, and a line for each
-/// instance. Where that fails, a front of these may be written.
-pub(crate) fn write_model<K: Sink>(
+/// instance. As many threads render as there are lanes. Where that fails, a front of these may be written.
+pub(crate) fn write_model<R: Threads + Sync, K: Sink>(
+    rt: &R,
     alloc: Global,
     schema: &Schema,
     spelled: &Spellings,
     file: &[u8],
     instances: &[RawInstance<'_>],
+    lanes: LaneCount,
     out: &mut K,
 ) -> Result<(), InputError>
     requires spelled { AreSpelled schema.now spelled.now }
     requires read { IsReading schema.now file.now (Ok (map plain_instance instances.now)) }
-    ensures { OnOk result ((text : List ℕ) × (IsExport schema.now file.now text × Appends (K.taken out.old) (K.taken out.new) text)) }
+    ensures written { OnOk result ((text : List ℕ) × (IsExport schema.now file.now text × Appends (K.taken out.old) (K.taken out.new) text)) }
+    ensures unfailed { OnOk result (K.failed out.new ≡ K.failed out.old) }
+    ensures failed { K.failed out.old ≡ false → K.failed out.new ≡ true → result ≡ Err Device }
 {
     let terms = Terms::new(alloc, schema, spelled)?;
     let preface = preface_of(alloc, file)?;
     write_first(alloc, &terms, &preface, out)?;
-    write_others(alloc, &terms, instances, out)
+    write_others(rt, alloc, &terms, instances, lanes, out)
 }
 
 /// What stands before the instances of a file that was read.
@@ -61,60 +69,106 @@ fn write_first<K: Sink>(
     out: &mut K,
 ) -> Result<(), InputError>
     requires { 3 ≤ length preface.now.entities.items }
-    ensures { OnOk result ((first : List ℕ) × (IsLineOf terms.now (IsHeaderParts (plain_preface preface.now)) first × Appends (K.taken out.old) (K.taken out.new) first)) }
+    ensures written { OnOk result ((first : List ℕ) × (IsLineOf terms.now (IsHeaderParts (plain_preface preface.now)) first × Appends (K.taken out.old) (K.taken out.new) first)) }
+    ensures unfailed { OnOk result (K.failed out.new ≡ K.failed out.old) }
+    ensures failed { K.failed out.old ≡ false → K.failed out.new ≡ true → result ≡ Err Device }
 {
     let text = write_header(alloc, terms, preface)?;
     write(out, text.as_slice())
 }
 
-/// Writes the lines of instances, a part after the other.
-fn write_others<K: Sink>(
+/// Writes the lines of instances, round after round.
+fn write_others<R: Threads + Sync, K: Sink>(
+    rt: &R,
     alloc: Global,
     terms: &Terms<'_>,
     instances: &[RawInstance<'_>],
+    lanes: LaneCount,
     out: &mut K,
 ) -> Result<(), InputError>
     requires { AllByRecursion (λ i. AreKnown terms.now i.records) (map plain_instance instances.now) }
-    ensures { OnOk result ((others : List ℕ) × (AreLines terms.now (map plain_instance instances.now) others × Appends (K.taken out.old) (K.taken out.new) others)) }
+    ensures written { OnOk result ((others : List ℕ) × (AreLines terms.now (map plain_instance instances.now) others × Appends (K.taken out.old) (K.taken out.new) others)) }
+    ensures unfailed { OnOk result (K.failed out.new ≡ K.failed out.old) }
+    ensures failed { K.failed out.old ≡ false → K.failed out.new ≡ true → result ≡ Err Device }
 {
     let mut start = 0;
     while start < instances.len() {
-        let part = part_at(instances, start);
-        write_part(alloc, terms, part, out)?;
-        start += part.len();
+        let round = round_at(instances, start);
+        write_round(rt, alloc, terms, round, lanes, out)?;
+        start += round.len();
     }
     Ok(())
 }
 
-/// The next part of some instances.
-fn part_at<'i, 'a>(instances: &'i [RawInstance<'a>], start: usize) -> &'i [RawInstance<'a>]
+/// The instances of the next round.
+fn round_at<'i, 'a>(instances: &'i [RawInstance<'a>], start: usize) -> &'i [RawInstance<'a>]
     requires { start < length instances.now }
     ensures some { 0 < length result.now }
     ensures within { start + length result.now ≤ length instances.entry.now }
     ensures part { result.now ≡ take (length result.now) (drop start instances.entry.now) }
 {
     let (_, rest) = instances.split_at(start);
-    let (part, _) = rest.split_at(PART.min(rest.len()));
-    part
+    let end = rest[0].at.saturating_add(ROUND);
+    let count = rest
+        .iter()
+        .take_while(|instance| instance.at < end)
+        .count()
+        .max(1);
+    let (round, _) = rest.split_at(count);
+    round
 }
 
-/// Writes the lines of some of them.
-fn write_part<K: Sink>(
+/// Writes the lines of the instances of a round, of which each thread renders a part.
+fn write_round<R: Threads + Sync, K: Sink>(
+    rt: &R,
     alloc: Global,
     terms: &Terms<'_>,
     instances: &[RawInstance<'_>],
+    lanes: LaneCount,
     out: &mut K,
 ) -> Result<(), InputError>
     requires { AllByRecursion (λ i. AreKnown terms.now i.records) (map plain_instance instances.now) }
-    ensures { OnOk result ((lines : List ℕ) × (AreLines terms.now (map plain_instance instances.now) lines × Appends (K.taken out.old) (K.taken out.new) lines)) }
+    ensures written { OnOk result ((lines : List ℕ) × (AreLines terms.now (map plain_instance instances.now) lines × Appends (K.taken out.old) (K.taken out.new) lines)) }
+    ensures unfailed { OnOk result (K.failed out.new ≡ K.failed out.old) }
+    ensures failed { K.failed out.old ≡ false → K.failed out.new ≡ true → result ≡ Err Device }
 {
-    let text = write_lines(alloc, terms, instances)?;
-    write(out, text.as_slice())
+    let size = instances.len().div_ceil(lanes.get() as usize).max(1);
+    let part = move |number: usize| -> Result<Vec<u8>, AllocError>
+        requires { AllByRecursion (λ i. AreKnown terms.now i.records) (map plain_instance instances.now) }
+        ensures { IfOk result (λ text. AreLines terms.entry.now (map plain_instance (slice_chunk instances.entry.now size number)) text.items) }
+    { lines_of_part(alloc, terms, instances, size, number) };
+    let texts = map_indices(rt, alloc, instances.len().div_ceil(size), &part)?;
+    for text in texts.as_slice() {
+        match text {
+            Ok(text) => write(out, text.as_slice())?,
+            Err(_) => return Err(InputError::Memory),
+        }
+    }
+    Ok(())
+}
+
+/// The lines of the part of this number, from 0, of some instances that are cut in parts of this size. Memory alone can fail.
+fn lines_of_part(
+    alloc: Global,
+    terms: &Terms<'_>,
+    instances: &[RawInstance<'_>],
+    size: usize,
+    number: usize,
+) -> Result<Vec<u8>, AllocError>
+    requires { AllByRecursion (λ i. AreKnown terms.now i.records) (map plain_instance instances.now) }
+    ensures { IfOk result (λ text. AreLines terms.now (map plain_instance (slice_chunk instances.now size number)) text.items) }
+{
+    let start = number.saturating_mul(size).min(instances.len());
+    let (_, rest) = instances.split_at(start);
+    let (part, _) = rest.split_at(size.min(rest.len()));
+    write_lines(alloc, terms, part)
 }
 
 /// Writes a text.
 pub(crate) fn write<K: Sink>(out: &mut K, text: &[u8]) -> Result<(), InputError>
-    ensures { OnOk result (Appends (K.taken out.old) (K.taken out.new) text.now) }
+    ensures written { OnOk result (Appends (K.taken out.old) (K.taken out.new) text.now) }
+    ensures unfailed { OnOk result (K.failed out.new ≡ K.failed out.old) }
+    ensures failed { K.failed out.old ≡ false → K.failed out.new ≡ true → result ≡ Err Device }
 {
     match write_bounded(out, text, WRITE_CALLS) {
         Ok(()) => Ok(()),

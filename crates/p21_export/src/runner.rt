@@ -1,13 +1,15 @@
 //! A run over a schema and a file.
 
-ghost use Rattle.std.specs.Prelude.{◌≡◌, ◌⊎◌, ℕ, List, Some, Ok, IfOk};
+ghost use Rattle.std.specs.Prelude.{◌≡◌, ◌⊎◌, ℕ, List, Some, Ok, Err, IfOk, true, false};
+ghost use Rattle.p21_express.specs.Answer.{HasNoReading};
 ghost use Rattle.p21_express.specs.Plain.{plain_schema};
 ghost use Rattle.p21_express.specs.WellFormed.{IsWellFormed};
 ghost use Rattle.p21_spelling.specs.Spelled.{AreSpelled};
 ghost use Rattle.p21_schema.specs.Rules.{with_rules};
 ghost use Rattle.p21_reader.specs.Answer.{plain_answer};
 ghost use Rattle.p21_reader.specs.Reading.{IsReading};
-ghost use Rattle.p21_run.specs.declared.outcome.Outcome.TheVariants.{Complete, Faulty, SchemaRefused};
+ghost use Rattle.p21_run.specs.declared.outcome.Outcome.TheVariants.{Complete, Faulty, SchemaRefused, Device as Failed};
+ghost use Rattle.p21_run.specs.declared.input.InputError.TheVariants.{Device};
 ghost use Rattle.p21_export.specs.Export.{Exports, OfDeclared, TellsFault};
 
 use crate::model::{write, write_model};
@@ -64,6 +66,10 @@ pub fn export<
     ensures exported { (schema_text file : List ℕ) → S.remaining schema_in.old ≡ Some schema_text → F.remaining file_in.old ≡ Some file → result ≡ Complete → OfDeclared how.now.rules schema_text (λ s. Exports s file (K.taken out.old) (K.taken out.new)) }
     ensures told { (schema_text file : List ℕ) → S.remaining schema_in.old ≡ Some schema_text → F.remaining file_in.old ≡ Some file → result ≡ Faulty → OfDeclared how.now.rules schema_text (λ s. TellsFault s file (T.taken told.old) (T.taken told.new)) }
     ensures kept { result ≡ Faulty ⊎ result ≡ SchemaRefused → out.new ≡ out.old }
+    ensures writer_failed { K.failed out.old ≡ false → K.failed out.new ≡ true → result ≡ Failed }
+    ensures unread { (schema_text : List ℕ) → S.remaining schema_in.old ≡ Some schema_text → HasNoReading schema_text → file_in.new ≡ file_in.old }
+    ensures schema_failed { S.failed schema_in.old ≡ false → S.failed schema_in.new ≡ true → (result ≡ Failed) × (file_in.new ≡ file_in.old) × (out.new ≡ out.old) }
+    ensures file_failed { F.failed file_in.old ≡ false → F.failed file_in.new ≡ true → (result ≡ Failed) × (out.new ≡ out.old) }
 {
     match exported(rt, alloc, how, schema_in, file_in, out, told, listener) {
         Ok(outcome) => outcome,
@@ -93,6 +99,10 @@ fn exported<
     ensures exported { (schema_text file : List ℕ) → S.remaining schema_in.old ≡ Some schema_text → F.remaining file_in.old ≡ Some file → result ≡ Ok Complete → OfDeclared how.now.rules schema_text (λ s. Exports s file (K.taken out.old) (K.taken out.new)) }
     ensures told { (schema_text file : List ℕ) → S.remaining schema_in.old ≡ Some schema_text → F.remaining file_in.old ≡ Some file → result ≡ Ok Faulty → OfDeclared how.now.rules schema_text (λ s. TellsFault s file (T.taken told.old) (T.taken told.new)) }
     ensures kept { result ≡ Ok Faulty ⊎ result ≡ Ok SchemaRefused → out.new ≡ out.old }
+    ensures writer_failed { K.failed out.old ≡ false → K.failed out.new ≡ true → result ≡ Err Device }
+    ensures unread { (schema_text : List ℕ) → S.remaining schema_in.old ≡ Some schema_text → HasNoReading schema_text → file_in.new ≡ file_in.old }
+    ensures schema_failed { S.failed schema_in.old ≡ false → S.failed schema_in.new ≡ true → (result ≡ Err Device) × (file_in.new ≡ file_in.old) × (out.new ≡ out.old) }
+    ensures file_failed { F.failed file_in.old ≡ false → F.failed file_in.new ≡ true → (result ≡ Err Device) × (out.new ≡ out.old) }
 {
     let text = read_bounded(alloc, schema_in, SCHEMA_BOUNDS)?;
     match read_declarations(alloc, text.as_slice()) {
@@ -150,9 +160,12 @@ fn export_against<
     ensures exported { (file : List ℕ) → F.remaining file_in.old ≡ Some file → result ≡ Ok Complete → Exports (with_rules (plain_schema declarations) how.now.rules) file (K.taken out.old) (K.taken out.new) }
     ensures told { (file : List ℕ) → F.remaining file_in.old ≡ Some file → result ≡ Ok Faulty → TellsFault (with_rules (plain_schema declarations) how.now.rules) file (T.taken told.old) (T.taken told.new) }
     ensures kept { result ≡ Ok Faulty ⊎ result ≡ Ok SchemaRefused → out.new ≡ out.old }
+    ensures writer_failed { K.failed out.old ≡ false → K.failed out.new ≡ true → result ≡ Err Device }
+    ensures file_failed { F.failed file_in.old ≡ false → F.failed file_in.new ≡ true → (result ≡ Err Device) × (out.new ≡ out.old) }
 {
     let spelled = spell_names(alloc, text, &declarations)?;
     let schema = Schema::build_with_key(alloc, declarations, how.rules, how.key)?;
+    listener.hear_schema(text);
     let file = read_bounded(alloc, file_in, FILE_BOUNDS)?;
     listener.hear_file(file.as_slice());
     export_file(
@@ -184,12 +197,13 @@ fn export_file<R: Threads + Wait + Sync, G: Gate + Sync, K: Sink, T: Sink, L: Li
     ensures exported { result ≡ Ok Complete → Exports schema.now file.now (K.taken out.old) (K.taken out.new) }
     ensures told { result ≡ Ok Faulty → TellsFault schema.now file.now (T.taken told.old) (T.taken told.new) }
     ensures kept { result ≡ Ok Faulty ⊎ result ≡ Ok SchemaRefused → out.new ≡ out.old }
+    ensures writer_failed { K.failed out.old ≡ false → K.failed out.new ≡ true → result ≡ Err Device }
 {
     match read_lanes(rt, alloc, schema, how.gate, file, how.lanes, how.capacity) {
         Ok(reading) => {
             listener.hear_checked();
             let outcome = export_reading(
-                alloc, schema, spelled, file, &reading, out, told, listener,
+                rt, alloc, how, schema, spelled, file, &reading, out, told, listener,
             )?;
             listener.let_go(reading);
             Ok(outcome)
@@ -199,8 +213,10 @@ fn export_file<R: Threads + Wait + Sync, G: Gate + Sync, K: Sink, T: Sink, L: Li
 }
 
 /// Writes the model of a reading, or tells its fault.
-fn export_reading<K: Sink, T: Sink, L: Listener>(
+fn export_reading<R: Threads + Sync, G, K: Sink, T: Sink, L: Listener>(
+    rt: &R,
     alloc: Global,
+    how: &How<'_, G>,
     schema: &Schema,
     spelled: &Spellings,
     file: &[u8],
@@ -214,15 +230,27 @@ fn export_reading<K: Sink, T: Sink, L: Listener>(
     ensures exported { result ≡ Ok Complete → Exports schema.now file.now (K.taken out.old) (K.taken out.new) }
     ensures told { result ≡ Ok Faulty → TellsFault schema.now file.now (T.taken told.old) (T.taken told.new) }
     ensures kept { result ≡ Ok Faulty ⊎ result ≡ Ok SchemaRefused → out.new ≡ out.old }
+    ensures writer_failed { K.failed out.old ≡ false → K.failed out.new ≡ true → result ≡ Err Device }
 {
     match &reading.answer {
         Ok(model) => {
-            write_model(alloc, schema, spelled, file, model.instances(), out)?;
+            listener.hear_made();
+            write_model(
+                rt,
+                alloc,
+                schema,
+                spelled,
+                file,
+                model.instances(),
+                how.lanes,
+                out,
+            )?;
             Ok(Outcome::Complete)
         }
         Err(fault) => {
             listener.hear(schema, file, slice::from_ref(fault));
             let line = fault_line(alloc, fault)?;
+            listener.hear_made();
             write(told, line.as_slice())?;
             Ok(Outcome::Faulty)
         }

@@ -1,8 +1,9 @@
 -- Declarations of attributes, and which instances are of their entities.
-use Rattle.std.proofs.Common.{◌≡◌, ◌↔◌, ◌+◌, ◌<◌, ◌≤◌, ℕ, zero, suc, List, [], ◌∷◌, Bool, true, false, IsTrue, inl, inr, map, length, drop, get_or, refl, sym, ap, subst, ◌∙◌, add-one, arith}
+use Rattle.std.proofs.Common.{◌≡◌, ◌↔◌, ◌+◌, ◌<◌, ◌≤◌, ℕ, zero, suc, List, [], ◌∷◌, Bool, true, false, IsTrue, inl, inr, map, length, drop, get_or, nat_eq, not, refl, sym, ap, subst, ◌∙◌, ⊎_elim, add-one, arith}
 use Rattle.std.specs.List.{AllZip}
+use Rattle.std.proofs.lemmas.Bool.Decides.{nat_tests}
 use Rattle.p21_express.specs.Schema.{Schema, Entity, Expr}
-use Rattle.p21_express.specs.WellFormed.{IsIn, IsEntity, Origin}
+use Rattle.p21_express.specs.WellFormed.{IsIn, IsAncestor, IsEntity, IsWellFormed, Origin}
 use Rattle.p21_tree.specs.Grammar.{Entry}
 use Rattle.p21_tree.specs.Sentence.{Instance}
 use Rattle.p21_tree.specs.declared.instances.RawInstance.{RawInstance}
@@ -13,6 +14,7 @@ use Rattle.p21_schema.specs.declared.declarations.Form.{Form as CodedForm}
 use Rattle.p21_schema.specs.declared.declarations.Form.TheVariants as coded
 use Rattle.p21_schema.specs.declared.resolved.ResolvedExpr.{ResolvedExpr}
 use Rattle.p21_schema.specs.Place.{no_entity, entity_at, entity_name, IsEntityOf}
+use Rattle.p21_schema.specs.Ancestry.{IsA}
 use Rattle.p21_schema.specs.Row.{IsRow}
 use Rattle.p21_schema.specs.Declaration.{Chosen, Declaration, Form, AreDeclarations, IsResolvedForm}
 use Rattle.p21_schema.specs.Declaration as declaration
@@ -48,7 +50,8 @@ chosen_from (declaration.kept {x = x} w c) y (inl e) = (x, inl refl, w, e)
 chosen_from (declaration.kept w c) y (inr h) = let r = chosen_from c y h in (r.0, inr r.1, r.2, r.3)
 chosen_from (declaration.dropped n c) y h = let r = chosen_from c y h in (r.0, inr r.1, r.2, r.3)
 
-chosen_to : {X Y : Type 0} {W : X → Type 0} {f : X → Y} {xs : List X} {ys : List Y} → Chosen W f xs ys → (x : X) → IsIn xs x → W x → IsIn ys (f x)
+-- what is wanted is among those that are chosen
+pub chosen_to : {X Y : Type 0} {W : X → Type 0} {f : X → Y} {xs : List X} {ys : List Y} → Chosen W f xs ys → (x : X) → IsIn xs x → W x → IsIn ys (f x)
 chosen_to declaration.none x h w = absurd h
 chosen_to {f = f} (declaration.kept v c) x (inl e) w = inl (ap f e)
 chosen_to (declaration.kept v c) x (inr h) w = inr (chosen_to c x h w)
@@ -56,13 +59,15 @@ chosen_to {W = W} (declaration.dropped n c) x (inl e) w = absurd (n (subst W (sy
 chosen_to (declaration.dropped n c) x (inr h) w = chosen_to c x h w
 
 -- each list of the declarations of an attribute has the same ones
-same_ones : (s : Schema) (o : Origin) (ds es : List Declaration) → AreDeclarations s o ds → AreDeclarations s o es → (d : Declaration) → IsIn ds d → IsIn es d
+pub same_ones : (s : Schema) (o : Origin) (ds es : List Declaration) → AreDeclarations s o ds → AreDeclarations s o es → (d : Declaration) → IsIn ds d → IsIn es d
 same_ones s o ds es a b d h = let r = chosen_from a d h in subst (IsIn es) r.3 (chosen_to b r.0 r.1 r.2)
 
-pub logical_attribute : (s : Schema) (i : Instance) (o : Origin) (ds : List Declaration) (r : Bool) → AreDeclarations s o ds → (IsTrue r ↔ AnyIn ds (DeclaresLogical s i)) → (IsTrue r ↔ IsLogicalAttribute s i o)
+pub logical_attribute : (s : Schema) (i : Instance) (o : Origin) (ds : List Declaration) (r : Bool) → AreDeclarations s o ds → (IsTrue r ↔ AnyIn ds (DeclaresLogical s i ds)) → (IsTrue r ↔ IsLogicalAttribute s i o)
 logical_attribute s i o ds r a h = (
   λ t. let f = h.0 t in record { all = ds; are = a; declaration = f.0; among = f.1; declares = f.2 },
-  λ f. h.1 (f.declaration, same_ones s o f.all ds f.are a f.declaration f.among, f.declares),
+  λ f.
+      let d = f.declares in
+      h.1 (f.declaration, same_ones s o f.all ds f.are a f.declaration f.among, (d.0, d.1, λ b. d.2 (b.0, same_ones s o ds f.all a f.are b.0 b.1, b.2))),
 )
 
 -- an explicit declaration has a type
@@ -135,3 +140,34 @@ any_of s i n h =
 -- the attributes by an id of a schema, which is this one under another name
 pub attributes_at : (x s : Schema) (c : Bool) (e : EntityId) (n : List ℕ) (os : List Origin) → x ≡ s → IsEntityOf x e → entity_name x e ≡ n → AreAttributesOf x c e os → AreAttributes s c n os
 attributes_at x s c e n os q h k a = subst (λ (y : Schema). AreAttributes y c n os) q (attributes_by x c e n os h k a)
+
+-- ---- entities below others
+
+pub same_id : (r : Bool) (a b : EntityId) → r ≡ nat_eq a.index b.index → IsTrue r ↔ (a ≡ b)
+same_id r a b e = (
+  λ h. let same : a.index ≡ b.index = (let k = sym e ∙ h in grind (arith, nat_tests, k)) in ap (λ (n : ℕ). let x : EntityId = record { index = n } in x) same,
+  λ h. let same : nat_eq b.index b.index ≡ true = grind (arith, nat_tests) in e ∙ ap (λ (x : EntityId). nat_eq x.index b.index) h ∙ same,
+)
+
+pub not_true : (b : Bool) → not b ≡ true → b ≡ false
+not_true true h = sym h
+not_true false h = refl
+
+pub not_false : (b : Bool) → not b ≡ false → b ≡ true
+not_false true h = refl
+not_false false h = sym h
+
+-- an entity that is another one is below it or not
+pub below_by : (s : Schema) (a b : EntityId) (one : (x y : EntityId) → IsEntityOf s x → IsEntityOf s y → entity_name s x ≡ entity_name s y → x ≡ y) (r : Bool) → IsEntityOf s a → IsEntityOf s b → ¬ (a ≡ b) → IsTrue r ↔ IsA s a b → IsTrue r ↔ IsAncestor s (entity_name s a) (entity_name s b)
+below_by s a b one r x y other h = (
+  λ t. ⊎_elim (λ (e : entity_name s a ≡ entity_name s b). absurd (other (one a b x y e))) (λ (k : IsAncestor s (entity_name s a) (entity_name s b)). k) (h.0 t),
+  λ k. h.1 (inr k),
+)
+
+-- no entity is below itself
+pub not_below : (s : Schema) (a b : EntityId) → IsWellFormed s → a ≡ b → ¬ (IsAncestor s (entity_name s a) (entity_name s b))
+not_below s a b w e k = w.cycles.entities (entity_name s b) (subst (λ (x : EntityId). IsAncestor s (entity_name s x) (entity_name s b)) e k)
+
+-- one by an entity below, where the declaration is by the entity of this name
+pub declared_below : (s : Schema) (i : Instance) (n m k : List ℕ) → n ≡ m → (IsOf s i n × IsAncestor s n k) ↔ (IsOf s i m × IsAncestor s m k)
+declared_below s i n m k e = (subst (λ (x : List ℕ). IsOf s i x × IsAncestor s x k) e, subst (λ (x : List ℕ). IsOf s i x × IsAncestor s x k) (sym e))

@@ -8,3 +8,10 @@ pub mod AttributeLemmas
 pub mod InstanceLemmas
 pub mod LineLemmas
 pub mod HeaderLemmas
+pub mod NumeralLemmas
+pub mod TypeLemmas
+pub mod NameLemmas
+pub mod SameLemmas
+pub mod SlotLemmas
+pub mod RowLemmas
+pub mod LossLemmas

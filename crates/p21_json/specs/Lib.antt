@@ -9,5 +9,8 @@ pub mod Rows
 pub mod Parts
 pub mod Instances
 pub mod Lines
+pub mod Same
+pub mod Spellings
+pub mod Laws
 pub mod Header
 pub mod Written

@@ -6,6 +6,7 @@ use Rattle.p21_tree.specs.Sentence.{Instance}
 use Rattle.p21_schema.specs.Declaration.{AreDeclarations, Declaration, Form}
 use Rattle.p21_schema.specs.Declaration as form
 use Rattle.p21_check.specs.EntitySet.{keywords}
+use Rattle.p21_check.specs.Sets.{AnyIn, IsAgainBelow}
 use Rattle.p21_json.specs.Logical.{TakesLogical}
 
 -- in the header, for an attribute of an instance, or in a typed parameter of this type
@@ -28,9 +29,13 @@ pub record IsOf (s : Schema) (i : Instance) (n : List ℕ) : Type 0 where
   pub written : IsIn (keywords i) keyword
   pub below : IsBelow s keyword n
 
--- an entity that the instance is of declares as BOOLEAN or LOGICAL, or as aggregates of such
-abbrev pub DeclaresLogical : Schema → Instance → Declaration → Type 0
-DeclaresLogical s i d = IsOf s i d.entity × FormTakesLogical s d.form
+-- one of the declarations is by an entity below this one that the instance is of
+abbrev pub IsDeclaredBelow : Schema → Instance → List Declaration → List ℕ → Type 0
+IsDeclaredBelow s i ds n = AnyIn ds (IsAgainBelow s (IsOf s i) n)
+
+-- an entity that the instance is of declares as BOOLEAN or LOGICAL, or as aggregates of such, and none below it declares again
+abbrev pub DeclaresLogical : Schema → Instance → List Declaration → Declaration → Type 0
+DeclaresLogical s i ds d = IsOf s i d.entity × FormTakesLogical s d.form × ¬ (IsDeclaredBelow s i ds d.entity)
 
 -- one of the declarations of the attribute is such
 pub record IsLogicalAttribute (s : Schema) (i : Instance) (o : Origin) : Type 0 where
@@ -38,7 +43,7 @@ pub record IsLogicalAttribute (s : Schema) (i : Instance) (o : Origin) : Type 0 
   pub are : AreDeclarations s o all
   pub declaration : Declaration
   pub among : IsIn all declaration
-  pub declares : DeclaresLogical s i declaration
+  pub declares : DeclaresLogical s i all declaration
 
 abbrev pub IsLogicalAt : Schema → Where → Type 0
 IsLogicalAt s header = ⊥

@@ -5,6 +5,7 @@ mod attributes;
 mod characters;
 mod header;
 mod instances;
+mod laws;
 mod line;
 mod lines;
 mod logical;
@@ -13,5 +14,6 @@ mod pages;
 mod terms;
 
 pub use header::write_header;
+pub use laws::{no_value_is_lost, nothing_is_lost, numbers_stay_numbers};
 pub use lines::write_lines;
 pub use terms::Terms;

@@ -4,11 +4,11 @@ ghost use Rattle.std.specs.Prelude.{◌≡◌, Ok, Err};
 ghost use Rattle.p21_run.specs.declared.outcome.Outcome.TheVariants.{Complete, Faulty, SchemaRefused, Device as Failed, Memory as NoMemory};
 ghost use Rattle.p21_report.specs.declared.program_error.ProgramError.TheVariants.{Device, Memory};
 
-use crate::explainer::Explainer;
+use crate::explainer::{Explainer, Names};
 use crate::key::drawn_key;
 use crate::opened::{LastError, Opened};
 use crate::program_error::ProgramError;
-use crate::progress::{NoClock, Progress, Stage};
+use crate::progress::{NoClock, Program, Progress, Stage};
 use crate::watched::Watched;
 use crate::words::{Wanted, not_text, what_is_wanted};
 use p21_run::{Outcome, Source, Stream, run_heard};
@@ -144,7 +144,8 @@ where
     P: Write + Send + Drop,
 {
     let wanted = what_is_wanted(alloc, words, told.is_terminal)?;
-    let progress = Progress::new(told.clock, told.out, told.is_terminal || wanted.progress);
+    let is_shown = told.is_terminal || wanted.options.progress;
+    let progress = Progress::new(told.clock, told.out, Program::Check, is_shown);
     status_of(run_told(rt, alloc, &wanted, &progress, input, output, said))
 }
 
@@ -166,13 +167,13 @@ where
     P: Write + Send + Drop,
 {
     progress.tell(Stage::Schema);
+    let options = wanted.options;
     let mut explainer = Explainer::new(
         alloc,
         progress,
-        wanted.schema,
-        wanted.file,
-        wanted.explained,
-        wanted.format,
+        names_of(wanted),
+        options.explained,
+        options.format,
     );
     let outcome = if wanted.file == "-" {
         let file = Stream::new(input);
@@ -183,6 +184,16 @@ where
     };
     *said = explainer.into_said();
     outcome
+}
+
+/// By what names the run is told of.
+fn names_of<'a>(wanted: &Wanted<'a>) -> Names<'a> {
+    Names {
+        program: Program::Check.name(),
+        schema: wanted.schema,
+        file: wanted.file,
+        output: "standard output",
+    }
 }
 
 /// Runs over the schema and the file as it is wanted, and has the explainer hear the end.
@@ -212,10 +223,10 @@ where
         &mut schema,
         &mut file,
         &mut out,
-        wanted.lanes,
-        wanted.capacity,
+        wanted.options.lanes,
+        wanted.options.capacity,
         wanted.all,
-        wanted.rules,
+        wanted.options.rules,
         drawn_key(rt),
         explainer,
     );

@@ -18,16 +18,23 @@ use std::time::Clock;
 const TOO_LONG: &str =
     "a limit was exceeded: a schema has at most 16777216 bytes, a file 4294967296";
 
+/// How a run is told of: by the name of the program, the paths of the schema and the file, where `-` is the standard input, and the name of
+/// what is written to.
+#[derive(Clone, Copy, Debug)]
+pub struct Names<'a> {
+    pub program: &'a str,
+    pub schema: &'a str,
+    pub file: &'a str,
+    pub output: &'a str,
+}
+
 /// Hears how far a run is, and its faults, and keeps what is to be said of these until the report is written. Where there is no memory
 /// for it, less is said.
 #[derive(Drop)]
-pub(crate) struct Explainer<'a, C, P> {
+pub struct Explainer<'a, C, P> {
     alloc: Global,
     progress: &'a Progress<C, P>,
-    /// The path of the schema.
-    schema: &'a str,
-    /// The path of the file.
-    file: &'a str,
+    names: Names<'a>,
     /// How many faults are explained at most.
     most: usize,
     format: Format,
@@ -38,19 +45,17 @@ pub(crate) struct Explainer<'a, C, P> {
 
 impl<'a, C: Clock, P: Write> Explainer<'a, C, P> {
     /// Nothing is heard yet.
-    pub(crate) fn new(
+    pub fn new(
         alloc: Global,
         progress: &'a Progress<C, P>,
-        schema: &'a str,
-        file: &'a str,
+        names: Names<'a>,
         most: usize,
         format: Format,
     ) -> Explainer<'a, C, P> {
         Explainer {
             alloc,
             progress,
-            schema,
-            file,
+            names,
             most,
             format,
             text: Vec::new(alloc),
@@ -59,12 +64,12 @@ impl<'a, C: Clock, P: Write> Explainer<'a, C, P> {
     }
 
     /// What is to be said.
-    pub(crate) fn into_said(self) -> String {
+    pub fn into_said(self) -> String {
         self.said
     }
 
     /// Hears how the run ended, with the last errors of the schema, of the file and of the output. Where there was no memory nothing is said.
-    pub(crate) fn hear_end(&mut self, outcome: Outcome, errors: [Option<io::Error>; 3]) {
+    pub fn hear_end(&mut self, outcome: Outcome, errors: [Option<io::Error>; 3]) {
         match outcome {
             Outcome::Complete | Outcome::Faulty | Outcome::SchemaRefused => {}
             Outcome::Device => self.hear_failure(errors),
@@ -82,16 +87,16 @@ impl<'a, C: Clock, P: Write> Explainer<'a, C, P> {
     /// Adds which device failed: the last that answered an error.
     fn add_failure(&mut self, errors: [Option<io::Error>; 3]) -> Result<(), AllocError> {
         let [schema, file, output] = errors;
-        let input = if self.file == "-" {
+        let input = if self.names.file == "-" {
             "standard input"
         } else {
-            self.file
+            self.names.file
         };
         match (schema, file, output) {
-            (_, _, Some(error)) => self.add_error("standard output", error),
+            (_, _, Some(error)) => self.add_error(self.names.output, error),
             (_, Some(error), None) => self.add_error(input, error),
-            (Some(error), None, None) => self.add_error(self.schema, error),
-            (None, None, None) => self.add_line("p21check", TOO_LONG),
+            (Some(error), None, None) => self.add_error(self.names.schema, error),
+            (None, None, None) => self.add_line(self.names.program, TOO_LONG),
         }
     }
 
@@ -112,7 +117,7 @@ impl<'a, C: Clock, P: Write> Explainer<'a, C, P> {
         let subject = Subject {
             schema,
             spellings: &spellings,
-            path: self.file,
+            path: self.names.file,
             file,
         };
         for fault in faults.iter().take(self.most) {
@@ -131,7 +136,7 @@ impl<'a, C: Clock, P: Write> Explainer<'a, C, P> {
         let line = schema_fault_line(self.alloc, *error)?;
         let told = explain_schema_fault(
             self.alloc,
-            self.schema,
+            self.names.schema,
             text,
             error,
             kind_in(&line),

@@ -8,7 +8,7 @@ use std::fs::{File, Files};
 use std::io;
 
 /// What keeps the last error that it had.
-pub(crate) trait LastError {
+pub trait LastError {
     /// The last error.
     fn error(&self) -> Option<io::Error>;
 }
@@ -21,7 +21,7 @@ impl<T> LastError for Stream<T> {
 
 /// A file that is opened at its first read. One that cannot be opened, from whatever cause, failed.
 #[derive(Drop)]
-pub(crate) struct Opened<'a, R: Files> {
+pub struct Opened<'a, R: Files> {
     rt: &'a R,
     path: &'a str,
     file: Option<Stream<R::File>>,
@@ -35,7 +35,7 @@ impl<'a, R: Files> Opened<'a, R> {
     ghost use Rattle.p21_report.specs.Opened.{failure_of_opened, mark_of_opened};
 
     /// The file of a path, which is not opened yet.
-    pub(crate) fn new(rt: &'a R, path: &'a str) -> Opened<'a, R>
+    pub fn new(rt: &'a R, path: &'a str) -> Opened<'a, R>
         ensures unmarked { mark_of_opened result ≡ false }
         ensures unfailed { failure_of_opened result ≡ false }
     {

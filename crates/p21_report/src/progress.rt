@@ -19,12 +19,29 @@ const SAMPLE: usize = 256;
 
 const MEGABYTE: u64 = 1_000_000;
 
-/// What covers a line: it is as long as the longest.
-const BLANK: &[u8] = b"\r                                          \r";
+/// What covers the part of a line behind the program's name: it is as long as the longest.
+const BLANK: &[u8] = b"                                  ";
+
+/// Whose progress it is.
+#[derive(Clone, Copy, Debug)]
+pub enum Program {
+    Check,
+    Export,
+}
+
+impl Program {
+    /// The name of the program.
+    pub fn name(self) -> &'static str {
+        match self {
+            Program::Check => "p21check",
+            Program::Export => "p21export",
+        }
+    }
+}
 
 /// What a run is at.
 #[derive(Clone, Copy)]
-pub(crate) enum Stage {
+pub enum Stage {
     /// The schema is read.
     Schema,
     /// The file is read: so many of its bytes are there.
@@ -39,7 +56,7 @@ pub(crate) enum Stage {
 
 /// How far a run is. The workers share it by reference, as the gate that they pass.
 #[derive(Drop)]
-pub(crate) struct Progress<C, P> {
+pub struct Progress<C, P> {
     clock: C,
     is_shown: bool,
     /// How many bytes the file has, and about how many pieces.
@@ -52,14 +69,15 @@ pub(crate) struct Progress<C, P> {
 #[derive(Drop)]
 struct Line<P> {
     out: P,
+    program: Program,
     /// When it was last written.
     last: Option<Instant>,
     is_there: bool,
 }
 
 impl<C: Clock, P: Write> Progress<C, P> {
-    /// The progress of a run that did not begin.
-    pub(crate) fn new(clock: C, out: P, is_shown: bool) -> Progress<C, P> {
+    /// The progress of a run of a program that did not begin.
+    pub fn new(clock: C, out: P, program: Program, is_shown: bool) -> Progress<C, P> {
         Progress {
             clock,
             is_shown,
@@ -67,6 +85,7 @@ impl<C: Clock, P: Write> Progress<C, P> {
             pieces: AtomicU64::new(0),
             line: Mutex::new(Line {
                 out,
+                program,
                 last: None,
                 is_there: false,
             }),
@@ -74,7 +93,7 @@ impl<C: Clock, P: Write> Progress<C, P> {
     }
 
     /// Tells what the run is at, where this is shown, and nobody told it a moment ago.
-    pub(crate) fn tell(&self, stage: Stage) {
+    pub fn tell(&self, stage: Stage) {
         self.write(stage, false);
     }
 
@@ -101,7 +120,7 @@ impl<C: Clock, P: Write> Progress<C, P> {
     }
 
     /// Notes the bytes of the file, whose instances are read next.
-    pub(crate) fn begin(&self, file: &[u8]) {
+    pub fn begin(&self, file: &[u8]) {
         if self.is_shown {
             self.bytes.store(file.len() as u64, Ordering::SeqCst);
             self.pieces.store(pieces_in(file), Ordering::SeqCst);
@@ -118,7 +137,7 @@ impl<C: Clock, P: Write> Progress<C, P> {
     }
 
     /// Removes the line.
-    pub(crate) fn remove(&self) {
+    pub fn remove(&self) {
         if let Some(mut line) = self.line.try_lock() {
             line.remove();
         }
@@ -153,25 +172,38 @@ impl<P: Write> Line<P> {
     }
 
     fn write(&mut self, stage: Stage) -> io::Result<()> {
+        let program = self.program.name();
         match stage {
-            Stage::Schema => write!(self.out, "p21check: schema"),
-            Stage::File { bytes } => { write!(self.out, "p21check: file, {} MB", bytes / MEGABYTE) }
+            Stage::Schema => write!(self.out, "{program}: schema"),
+            Stage::File { bytes } => write!(self.out, "{program}: file, {} MB", bytes / MEGABYTE),
             Stage::Instances { share, bytes } => write!(
                 self.out,
-                "p21check: instances, about {share} % of {} MB",
+                "{program}: instances, about {share} % of {} MB",
                 bytes / MEGABYTE,
             ),
-            Stage::References => write!(self.out, "p21check: references"),
-            Stage::Report => write!(self.out, "p21check: report"),
+            Stage::References => write!(self.out, "{program}: references"),
+            Stage::Report => write!(self.out, "{program}: report"),
         }
     }
 
     /// Covers the line with blanks, where it is there.
     fn remove(&mut self) {
         if self.is_there {
-            let _ = self.out.write_all(BLANK);
+            let _ = self.cover();
             self.is_there = false;
         }
+    }
+}
+
+impl<P: Write> Line<P> {
+    /// Covers the line with blanks.
+    fn cover(&mut self) -> io::Result<()> {
+        self.out.write_all(b"\r")?;
+        for _ in self.program.name().as_bytes() {
+            self.out.write_all(b" ")?;
+        }
+        self.out.write_all(BLANK)?;
+        self.out.write_all(b"\r")
     }
 }
 

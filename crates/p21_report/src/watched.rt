@@ -9,7 +9,7 @@ use std::time::Clock;
 
 /// A source, and the progress that is told how many bytes it gave.
 #[derive(Drop)]
-pub(crate) struct Watched<'p, S, C, P> {
+pub struct Watched<'p, S, C, P> {
     source: S,
     bytes: u64,
     progress: &'p Progress<C, P>,
@@ -17,7 +17,7 @@ pub(crate) struct Watched<'p, S, C, P> {
 
 impl<'p, S, C, P> Watched<'p, S, C, P> {
     /// The source, which gave nothing yet.
-    pub(crate) fn new(source: S, progress: &'p Progress<C, P>) -> Watched<'p, S, C, P> {
+    pub fn new(source: S, progress: &'p Progress<C, P>) -> Watched<'p, S, C, P> {
         Watched {
             source,
             bytes: 0,
@@ -26,7 +26,7 @@ impl<'p, S, C, P> Watched<'p, S, C, P> {
     }
 
     /// The source.
-    pub(crate) fn source(&self) -> &S {
+    pub fn source(&self) -> &S {
         &self.source
     }
 }

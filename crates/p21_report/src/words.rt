@@ -16,17 +16,23 @@ pub(crate) struct Wanted<'a> {
     pub(crate) schema: &'a str,
     /// The path of the file; `-` is the standard input.
     pub(crate) file: &'a str,
-    pub(crate) lanes: LaneCount,
-    pub(crate) capacity: Capacity,
     /// Whether every fault is reported, or only the first.
     pub(crate) all: bool,
-    pub(crate) rules: Rules,
+    pub(crate) options: Options,
+}
+
+/// What the options ask for that each program takes.
+#[derive(Clone, Copy, Debug)]
+pub struct Options {
+    pub lanes: LaneCount,
+    pub capacity: Capacity,
+    pub rules: Rules,
     /// How many faults are explained at most.
-    pub(crate) explained: usize,
+    pub explained: usize,
     /// How they are explained.
-    pub(crate) format: Format,
+    pub format: Format,
     /// Whether progress is shown, terminal or not.
-    pub(crate) progress: bool,
+    pub progress: bool,
 }
 
 /// The version of the program.
@@ -65,15 +71,23 @@ pub(crate) fn what_is_wanted<'a>(
 
 /// What is asked for, if both paths and the numbers are there.
 fn wanted_by<'a>(matches: &ArgMatches<'a>, is_terminal: bool) -> Option<Wanted<'a>> {
-    let format = format_of(matches.get_str("format"));
-    let is_explained = is_terminal || format == Format::Json;
-    let most = if is_explained { MOST_EXPLAINED } else { 0 };
     Some(Wanted {
         schema: matches.get_str("SCHEMA")?,
         file: matches.get_str("FILE")?,
+        all: matches.get_flag("all"),
+        options: options_of(matches, is_terminal)?,
+    })
+}
+
+/// What the options ask for that `with_lanes`, `with_rules` and `with_telling` add, if the numbers are there. Where standard error is a
+/// terminal, faults are explained unless the arguments say otherwise.
+pub fn options_of(matches: &ArgMatches<'_>, is_terminal: bool) -> Option<Options> {
+    let format = format_of(matches.get_str("format"));
+    let is_explained = is_terminal || format == Format::Json;
+    let most = if is_explained { MOST_EXPLAINED } else { 0 };
+    Some(Options {
         lanes: matches.get_one("lanes").and_then(LaneCount::new)?,
         capacity: matches.get_one("capacity").and_then(Capacity::new)?,
-        all: matches.get_flag("all"),
         rules: Rules {
             distinct: matches.get_flag("distinct"),
         },
@@ -127,20 +141,26 @@ fn command<'a>(alloc: Global) -> Result<Command<'a>, AllocError> {
 
 /// Adds the options.
 fn with_options<'a>(alloc: Global, command: Command<'a>) -> Result<Command<'a>, AllocError> {
-    let command = with_lanes(alloc, command)?;
-    let command = with_faults(alloc, command)?;
-    let command = command.arg(explain(alloc))?.arg(format(alloc))?;
-    command.arg(progress(alloc))
+    let command = with_lanes(alloc, command)?.arg(all(alloc))?;
+    with_telling(alloc, with_rules(alloc, command)?)
 }
 
 /// Adds the options of the worker threads.
-fn with_lanes<'a>(alloc: Global, command: Command<'a>) -> Result<Command<'a>, AllocError> {
+pub fn with_lanes<'a>(alloc: Global, command: Command<'a>) -> Result<Command<'a>, AllocError> {
     command.arg(lanes(alloc))?.arg(capacity(alloc))
 }
 
-/// Adds the options that say which faults are reported.
-fn with_faults<'a>(alloc: Global, command: Command<'a>) -> Result<Command<'a>, AllocError> {
-    command.arg(all(alloc))?.arg(distinct(alloc))
+/// Adds the options of the rules of a check.
+pub fn with_rules<'a>(alloc: Global, command: Command<'a>) -> Result<Command<'a>, AllocError> {
+    command.arg(distinct(alloc))
+}
+
+/// Adds the options that say what is told on standard error.
+pub fn with_telling<'a>(alloc: Global, command: Command<'a>) -> Result<Command<'a>, AllocError> {
+    command
+        .arg(explain(alloc))?
+        .arg(format(alloc))?
+        .arg(progress(alloc))
 }
 
 fn schema<'a>(alloc: Global) -> Arg<'a> {

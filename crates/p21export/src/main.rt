@@ -1,11 +1,13 @@
 //! `p21export SCHEMA FILE --json OUT`: checks a STEP file against an EXPRESS schema, and writes its model as JSON.
 #![tactic(auto)]
 
+mod beside;
 mod program;
 mod words;
 
-use program::{program, unreadable_words};
+use program::{Around, program, unreadable_words};
 use std::env;
+use std::io::IsTerminal;
 use std::process::ExitCode;
 
 fn main(rt: HostRuntime) -> ExitCode {
@@ -16,12 +18,11 @@ fn main(rt: HostRuntime) -> ExitCode {
         Ok(words) => words,
         Err(_) => return ExitCode::from(unreadable_words(&mut rt.stderr())),
     };
-    ExitCode::from(program(
-        &rt,
-        rt.alloc(),
-        words.as_slice(),
-        &mut rt.stdin(),
-        &mut rt.stdout(),
-        &mut rt.stderr(),
-    ))
+    let around = Around {
+        input: &mut rt.stdin(),
+        output: &mut rt.stdout(),
+        errors: &mut rt.stderr(),
+        is_terminal: rt.stderr().is_terminal(),
+    };
+    ExitCode::from(program(&rt, rt.alloc(), words.as_slice(), around, rt.stderr()))
 }

@@ -1,26 +1,58 @@
 //! The program, over its words.
 
+use crate::beside::Beside;
 use crate::words::{Refusal, Wanted, what_is_wanted};
-use p21_crew::OpenGate;
-use p21_export::{How, Outcome, Silent, Sink, Source, Stream, export};
-use p21_report::drawn_key;
+use p21_export::{How, Outcome, Source, Stream, export};
+use p21_report::{
+    Explainer, LastError, Names, Opened, Program, Progress, Stage, Watched, drawn_key,
+};
 use std::alloc::Global;
-use std::fs::{self, File, Files, OpenFile};
-use std::io::{Read, Write};
+use std::fs::{self, File, Files};
+use std::io::{self, Read, Write};
 use std::sync::Wait;
 use std::thread::Threads;
+use std::time::Clock;
 
-/// Does what the words ask for, and answers the status to end with.
-pub(crate) fn program<R: Files + Threads + Wait + Sync, I: Read, O: Write, E: Write>(
+/// What the system gives a run besides files, threads and the clock.
+pub(crate) struct Around<'a, I, O, E> {
+    pub(crate) input: &'a mut I,
+    pub(crate) output: &'a mut O,
+    pub(crate) errors: &'a mut E,
+    /// Whether the errors are a terminal.
+    pub(crate) is_terminal: bool,
+}
+
+/// Does what the words ask for, and answers the status to end with. How far it is is told on a line of `progress`.
+pub(crate) fn program<R, I, O, E, P>(
     rt: &R,
     alloc: Global,
     words: &[String],
-    input: &mut I,
-    output: &mut O,
-    errors: &mut E,
-) -> u8 {
-    match what_is_wanted(alloc, words) {
-        Ok(wanted) => status_of(export_wanted(rt, alloc, &wanted, input, output), errors),
+    around: Around<'_, I, O, E>,
+    progress: P,
+) -> u8
+where
+    R: Files + Threads + Wait + Clock + Sync,
+    I: Read,
+    O: Write,
+    E: Write,
+    P: Write + Send + Drop,
+{
+    let Around {
+        input,
+        output,
+        errors,
+        is_terminal,
+    } = around;
+    match what_is_wanted(alloc, words, is_terminal) {
+        Ok(wanted) => {
+            let is_shown = is_terminal || wanted.options.progress;
+            let progress = Progress::new(rt, progress, Program::Export, is_shown);
+            let mut said = String::new(alloc);
+            let outcome = export_wanted(rt, alloc, &wanted, &progress, input, output, &mut said);
+            let status = status_of(outcome, errors);
+            let _ = errors.write_all(said.as_bytes());
+            status
+        }
         Err(Refusal::Memory) => status_of(Outcome::Memory, errors),
         Err(Refusal::Words(error)) if error.use_stderr() => {
             let _ = write!(errors, "{error}");
@@ -59,46 +91,102 @@ fn status_of<E: Write>(outcome: Outcome, errors: &mut E) -> u8 {
     }
 }
 
-/// Exports from the paths that are wanted.
-fn export_wanted<R: Files + Threads + Wait + Sync, I: Read, O: Write>(
+/// Exports from the paths that are wanted, tells how far it is, and keeps what is to be said of faults, and of devices that failed.
+fn export_wanted<R, I, O, P>(
     rt: &R,
     alloc: Global,
     wanted: &Wanted<'_>,
+    progress: &Progress<&R, P>,
     input: &mut I,
     output: &mut O,
-) -> Outcome {
-    let Ok(schema) = File::open(rt, wanted.schema) else {
-        return Outcome::Device;
+    said: &mut String,
+) -> Outcome
+where
+    R: Files + Threads + Wait + Clock + Sync,
+    I: Read,
+    O: Write,
+    P: Write + Send + Drop,
+{
+    progress.tell(Stage::Schema);
+    let names = Names {
+        program: Program::Export.name(),
+        schema: wanted.schema,
+        file: wanted.file,
+        output: wanted.out_name(),
     };
-    if wanted.file == "-" {
-        return export_from(rt, alloc, wanted, schema, &mut Stream::new(input), output);
-    }
-    match File::open(rt, wanted.file) {
-        Ok(file) => export_from(rt, alloc, wanted, schema, &mut Stream::new(file), output),
+    let options = &wanted.options;
+    let mut explainer = Explainer::new(alloc, progress, names, options.explained, options.format);
+    let outcome = if wanted.file == "-" {
+        let file = Stream::new(input);
+        export_from(rt, alloc, wanted, progress, file, output, &mut explainer)
+    } else {
+        let file = Opened::new(rt, wanted.file);
+        export_from(rt, alloc, wanted, progress, file, output, &mut explainer)
+    };
+    *said = explainer.into_said();
+    outcome
+}
+
+/// Exports to where it is wanted.
+fn export_from<R, F, O, P>(
+    rt: &R,
+    alloc: Global,
+    wanted: &Wanted<'_>,
+    progress: &Progress<&R, P>,
+    file: F,
+    output: &mut O,
+    explainer: &mut Explainer<'_, &R, P>,
+) -> Outcome
+where
+    R: Files + Threads + Wait + Clock + Sync,
+    F: Source + LastError + Drop,
+    O: Write,
+    P: Write + Send + Drop,
+{
+    let mut fault = Vec::new(alloc);
+    let outcome = if wanted.json == "-" {
+        export_to(
+            rt,
+            alloc,
+            wanted,
+            progress,
+            file,
+            &mut *output,
+            &mut fault,
+            explainer,
+        )
+    } else if is_no_file(rt, wanted.json) {
+        match File::create(rt, wanted.json) {
+            Ok(onto) => export_to(
+                rt, alloc, wanted, progress, file, onto, &mut fault, explainer,
+            ),
+            Err(error) => refused(explainer, error),
+        }
+    } else {
+        match Beside::create(rt, alloc, wanted.json) {
+            Ok(beside) => {
+                export_beside(
+                    rt, alloc, wanted, progress, file, beside, &mut fault, explainer,
+                )
+            }
+            Err(error) => refused(explainer, error),
+        }
+    };
+    match output.write_all(fault.as_slice()) {
+        Ok(()) => outcome,
         Err(_) => Outcome::Device,
     }
 }
 
-/// Exports to the path that is wanted, or to the standard output.
-fn export_from<R: Files + Threads + Wait + Sync, S: Read + Drop, F: Source, O: Write>(
-    rt: &R,
-    alloc: Global,
-    wanted: &Wanted<'_>,
-    schema: S,
-    file: &mut F,
-    output: &mut O,
-) -> Outcome {
-    let mut schema = Stream::new(schema);
-    if wanted.json == "-" {
-        return export_to_output(rt, alloc, wanted, &mut schema, file, output);
-    }
-    if is_no_file(rt, wanted.json) {
-        return export_onto(rt, alloc, wanted, &mut schema, file, output);
-    }
-    match export_beside(rt, alloc, wanted, &mut schema, file, output) {
-        Ok(outcome) => outcome,
-        Err(outcome) => outcome,
-    }
+/// What a run ends with that cannot write where it is wanted.
+fn refused<R: Clock, P: Write>(explainer: &mut Explainer<'_, &R, P>, error: io::Error) -> Outcome {
+    let outcome = if error.kind() == io::ErrorKind::OutOfMemory {
+        Outcome::Memory
+    } else {
+        Outcome::Device
+    };
+    explainer.hear_end(outcome, [None, None, Some(error)]);
+    outcome
 }
 
 /// Whether something stands at the path that is no regular file, as a device or a pipe: nothing may take its place.
@@ -109,109 +197,77 @@ fn is_no_file<R: Files>(rt: &R, path: &str) -> bool {
     }
 }
 
-/// Exports onto what stands at the path that is wanted.
-fn export_onto<R: Files + Threads + Wait + Sync, S: Source, F: Source, O: Write>(
-    rt: &R,
-    alloc: Global,
-    wanted: &Wanted<'_>,
-    schema: &mut S,
-    file: &mut F,
-    output: &mut O,
-) -> Outcome {
-    let Ok(mut onto) = File::create(rt, wanted.json) else {
-        return Outcome::Device;
-    };
-    let mut fault = Vec::new(alloc);
-    let outcome = export(
-        rt,
-        alloc,
-        &how(rt, wanted),
-        schema,
-        file,
-        &mut Stream::new(&mut onto),
-        &mut Stream::new(&mut fault),
-        &mut Silent,
-    );
-    told(outcome, output, fault.as_slice())
-}
-
-/// How the file is read, by a key that nobody knows before.
-fn how<R: Files>(rt: &R, wanted: &Wanted<'_>) -> How<'static, OpenGate> {
-    How {
-        gate: &OpenGate,
-        lanes: wanted.lanes,
-        capacity: wanted.capacity,
-        rules: wanted.rules,
-        key: drawn_key(rt),
-    }
-}
-
-/// Exports to the standard output.
-fn export_to_output<R: Files + Threads + Wait + Sync, S: Source, F: Source, O: Write>(
-    rt: &R,
-    alloc: Global,
-    wanted: &Wanted<'_>,
-    schema: &mut S,
-    file: &mut F,
-    output: &mut O,
-) -> Outcome {
-    let mut fault = Vec::new(alloc);
-    let outcome = export(
-        rt,
-        alloc,
-        &how(rt, wanted),
-        schema,
-        file,
-        &mut Stream::new(&mut *output),
-        &mut Stream::new(&mut fault),
-        &mut Silent,
-    );
-    told(outcome, output, fault.as_slice())
-}
-
-/// The outcome of a run whose fault is told.
-fn told<O: Write>(outcome: Outcome, output: &mut O, fault: &[u8]) -> Outcome {
-    match output.write_all(fault) {
-        Ok(()) => outcome,
-        Err(_) => Outcome::Device,
-    }
-}
-
 /// Exports into a new file beside the path that is wanted, which takes its name when it is whole.
-fn export_beside<R: Files + Threads + Wait + Sync, S: Source, F: Source, O: Write>(
+fn export_beside<R, F, P>(
     rt: &R,
     alloc: Global,
     wanted: &Wanted<'_>,
-    schema: &mut S,
-    file: &mut F,
-    output: &mut O,
-) -> Result<Outcome, Outcome> {
-    let Ok(part) = format!(in alloc; "{}.part", wanted.json) else {
-        return Err(Outcome::Memory);
+    progress: &Progress<&R, P>,
+    file: F,
+    beside: Beside<'_, R>,
+    fault: &mut Vec<u8>,
+    explainer: &mut Explainer<'_, &R, P>,
+) -> Outcome
+where
+    R: Files + Threads + Wait + Clock + Sync,
+    F: Source + LastError + Drop,
+    P: Write + Send + Drop,
+{
+    let mut beside = beside;
+    let onto = beside.file();
+    let outcome = export_to(rt, alloc, wanted, progress, file, onto, fault, explainer);
+    if outcome != Outcome::Complete {
+        beside.remove();
+        return outcome;
+    }
+    match beside.take_place(wanted.json) {
+        Ok(()) => Outcome::Complete,
+        Err(error) => refused(explainer, error),
+    }
+}
+
+/// Exports onto what takes the bytes, and has the explainer hear the end.
+fn export_to<R, F, W, P>(
+    rt: &R,
+    alloc: Global,
+    wanted: &Wanted<'_>,
+    progress: &Progress<&R, P>,
+    file: F,
+    onto: W,
+    fault: &mut Vec<u8>,
+    explainer: &mut Explainer<'_, &R, P>,
+) -> Outcome
+where
+    R: Files + Threads + Wait + Clock + Sync,
+    F: Source + LastError + Drop,
+    W: Write + Drop,
+    P: Write + Send + Drop,
+{
+    let how = How {
+        gate: progress,
+        lanes: wanted.options.lanes,
+        capacity: wanted.options.capacity,
+        rules: wanted.options.rules,
+        key: drawn_key(rt),
     };
-    let Ok(mut beside) = File::create(rt, part.as_str()) else {
-        return Err(Outcome::Device);
-    };
-    let mut fault = Vec::new(alloc);
+    let mut schema = Opened::new(rt, wanted.schema);
+    let mut file = Watched::new(file, progress);
+    let mut out = Stream::new(onto);
+    let mut told = Stream::new(fault);
     let outcome = export(
         rt,
         alloc,
-        &how(rt, wanted),
-        schema,
-        file,
-        &mut Stream::new(&mut beside),
-        &mut Stream::new(&mut fault),
-        &mut Silent,
+        &how,
+        &mut schema,
+        &mut file,
+        &mut out,
+        &mut told,
+        explainer,
     );
-    if outcome == Outcome::Complete
-        && beside.sync_all().is_ok()
-        && fs::rename(rt, part.as_str(), wanted.json).is_ok()
-    {
-        return Ok(Outcome::Complete);
-    }
-    let _ = fs::remove_file(rt, part.as_str());
-    if outcome == Outcome::Complete {
-        return Err(Outcome::Device);
-    }
-    Ok(told(outcome, output, fault.as_slice()))
+    progress.remove();
+    explainer.hear_end(
+        outcome,
+        [schema.error(), file.source().error(), out.error()],
+    );
+    outcome
 }

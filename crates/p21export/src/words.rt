@@ -1,10 +1,8 @@
 //! The words of the command line.
 
 use clap::error::ErrorKind;
-use clap::{Arg, ArgAction, ArgMatches, Command, value_parser};
-use p21_desk::LaneCount;
-use p21_lanes::Capacity;
-use p21_schema::Rules;
+use clap::{Arg, ArgMatches, Command};
+use p21_report::{Options, options_of, with_lanes, with_rules, with_telling};
 use std::alloc::{AllocError, Global};
 
 /// What the words ask for.
@@ -16,9 +14,18 @@ pub(crate) struct Wanted<'a> {
     pub(crate) file: &'a str,
     /// The path of the JSON; `-` is the standard output.
     pub(crate) json: &'a str,
-    pub(crate) lanes: LaneCount,
-    pub(crate) capacity: Capacity,
-    pub(crate) rules: Rules,
+    pub(crate) options: Options,
+}
+
+impl Wanted<'_> {
+    /// How what is written to is told of.
+    pub(crate) fn out_name(&self) -> &str {
+        if self.json == "-" {
+            "standard output"
+        } else {
+            self.json
+        }
+    }
 }
 
 /// The version of the program.
@@ -58,13 +65,15 @@ impl From<clap::Error> for Refusal {
     }
 }
 
-/// What the words ask for; the first word is the program's own name.
+/// What the words ask for; the first word is the program's own name. Where standard error is a terminal, faults are explained unless the
+/// words say otherwise.
 pub(crate) fn what_is_wanted<'a>(
     alloc: Global,
     words: &'a [String],
+    is_terminal: bool,
 ) -> Result<Wanted<'a>, Refusal> {
     let matches = command(alloc)?.try_get_matches_from(words)?;
-    match wanted_by(&matches) {
+    match wanted_by(&matches, is_terminal) {
         Some(wanted) => Ok(wanted),
         None => Err(missing(alloc)?),
     }
@@ -80,16 +89,12 @@ fn missing(alloc: Global) -> Result<Refusal, AllocError> {
 }
 
 /// What is asked for, if the paths and the numbers are there.
-fn wanted_by<'a>(matches: &ArgMatches<'a>) -> Option<Wanted<'a>> {
+fn wanted_by<'a>(matches: &ArgMatches<'a>, is_terminal: bool) -> Option<Wanted<'a>> {
     Some(Wanted {
         schema: matches.get_str("SCHEMA")?,
         file: matches.get_str("FILE")?,
         json: matches.get_str("json")?,
-        lanes: matches.get_one("lanes").and_then(LaneCount::new)?,
-        capacity: matches.get_one("capacity").and_then(Capacity::new)?,
-        rules: Rules {
-            distinct: matches.get_flag("distinct"),
-        },
+        options: options_of(matches, is_terminal)?,
     })
 }
 
@@ -104,10 +109,8 @@ fn command<'a>(alloc: Global) -> Result<Command<'a>, AllocError> {
         .arg(schema(alloc))?
         .arg(file(alloc))?
         .arg(json(alloc))?;
-    command
-        .arg(lanes(alloc))?
-        .arg(capacity(alloc))?
-        .arg(distinct(alloc))
+    let command = with_rules(alloc, with_lanes(alloc, command)?)?;
+    with_telling(alloc, command)
 }
 
 fn schema<'a>(alloc: Global) -> Arg<'a> {
@@ -130,30 +133,4 @@ fn json<'a>(alloc: Global) -> Arg<'a> {
         .help(
             "where the model is written, a line for the header and one for each instance; - is standard output",
         )
-}
-
-fn lanes<'a>(alloc: Global) -> Arg<'a> {
-    number(alloc, "lanes")
-        .default_value("4")
-        .value_parser(value_parser!(u32).range(1..=64))
-        .help("number of worker threads, 1 to 64")
-}
-
-fn capacity<'a>(alloc: Global) -> Arg<'a> {
-    number(alloc, "capacity")
-        .default_value("256")
-        .value_parser(value_parser!(u32).range(1..=4096))
-        .help("most instances that wait for a worker thread, 1 to 4096")
-}
-
-fn distinct<'a>(alloc: Global) -> Arg<'a> {
-    Arg::new(alloc, "distinct")
-        .long("distinct")
-        .action(ArgAction::SetTrue)
-        .help("also report a SET or LIST OF UNIQUE that names an instance twice")
-}
-
-/// A word that a number follows.
-fn number<'a>(alloc: Global, name: &'a str) -> Arg<'a> {
-    Arg::new(alloc, name).long(name).value_name("N")
 }

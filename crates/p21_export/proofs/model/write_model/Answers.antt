@@ -14,10 +14,10 @@ use Rattle.p21_export.proofs.model.write_model.Goals as goal
 pub write_others-requires : goal.write_others-requires
 write_others-requires g c =
     let is = map plain_instance c.args.instances.now in
-    subst (λ (t : Schema). AllByRecursion (λ i. AreKnown t i.records) is) (sym c.in_ok-terms.ensures) (known_read c.args.schema.now c.args.file.now is c.requires.read)
+    (c.type_bounds.sync-R, subst (λ (t : Schema). AllByRecursion (λ i. AreKnown t i.records) is) (sym c.in_ok-terms.ensures) (known_read c.args.schema.now c.args.file.now is c.requires.read))
 
-pub returns : goal.returns
-returns g c =
+pub returns-clause-written : goal.returns-clause-written
+returns-clause-written g c =
     let s = c.args.schema.now in
     let t = c.in_ok-terms.terms in
     let q = c.in_ok-terms.ensures in
@@ -26,7 +26,7 @@ returns g c =
     let a = g.K.Sink.taken c.args.out.now in
     let m = g.K.Sink.taken c.write_first.new.out in
     let n = g.K.Sink.taken c.write_others.new.out in
-    let first = c.in_ok-write_first.ensures in
+    let first = c.in_ok-write_first.ensures.written in
     let header = subst (λ (x : Schema). IsLineOf x (IsHeaderParts o) first.0) q first.1.0 in
     on_ok_weaker c.write_others.result
     (λ (p : (others : List ℕ) × (AreLines t is others × Appends m n others)). (
@@ -46,4 +46,4 @@ returns g c =
         Appends-trans a m n first.0 p.0 first.1.1 p.1.1,
       ),
     ))
-    c.write_others.ensures
+    c.write_others.ensures.written

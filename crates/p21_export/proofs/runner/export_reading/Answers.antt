@@ -7,7 +7,8 @@ use Rattle.p21_reader.specs.Answer.{plain_answer}
 use Rattle.p21_reader.specs.Reading.{IsReading}
 use Rattle.p21_export.proofs.runner.export_reading.Goals as goal
 
-pub write_model-requires-clause-read : goal.write_model-requires-clause-read
-write_model-requires-clause-read g c =
+pub write_model-requires : goal.write_model-requires
+write_model-requires g c =
     let read = subst (λ (a : Result Model Fault). IsReading c.args.schema.now c.args.file.now (plain_answer a)) c.in-Ok.is c.requires.read in
-    subst (λ (is : List RawInstance). IsReading c.args.schema.now c.args.file.now (Ok (map plain_instance is))) (sym c.instances.ensures) read
+    let whole = subst (λ (is : List RawInstance). IsReading c.args.schema.now c.args.file.now (Ok (map plain_instance is))) (sym c.instances.ensures) read in
+    (c.type_bounds.sync-R, (c.requires.spelled, whole))

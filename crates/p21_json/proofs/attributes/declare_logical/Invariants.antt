@@ -8,4 +8,4 @@ use Rattle.p21_json.proofs.attributes.declare_logical.Given as goal
 -- a declaration that is such is among those that are left
 abbrev pub invariant-loop-declaration : goal.invariant-loop-declaration
 invariant-loop-declaration l =
-    (ds : List Declaration) → AreResolvedIn l.terms l.declarations ds → AnyIn ds (DeclaresLogical l.terms (plain_instance l.instance)) → AnyIn (drop l.declaration-index ds) (DeclaresLogical l.terms (plain_instance l.instance))
+    (ds : List Declaration) → AreResolvedIn l.terms l.declarations ds → AnyIn ds (DeclaresLogical l.terms (plain_instance l.instance) ds) → AnyIn (drop l.declaration-index ds) (DeclaresLogical l.terms (plain_instance l.instance) ds)

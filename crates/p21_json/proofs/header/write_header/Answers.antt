@@ -1,4 +1,4 @@
-use Rattle.std.proofs.Common.{◌≡◌, ◌++◌, ◌∷◌, [], List, ℕ, Vec, Global, drop, map, get_or, ap, subst, sym, refl, ◌∙◌}
+use Rattle.std.proofs.Common.{◌≡◌, ◌++◌, ◌∷◌, [], List, ℕ, Vec, Global, map, ap, subst, sym, refl, ◌∙◌}
 use Rattle.json.specs.Print.{print}
 use Rattle.p21_tree.specs.Views.{plain_entity, plain_preface}
 use Rattle.p21_json.specs.Header.{IsHeaderParts, header_parts}

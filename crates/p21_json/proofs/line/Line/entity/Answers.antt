@@ -1,4 +1,4 @@
-use Rattle.std.proofs.Common.{List, ℕ, map, refl, subst}
+use Rattle.std.proofs.Common.{List, refl, subst}
 use Rattle.json.specs.Token as json
 use Rattle.p21_tree.specs.declared.params.Param.{Param}
 use Rattle.p21_tree.specs.Plain.{plain_all}

@@ -1,11 +1,7 @@
-use Rattle.std.proofs.Common.{◌≡◌, ◌++◌, ◌∷◌, [], List, codes, refl, subst}
-use Rattle.std.proofs.lemmas.List.{append_assoc}
-use Rattle.std.proofs.lemmas.Result.{on_ok_weaker}
+use Rattle.std.proofs.Common.{codes, refl}
 use Rattle.json.specs.Token as json
 use Rattle.p21_tree.specs.Views.{plain_entity}
-use Rattle.p21_json.specs.Parts.{Part, exactly, label}
-use Rattle.p21_json.specs.Header.{header_parts}
-use Rattle.p21_json.specs.Written.{Adds}
+use Rattle.p21_json.specs.Parts.{exactly, label}
 use Rattle.p21_json.proofs.HeaderLemmas.{header_ends}
 use Rattle.p21_json.proofs.WrittenLemmas.{adds_last, adds_ok, adds_then}
 use Rattle.p21_json.proofs.line.Line.header.Goals as goal
