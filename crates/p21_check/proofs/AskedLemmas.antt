@@ -182,17 +182,16 @@ pub stepped : (s : Schema) (named : ℕ → Option Instance) (InSet : List ℕ �
 stepped s named InSet ds i p W first h b = best_iff s named (or_asked (AskedUpTo s InSet ds i p) (RefersCounting s InSet ds (get_or ds i no_declaration) p)) (AskedUpTo s InSet ds (i + 1) p) W first (up_to_more s InSet ds i p no_declaration h) b
 
 -- all declarations
-pub at_last : (s : Schema) (named : ℕ → Option Instance) (InSet : List ℕ → Type 0) (o : Origin) (cs : List CodedDeclaration) (ds : List Declaration) (i : ℕ) (p : Tree) (W : ℕ → Reference → Type 0) (first : Result (Unit {0}) Bad) → AreDeclarations s o ds → AreResolvedIn s cs ds → length cs ≤ i → Best s named (AskedUpTo s InSet ds i p) W first → FindsFirst s named (AskedBy s InSet o p) first
-at_last s named InSet o cs ds i p W first are all h b = finish first (best_iff s named (AskedUpTo s InSet ds i p) (AskedBy s InSet o p) W first same b) where
+pub up_to_last : (s : Schema) (InSet : List ℕ → Type 0) (o : Origin) (cs : List CodedDeclaration) (ds : List Declaration) (i : ℕ) (p : Tree) → AreDeclarations s o ds → AreResolvedIn s cs ds → length cs ≤ i → (k : ℕ) (r : Reference) → AskedUpTo s InSet ds i p k r ↔ AskedBy s InSet o p k r
+up_to_last s InSet o cs ds i p are all h k r = (
+  (λ a. let f = a.1.1 in record { declaration = a.0; counts = counts_there s InSet o ds are (subst (λ (xs : List Declaration). IsIn xs a.0) whole a.1.0) f.counts; refers = f.refers }),
+  (λ a. let f = counts_among s InSet o ds are a.counts in (a.declaration, (subst (λ (xs : List Declaration). IsIn xs a.declaration) (sym whole) f.0, record { counts = f.1; refers = a.refers }))),
+) where
   whole : take i ds ≡ ds
   whole = take_all i ds (subst (λ n. n ≤ i) (zip_length (IsResolvedDeclaration s) cs ds all) h)
 
-  same : (k : ℕ) (r : Reference) → AskedUpTo s InSet ds i p k r ↔ AskedBy s InSet o p k r
-  same k r = (
-    (λ a. let f = a.1.1 in record { declaration = a.0; counts = counts_there s InSet o ds are (subst (λ (xs : List Declaration). IsIn xs a.0) whole a.1.0) f.counts; refers = f.refers }),
-    (λ a. let f = counts_among s InSet o ds are a.counts in (a.declaration, (subst (λ (xs : List Declaration). IsIn xs a.declaration) (sym whole) f.0, record { counts = f.1; refers = a.refers }))),
-  )
-
+pub at_last : (s : Schema) (named : ℕ → Option Instance) (InSet : List ℕ → Type 0) (o : Origin) (cs : List CodedDeclaration) (ds : List Declaration) (i : ℕ) (p : Tree) (W : ℕ → Reference → Type 0) (first : Result (Unit {0}) Bad) → AreDeclarations s o ds → AreResolvedIn s cs ds → length cs ≤ i → Best s named (AskedUpTo s InSet ds i p) W first → FindsFirst s named (AskedBy s InSet o p) first
+at_last s named InSet o cs ds i p W first are all h b = finish first (best_iff s named (AskedUpTo s InSet ds i p) (AskedBy s InSet o p) W first (up_to_last s InSet o cs ds i p are all h) b) where
   finish : (first : Result (Unit {0}) Bad) → Best s named (AskedBy s InSet o p) W first → FindsFirst s named (AskedBy s InSet o p) first
   finish (Ok u) b = b.finds
   finish (Err e) b = b.finds.0

@@ -40,3 +40,4 @@ pub mod RepeatsLemmas
 pub mod ListsLemmas
 pub mod DistinctLemmas
 pub mod MarkLemmas
+pub mod ReferredLemmas

@@ -1,5 +1,5 @@
 -- A parameter as a plain tree, variant by variant.
-use Rattle.std.proofs.Common.{◌≡◌, ℕ, List, sym, ap, ◌∙◌, Vec, Box, Bor, Global}
+use Rattle.std.proofs.Common.{◌≡◌, ℕ, List, sym, ap, subst, ◌∙◌, Vec, Box, Bor, Global}
 use Rattle.p21_tree.specs.declared.params.Param.{Param, Param-F, out-Param, roll-Param, fold-roll-Param, roll-out-Param}
 use Rattle.p21_tree.specs.declared.params.Param.TheOpen as level
 use Rattle.p21_tree.specs.declared.params.Param.TheVariants.{Int, Real, Str, Enumeration, Binary, Ref, rolls-Int, rolls-Real, rolls-Str, rolls-Enumeration, rolls-Binary, rolls-Ref}
@@ -7,6 +7,7 @@ use Rattle.p21_tree.specs.declared.params.Param.TheViews.{Items, Typed, rolls-It
 use Rattle.p21_tree.specs.Tree.{Tree}
 use Rattle.p21_tree.specs.Tree as tree
 use Rattle.p21_tree.specs.Plain.{plain, plain_all, plain_level}
+use Rattle.p21_check.specs.References.{name_count}
 
 pub plain_int : {p : Param} (v : Bor (List ℕ)) → p ≡ Int v → plain p ≡ tree.int v.now
 plain_int {p} v e = ap plain e ∙ ap plain (sym (rolls-Int v)) ∙ fold-roll-Param Tree plain_level (level.Int v)
@@ -49,3 +50,15 @@ pub typed_param : (p : Param) (k : List ℕ) (t : Tree) → plain p ≡ tree.typ
 typed_param p k t e =
     let found = rolled_typed (out-Param p) k t (ap plain (roll-out-Param p) ∙ e) in
     (found.0, found.1, sym (roll-out-Param p) ∙ found.2)
+
+nameless_level : (l : Param-F Param) → ((n : ℕ) → ¬ (roll-Param l ≡ Ref n)) → ((v : Vec Param Global) → ¬ (roll-Param l ≡ Items v)) → ((k : Bor (List ℕ)) (q : Box Param Global) → ¬ (roll-Param l ≡ Typed k q)) → name_count (plain (roll-Param l)) ≡ 0
+nameless_level (level.Ref n) a b d = absurd (a n (rolls-Ref n))
+nameless_level (level.Items v) a b d = absurd (b v (rolls-Items v))
+nameless_level (level.Typed k q) a b d = absurd (d k q (rolls-Typed k q))
+nameless_level other a b d = ap name_count (fold-roll-Param Tree plain_level other)
+
+-- what is neither an instance name, nor a list, nor a typed parameter holds no instance name
+pub nameless : (p : Param) → ((n : ℕ) → ¬ (p ≡ Ref n)) → ((v : Vec Param Global) → ¬ (p ≡ Items v)) → ((k : Bor (List ℕ)) (q : Box Param Global) → ¬ (p ≡ Typed k q)) → name_count (plain p) ≡ 0
+nameless p a b d =
+    let same = roll-out-Param p in
+    subst (λ (q : Param). name_count (plain q) ≡ 0) same (nameless_level (out-Param p) (λ n e. a n (sym same ∙ e)) (λ v e. b v (sym same ∙ e)) (λ k q e. d k q (sym same ∙ e)))

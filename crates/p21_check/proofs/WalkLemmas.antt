@@ -33,7 +33,7 @@ mutual
   among_below (refers.here r) = let h = refers_below r in omega arith
   among_below (refers.behind r) = let h = among_below r in omega arith
 
-asks_below : (s : Schema) (w : Wanted) (p : Tree) (k : ℕ) (r : Reference) → Asks s w p k r → k < name_count p
+pub asks_below : (s : Schema) (w : Wanted) (p : Tree) (k : ℕ) (r : Reference) → Asks s w p k r → k < name_count p
 asks_below s asked.Nothing p k r a = elim a [ ]
 asks_below s (asked.Entity e) p k r a = rw (a.name, a.first) (omega arith)
 asks_below s (asked.Select t) p k r (inl a) = rw (a.name, a.first) (omega arith)
@@ -103,7 +103,7 @@ stopped s named v w t ts f h = record {
   before u rest j r less (asks.here a) = rest j r less a
   before u rest _ r less (asks.behind {place = k} a) = let b = below f.second h.asked_ in absurd (omega arith)
 
-empty_among : {s : Schema} {w : Wanted} {ts : Trees} {k : ℕ} {r : Reference} → AsksAmong s w ts k r → ts ≡ nil → ⊥
+pub empty_among : {s : Schema} {w : Wanted} {ts : Trees} {k : ℕ} {r : Reference} → AsksAmong s w ts k r → ts ≡ nil → ⊥
 empty_among (asks.here a) e = cc
 empty_among (asks.behind a) e = cc
 

@@ -19,3 +19,4 @@ pub mod Walk
 pub mod Lists
 pub mod Asked
 pub mod EntityOf
+pub mod Referred

@@ -93,7 +93,7 @@ fn against_each<J: NameJudge>(
 }
 
 /// What a declaration asks of references, where it counts, of an attribute that is not derived.
-fn asked_by<'s>(
+pub(crate) fn asked_by<'s>(
     schema: &'s Schema,
     set: &EntitySet<'_, '_>,
     declarations: &[Declaration],
@@ -113,7 +113,7 @@ fn asked_by<'s>(
 }
 
 /// What a declaration of this form asks of references: nothing in DERIVE.
-fn asked_by_form<'s>(schema: &'s Schema, form: &'s Form) -> Wanted<'s>
+pub(crate) fn asked_by_form<'s>(schema: &'s Schema, form: &'s Form) -> Wanted<'s>
     requires form { (f : DeclaredForm) × IsResolvedForm schema.now form.now f }
     ensures { (f : DeclaredForm) → IsResolvedForm schema.entry.now form.entry.now f → AsksByForm schema.entry.now f result }
 {

@@ -1,9 +1,10 @@
 //! Laws of the definitions: what each function ensures holds of every schema. A caller calls one to learn its law.
 
-ghost use Rattle.std.specs.Prelude.{ℕ, Option};
+ghost use Rattle.std.specs.Prelude.{ℕ, List, Option};
 ghost use Rattle.p21_express.specs.Schema.{Schema};
 ghost use Rattle.p21_tree.specs.Sentence.{Instance, Opening};
-ghost use Rattle.p21_check.specs.Laws.{HasOneHeaderFault, HasOneLocalFault, HasOneReferenceFault, PassesNoLocalFault, PassesNoReferenceFault};
+ghost use Rattle.p21_check.specs.Laws.{HasOneHeaderFault, HasOneLocalFault, HasOneReferenceFault, PassesNoLocalFault, PassesNoReferenceFault, PassesAnswered, RefusesUnanswered};
+ghost use Rattle.p21_check.specs.declared.referred.Reference.{Reference};
 
 use p21_text::items_are_unique;
 
@@ -30,4 +31,11 @@ pub fn one_reference_fault()
 pub fn fault_has_no_reading()
     ensures local { (s : Schema) → (i : Instance) → PassesNoLocalFault s i }
     ensures references { (s : Schema) → (named : ℕ → Option Instance) → (i : Instance) → PassesNoReferenceFault s named i }
+{}
+
+/// The references of an instance decide: where each is answered, they have no fault (`answered`), and where one is not, they have
+/// one (`unanswered`).
+pub fn references_decide()
+    ensures answered { (s : Schema) → (named : ℕ → Option Instance) → (i : Instance) → (rs : List Reference) → PassesAnswered s named i rs }
+    ensures unanswered { (s : Schema) → (named : ℕ → Option Instance) → (i : Instance) → (rs : List Reference) → RefusesUnanswered s named i rs }
 {}

@@ -18,6 +18,7 @@ mod marks;
 mod name_judge;
 mod records;
 mod references;
+mod referred;
 mod repeated_names;
 mod repeats;
 mod schema_name;
@@ -30,6 +31,9 @@ mod width;
 
 pub use entity_of::{EntityOf, Named, simple_entity};
 pub use header::check_header;
-pub use laws::{fault_has_no_reading, one_header_fault, one_local_fault, one_reference_fault};
+pub use laws::{
+    fault_has_no_reading, one_header_fault, one_local_fault, one_reference_fault, references_decide,
+};
 pub use local::{check_local, check_local_entity};
 pub use references::{TypeOf, check_references, check_references_among};
+pub use referred::{Reference, References, push_references};

@@ -7,4 +7,6 @@ mod header_tests;
 #[cfg(test)]
 mod many_records_tests;
 #[cfg(test)]
+mod referred_tests;
+#[cfg(test)]
 mod tables;

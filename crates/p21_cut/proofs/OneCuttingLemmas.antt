@@ -5,6 +5,7 @@ use Rattle.p21_text.specs.Separators.{IsComment}
 use Rattle.p21_text.specs.Spelling.{Spells, str}
 use Rattle.p21_text.specs.Tokens.{Passes}
 use Rattle.p21_text.specs.Laws.{HasOneString}
+use Rattle.p21_cut.specs.Laws.{HasOneNextAtMost}
 use Rattle.p21_cut.specs.Pieces.{BeginsWithByte, IsPlain, PartIs, PartsAre, HasNoPart, Piece, PieceIs, IsNext, PiecesAre}
 use Rattle.p21_cut.specs.Pieces as pieces
 
@@ -128,27 +129,34 @@ piece_begins : (text : List ℕ) (n : ℕ) → PieceIs text n → BeginsWithByte
 piece_begins text n (pieces.closed p s) = refl
 piece_begins text n (pieces.open_ p s none) = refl
 
+-- what comes next is one piece
+next_once : (file : List ℕ) (at number n m : ℕ) (p q : Piece) → ((k : ℕ) → HasOneString (drop k file)) → IsNext file at number p n → IsNext file at number q m → (p ≡ q) × (n ≡ m)
+next_once file at number _ _ _ _ one (pieces.made {gap = g} {len = a} p u) (pieces.made {gap = h} {len = b} q v) =
+    let same : g ≡ h = passes_once (drop at file) g h p q in
+    let here : PieceIs (drop (at + g) file) b = subst (λ j. PieceIs (drop (at + j) file) b) (sym same) v in
+    let len : a ≡ b = piece_once (drop (at + g) file) a b (strings_behind (at + g) file one) u here in (
+      ap (λ j. record { number = number; at = at + j; bytes = take a (drop (at + j) file) }) same ∙ ap (λ j. record { number = number; at = at + h; bytes = take j (drop (at + h) file) }) len,
+      omega (arith, same, len),
+    )
+
+-- no piece comes next where the tail begins
+no_next : (file : List ℕ) (at number end n : ℕ) (p : Piece) → PiecesAre file at number [] end → IsNext file at number p n → ⊥
+no_next file at number end n p (pieces.tail {gap = g} r s) (pieces.made {gap = h} {len = len} q u) =
+    let same : g ≡ h = passes_once (drop at file) g h r q in
+    s (subst (λ j. BeginsWithByte 35 (drop (at + j) file)) (sym same) (piece_begins (drop (at + h) file) len u))
+
+pub one_next : (file : List ℕ) (at : ℕ) → ((k : ℕ) → HasOneString (drop k file)) → HasOneNextAtMost file at
+one_next file at one number p n next = (λ q m other. next_once file at number n m p q one next other, λ end tail. no_next file at number end n p tail next)
+
 pub pieces_once : (file : List ℕ) (at number : ℕ) (ps qs : List Piece) (end other : ℕ) → ((k : ℕ) → HasOneString (drop k file)) → PiecesAre file at number ps end → PiecesAre file at number qs other → (ps ≡ qs) × (end ≡ other)
 pieces_once file at number ps qs end other one (pieces.tail {gap = g} p s) (pieces.tail {gap = h} q t) =
     let same : g ≡ h = passes_once (drop at file) g h p q in (refl, ap (λ j. at + j) same)
-pieces_once file at number ps qs end other one (pieces.tail {gap = g} p s) (pieces.piece (pieces.made {gap = h} {len = len} q u) more) =
-    let same : g ≡ h = passes_once (drop at file) g h p q in
-    absurd (s (subst (λ j. BeginsWithByte 35 (drop (at + j) file)) (sym same) (piece_begins (drop (at + h) file) len u)))
-pieces_once file at number ps qs end other one (pieces.piece (pieces.made {gap = g} {len = len} p u) more) (pieces.tail {gap = h} q t) =
-    let same : g ≡ h = passes_once (drop at file) g h p q in
-    absurd (t (subst (λ j. BeginsWithByte 35 (drop (at + j) file)) same (piece_begins (drop (at + g) file) len u)))
-pieces_once file at number ps qs end other one (pieces.piece {others = xs} (pieces.made {gap = g} {len = a} p u) more) (pieces.piece {others = ys} (pieces.made {gap = h} {len = b} q v) rest) =
-    let same : g ≡ h = passes_once (drop at file) g h p q in
-    let here : PieceIs (drop (at + g) file) b = subst (λ j. PieceIs (drop (at + j) file) b) (sym same) v in
-    let len : a ≡ b = piece_once (drop (at + g) file) a b (strings_behind (at + g) file one) u here in
-    let place : at + h + b ≡ at + g + a = omega (arith, same, len) in
-    let behind : PiecesAre file (at + g + a) (number + 1) ys other = subst (λ j. PiecesAre file j (number + 1) ys other) place rest in
-    let left : (xs ≡ ys) × (end ≡ other) = pieces_once file (at + g + a) (number + 1) xs ys end other one more behind in
-    let first : Piece = record { number = number; at = at + g; bytes = take a (drop (at + g) file) } in
-    let second : Piece = record { number = number; at = at + h; bytes = take b (drop (at + h) file) } in
-    let piece : first ≡ second = ap (λ j. record { number = number; at = at + j; bytes = take a (drop (at + j) file) }) same ∙ ap (λ j. record { number = number; at = at + h; bytes = take j (drop (at + h) file) }) len in
-    let tail : xs ≡ ys = left.0 in
-    (cc, left.1)
+pieces_once file at number ps qs end other one (pieces.tail p s) (pieces.piece {next = n} {p = q} next more) = absurd (no_next file at number end n q (pieces.tail p s) next)
+pieces_once file at number ps qs end other one (pieces.piece {next = n} {p = p} next more) (pieces.tail q t) = absurd (no_next file at number other n p (pieces.tail q t) next)
+pieces_once file at number ps qs end other one (pieces.piece {next = n} {p = p} {others = xs} next more) (pieces.piece {next = m} {p = q} {others = ys} here rest) =
+    let same = next_once file at number n m p q one next here in
+    let left = pieces_once file n (number + 1) xs ys end other one more (subst (λ j. PiecesAre file j (number + 1) ys other) (sym same.1) rest) in
+    (ap (λ x. x ∷ xs) same.0 ∙ ap (λ l. q ∷ l) left.0, left.1)
 
 -- ---- numbers
 

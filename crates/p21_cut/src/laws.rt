@@ -1,7 +1,7 @@
 //! Laws of the definitions: what each function ensures holds of every file. A caller calls one to learn its law.
 
 ghost use Rattle.std.specs.Prelude.{◌≤◌, ℕ, List, length};
-ghost use Rattle.p21_cut.specs.Laws.{HasOneCutting, HasOneCuttingAtMost};
+ghost use Rattle.p21_cut.specs.Laws.{HasOneCutting, HasOneCuttingAtMost, HasOneNextAtMost};
 ghost use Rattle.p21_cut.specs.Tokens.{FileTokensAreOfPiece, FileTokensAreOfTail, PartsHoldTokens, PieceBeginsWithName, PieceTokensAreOfFile, PiecesHoldTokens, TailTokensAreOfFile};
 
 use crate::cutter::{Cut, Cutter};
@@ -22,9 +22,11 @@ pub fn one_cutting(file: &[u8], at: usize)
     }
 }
 
-/// From each place of a file on there is at most one list of pieces, and one tail.
+/// From each place of a file on there is at most one list of pieces, and one tail; and one piece at most comes next, and none where the
+/// tail begins.
 pub fn pieces_are_unique()
-    ensures { (file : List ℕ) → (at : ℕ) → HasOneCuttingAtMost file at }
+    ensures all { (file : List ℕ) → (at : ℕ) → HasOneCuttingAtMost file at }
+    ensures next { (file : List ℕ) → (at : ℕ) → HasOneNextAtMost file at }
 {
     one_string();
 }

@@ -1,4 +1,4 @@
-pub mod TableLemmas
+pub mod PlaceLemmas
 pub mod NameLemmas
 pub mod FindLemmas
 pub mod EntityLemmas

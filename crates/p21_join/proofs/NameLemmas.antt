@@ -5,8 +5,8 @@ use Rattle.std.specs.Option.{IsSome}
 use Rattle.std.proofs.lemmas.Bool.{false≢true}
 use Rattle.std.proofs.lemmas.List.{get_or-map, get_or_default, length-map}
 use Rattle.p21_tree.specs.declared.instances.RawInstance.{RawInstance}
-use Rattle.p21_join.specs.declared.names.NameTable.{NameTable}
-use Rattle.p21_join.specs.NameTable.{place_of}
+use Rattle.p21_join.specs.declared.instance_places.InstancePlaces.{InstancePlaces}
+use Rattle.p21_join.specs.InstancePlaces.{place_of}
 use Rattle.p21_join.specs.Names.{HasPlacesOf, IsPosition}
 use Rattle.p21_join.specs.Joined.{IsNamedIn}
 
@@ -19,7 +19,7 @@ named_at : (is : List RawInstance) (name : ℕ) (place : Option ℕ) → IsPosit
 named_at is name None h some = absurd (false≢true some)
 named_at is name (Some k) h some = let at = stands_there is k h.0 in (at.0, (k, h.0, at.1), ap (λ (x : RawInstance). x.name) (sym at.1) ∙ h.1 at.0)
 
-pub is_named : (t : NameTable) (is : List RawInstance) (i : RawInstance) → HasPlacesOf t is → IsSome (place_of t i.name) → IsNamedIn is i
+pub is_named : (t : InstancePlaces) (is : List RawInstance) (i : RawInstance) → HasPlacesOf t is → IsSome (place_of t i.name) → IsNamedIn is i
 is_named t is i placed some = named_at is i.name (place_of t i.name) (placed i.name) some
 
 -- the instance at the place of a name has the name
@@ -42,7 +42,7 @@ position_named is name None h there =
 position_named is name (Some k) h there = refl
 
 -- a table has places for the names of the instances alone
-pub names_of_places : (t : NameTable) (is : List RawInstance) → HasPlacesOf t is → (name : ℕ) → IsSome (place_of t name) ↔ Contains (map (λ (x : RawInstance). x.name) is) name
+pub names_of_places : (t : InstancePlaces) (is : List RawInstance) → HasPlacesOf t is → (name : ℕ) → IsSome (place_of t name) ↔ Contains (map (λ (x : RawInstance). x.name) is) name
 names_of_places t is placed name = (
   (λ some. let r = named_at is name (place_of t name) (placed name) some in subst (Contains (map (λ (x : RawInstance). x.name) is)) r.2 (contains_named is r.0 r.1)),
   (λ there. position_named is name (place_of t name) (placed name) there),

@@ -2,7 +2,7 @@
 use Rattle.std.specs.Prelude.{◌≡◌, ℕ, ◌↔◌, ◌⊎◌, Bool, true, false, Result, Ok, Err, IsSome}
 use Rattle.std.specs.declared.alloc.AllocError.{AllocError}
 use Rattle.p21_join.specs.declared.instance_names.InstanceNames.{InstanceNames}
-use Rattle.p21_join.specs.NameTable.{place_of}
+use Rattle.p21_join.specs.InstancePlaces.{place_of}
 
 -- a name is one of the names
 abbrev pub IsAmong : InstanceNames → ℕ → Type 0

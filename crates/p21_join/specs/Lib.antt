@@ -1,4 +1,4 @@
-pub mod NameTable
+pub mod InstancePlaces
 pub mod Names
 pub mod Model
 pub mod Joined

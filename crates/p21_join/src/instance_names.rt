@@ -1,17 +1,20 @@
 //! The names of instances, without the instances.
 
-ghost use Rattle.std.specs.Prelude.{ℕ, ◌↔◌, Contains, map};
+ghost use Rattle.std.specs.Prelude.{ℕ, ◌↔◌, List, Contains, IsSome, map};
+ghost use Rattle.p21_tree.specs.declared.instances.RawInstance.{RawInstance};
+ghost use Rattle.p21_join.specs.InstancePlaces.{place_of};
+ghost use Rattle.p21_join.specs.Names.{HasPlacesOf};
 ghost use Rattle.p21_join.specs.Joined.{joined};
 
+use crate::instance_places::InstancePlaces;
 use crate::joiner::Joiner;
-use crate::names::NameTable;
 use p21_hash::HashKey;
 use std::alloc::{AllocError, Global};
 
 /// The names of some instances, each once.
 #[derive(Drop)]
 pub struct InstanceNames {
-    table: NameTable,
+    table: InstancePlaces,
 }
 
 impl InstanceNames {
@@ -30,7 +33,7 @@ impl InstanceNames {
         ensures { (name : ℕ) → ¬ (IsAmong result name) }
     {
         InstanceNames {
-            table: NameTable::with_hasher(alloc, key.instance_names()),
+            table: InstancePlaces::with_key(alloc, key),
         }
     }
 
@@ -38,9 +41,15 @@ impl InstanceNames {
     pub fn of(joiner: Joiner<'_>) -> InstanceNames
         ensures { (name : ℕ) → IsAmong result name ↔ Contains (map (λ i. i.name) (joined joiner.entry)) name }
     {
-        InstanceNames {
-            table: joiner.into_places(),
-        }
+        InstanceNames::of_places(joiner.into_places())
+    }
+
+    /// The names that have a place. This takes no memory.
+    pub fn of_places(places: InstancePlaces) -> InstanceNames
+        ensures places { (name : ℕ) → IsAmong result name ↔ IsSome (place_of places name) }
+        ensures instances { (is : List RawInstance) → HasPlacesOf places is → (name : ℕ) → IsAmong result name ↔ Contains (map (λ i. i.name) is) name }
+    {
+        InstanceNames { table: places }
     }
 
     /// Adds a name to the others, where it is new; the answer is whether it is. It is refused for want of memory alone, and then

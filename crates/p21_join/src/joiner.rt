@@ -3,8 +3,8 @@
 ghost use Rattle.std.specs.Prelude.{◌≡◌, []};
 ghost use Rattle.p21_join.specs.Names.{HasPlacesOf, HasPlacesOf-prop, HaveOwnNames};
 
+use crate::instance_places::InstancePlaces;
 use crate::model::Model;
-use crate::names::NameTable;
 use p21_hash::HashKey;
 use p21_tree::RawInstance;
 use std::alloc::Global;
@@ -14,7 +14,7 @@ use std::alloc::Global;
 pub struct Joiner<'a> {
     instances: Vec<RawInstance<'a>>,
     /// The place of each instance, by its name.
-    places: NameTable,
+    places: InstancePlaces,
     ghost placed: { HasPlacesOf places instances.items } by { HasPlacesOf-prop places instances.items },
     ghost own_names: { HaveOwnNames instances.items },
 }
@@ -46,7 +46,7 @@ impl<'a> Joiner<'a> {
     {
         Joiner {
             instances: Vec::new(alloc),
-            places: NameTable::with_hasher(alloc, key.instance_names()),
+            places: InstancePlaces::with_key(alloc, key),
         }
     }
 
@@ -80,7 +80,7 @@ impl<'a> Joiner<'a> {
     }
 
     /// The places of all that was joined, by their names. The instances are let go.
-    pub(crate) fn into_places(self) -> NameTable
+    pub(crate) fn into_places(self) -> InstancePlaces
         ensures { HasPlacesOf result (joined self.entry) }
     {
         self.places

@@ -3,11 +3,12 @@
 
 mod entities;
 mod instance_names;
+mod instance_places;
 mod joiner;
 mod model;
-mod names;
 
 pub use entities::{EntityView, ModelEntities};
 pub use instance_names::InstanceNames;
+pub use instance_places::InstancePlaces;
 pub use joiner::{JoinError, Joiner};
 pub use model::Model;

@@ -3,7 +3,7 @@
 ghost use Rattle.std.specs.Prelude.{◌≡◌, ◌<◌, ◌↔◌, IsTrue, length, get_or};
 ghost use Rattle.p21_join.specs.Names.{HasPlacesOf, HasPlacesOf-prop, HaveOwnNames};
 
-use crate::names::NameTable;
+use crate::instance_places::InstancePlaces;
 use p21_check::TypeOf;
 use p21_tree::RawInstance;
 
@@ -12,7 +12,7 @@ use p21_tree::RawInstance;
 pub struct Model<'a> {
     instances: Vec<RawInstance<'a>>,
     /// The place of each instance, by its name.
-    places: NameTable,
+    places: InstancePlaces,
     ghost placed: { HasPlacesOf places instances.items } by { HasPlacesOf-prop places instances.items },
     /// No two instances have one name.
     pub ghost own_names: { HaveOwnNames instances.items },
@@ -22,7 +22,7 @@ impl<'a> Model<'a> {
     ghost use Rattle.p21_join.specs.Model.{instances_of, Finds};
     ghost use Rattle.p21_join.specs.Names.{IsPosition};
 
-    pub(crate) fn of(instances: Vec<RawInstance<'a>>, places: NameTable) -> Model<'a>
+    pub(crate) fn of(instances: Vec<RawInstance<'a>>, places: InstancePlaces) -> Model<'a>
         requires placed { HasPlacesOf places instances.items }
         requires own_names { HaveOwnNames instances.items }
         ensures { instances_of result ≡ instances.entry.items }

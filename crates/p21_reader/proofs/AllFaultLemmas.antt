@@ -21,7 +21,7 @@ use Rattle.p21_reader.specs.Reading as reading
 use Rattle.p21_reader.specs.AllFaults.{AreFaultsOf, AreInstanceFaults, AreAllFaults}
 use Rattle.p21_reader.specs.AllFaults as faults
 use Rattle.p21_reader.specs.Laws.{HasOneReadingAtMost}
-use Rattle.p21_reader.specs.AllLaws.{BeginWithAnswer, AllFaultsBeginWithReading}
+use Rattle.p21_reader.specs.AllLaws.{BeginAReading, BeginWithAnswer, AllFaultsBeginWithReading, AllFaultsGiveReading}
 use Rattle.p21_reader.proofs.FrontLemmas.{OneFirst, up_to_split, all_of_file}
 
 -- References.
@@ -162,22 +162,17 @@ local_first s file o is place f rest begins header h =
 
 -- The law.
 
-record Told (s : Schema) (file : List ℕ) (fs : List Fault) : Type 0 where
-  answer : Result (List Instance) Fault
-  is_reading : IsReading s file answer
-  begins : BeginWithAnswer fs answer
-
-told_grammar : (s : Schema) (file : List ℕ) (o : Opening) (is : List Instance) (fs : List Fault) (f : Fault) → FileStopsBehind file o is f → IsHeaderFault s o None → AreInstanceFaults s is fs → Told s file (fs ++ f ∷ [])
+told_grammar : (s : Schema) (file : List ℕ) (o : Opening) (is : List Instance) (fs : List Fault) (f : Fault) → FileStopsBehind file o is f → IsHeaderFault s o None → AreInstanceFaults s is fs → BeginAReading s file (fs ++ f ∷ [])
 told_grammar s file o is [] f stops header h = record { answer = Err f; is_reading = reading.local (local.behind_instances stops header (have_none s is [] h refl)); begins = refl }
 told_grammar s file o is (g ∷ fs) f stops header h =
     let b = begins_stop file o is f stops in
     record { answer = Err g; is_reading = reading.local (local_first s file o is b.0 g fs b.1 header h); begins = refl }
 
-told_references : (s : Schema) (file : List ℕ) (is : List Instance) (fs : List Fault) → HasNoLocalFault s file is → AreReferenceFaults s is is fs → Told s file fs
+told_references : (s : Schema) (file : List ℕ) (is : List Instance) (fs : List Fault) → HasNoLocalFault s file is → AreReferenceFaults s is is fs → BeginAReading s file fs
 told_references s file is [] w h = record { answer = Ok is; is_reading = reading.read w (none_answered s is is [] h refl); begins = tt }
 told_references s file is (f ∷ fs) w h = record { answer = Err f; is_reading = reading.reference w (first_reference_fault s is f fs h); begins = refl }
 
-told : OneFirst → (s : Schema) (file : List ℕ) (fs : List Fault) → AreAllFaults s file fs → Told s file fs
+pub told : OneFirst → (s : Schema) (file : List ℕ) → AllFaultsGiveReading s file
 told one s file _ (faults.before_instances {f} h) = record { answer = Err f; is_reading = reading.local (local.in_opening h); begins = refl }
 told one s file _ (faults.up_to_grammar {o} {is} {fs} {f} stops header h) = told_grammar s file o is fs f stops header h
 told one s file _ (faults.of_instances {o} {is} {f} {fs} whole header h) =

@@ -29,6 +29,16 @@ BeginWithAnswer (f ∷ fs) (Err g) = g ≡ f
 abbrev pub AllFaultsBeginWithReading : Schema → List ℕ → Type 0
 AllFaultsBeginWithReading s file = (fs : List Fault) (answer : Result (List Instance) Fault) → AreAllFaults s file fs → IsReading s file answer → BeginWithAnswer fs answer
 
+-- the file has a reading that these faults begin with
+pub record BeginAReading (s : Schema) (file : List ℕ) (fs : List Fault) : Type 0 where
+  pub answer : Result (List Instance) Fault
+  pub is_reading : IsReading s file answer
+  pub begins : BeginWithAnswer fs answer
+
+-- Where a file has a list of all faults, it has a reading, with which they begin.
+abbrev pub AllFaultsGiveReading : Schema → List ℕ → Type 0
+AllFaultsGiveReading s file = (fs : List Fault) → AreAllFaults s file fs → BeginAReading s file fs
+
 -- Behind a preface whose header has no fault, the answer with all faults to what the pieces of a file are by themselves is that of
 -- the file.
 abbrev pub ValuesGiveAllFaults : Schema → List ℕ → Type 0

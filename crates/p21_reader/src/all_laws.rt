@@ -2,7 +2,7 @@
 
 ghost use Rattle.std.specs.Prelude.{ℕ, List};
 ghost use Rattle.p21_express.specs.Schema.{Schema};
-ghost use Rattle.p21_reader.specs.AllLaws.{AllFaultsBeginWithReading, HasOneListOfFaultsAtMost, ValuesGiveAllFaults};
+ghost use Rattle.p21_reader.specs.AllLaws.{AllFaultsBeginWithReading, AllFaultsGiveReading, HasOneListOfFaultsAtMost, ValuesGiveAllFaults};
 
 use crate::laws::one_reading;
 use p21_check::{one_header_fault, one_local_fault, one_reference_fault};
@@ -25,9 +25,11 @@ pub fn one_list_of_faults()
     one_reference_fault();
 }
 
-/// A file has no fault of all exactly where its reading is a model, and else the first of all is the fault of its reading.
+/// A file has no fault of all exactly where its reading is a model, and else the first of all is the fault of its reading. Where it
+/// has a list of all faults, it has such a reading.
 pub fn all_begin_with_reading()
-    ensures { (s : Schema) → (file : List ℕ) → AllFaultsBeginWithReading s file }
+    ensures begin { (s : Schema) → (file : List ℕ) → AllFaultsBeginWithReading s file }
+    ensures reading { (s : Schema) → (file : List ℕ) → AllFaultsGiveReading s file }
 {
     first_is_unique();
     one_reading();

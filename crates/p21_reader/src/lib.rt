@@ -25,6 +25,8 @@ pub use laws::{
     one_list_of_pieces, one_reading, pieces_are_instances, pieces_in_order, values_give_reading,
 };
 pub use pieces::Pieces;
+pub use preface::checked_preface;
 pub use reading::{ReadError, Reading};
 pub use run::{Run, run_lanes};
 pub use serial::read_serial;
+pub use stop::Stop;

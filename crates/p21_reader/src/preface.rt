@@ -38,8 +38,9 @@ pub(crate) fn local_model<'a>(
     Ok((joiner.into_model(), entities))
 }
 
-/// The preface of a file, whose header section is that of a file of the schema.
-pub(crate) fn checked_preface<'a>(
+/// The preface of a file, whose header section is that of a file of the schema; else the fault that stands before the instances. Memory
+/// alone can be refused beside it.
+pub fn checked_preface<'a>(
     alloc: Global,
     schema: &Schema,
     file: &'a [u8],

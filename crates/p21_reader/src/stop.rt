@@ -3,8 +3,9 @@
 use p21_tree::{Fault, TreeError};
 use std::alloc::{AllocError, AllocFailed};
 
-/// Why a file gave no model.
-pub(crate) enum Stop {
+/// Why a file, or its beginning, was not read to its end.
+#[derive(Debug, Drop)]
+pub enum Stop {
     /// Its first fault.
     Fault(Fault),
     /// There was no memory left.

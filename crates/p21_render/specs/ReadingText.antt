@@ -3,7 +3,7 @@ use Rattle.std.specs.Prelude.{◌≡◌, ℕ, List, ◌∷◌, ◌++◌, codes, 
 use Rattle.p21_express.specs.Schema.{Schema}
 use Rattle.p21_tree.specs.Sentence.{Instance}
 use Rattle.p21_tree.specs.declared.faults.Fault.{Fault}
-use Rattle.p21_render.specs.Counts.{IsCounts}
+use Rattle.p21_counts.specs.Counts.{IsCounts}
 use Rattle.p21_render.specs.FaultLine.{fault_lines, fault_text}
 
 -- The line `schema NAME`, and the counts of the instances.

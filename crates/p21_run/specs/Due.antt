@@ -22,6 +22,11 @@ abbrev pub outcome_of : {F : Type 0} → Result (List Instance) F → Outcome
 outcome_of (Ok is) = outcome.Complete
 outcome_of (Err fault) = outcome.Faulty
 
+-- the same by any answer that tells a model or a fault
+abbrev pub IsOutcomeOf : {C F : Type 0} → Result C F → Outcome → Type 0
+IsOutcomeOf (Ok told) o = o ≡ outcome.Complete
+IsOutcomeOf (Err told) o = o ≡ outcome.Faulty
+
 -- The text is the report of the file's reading against the schema, and the outcome is that of this reading.
 pub record IsReportOf (s : Schema) (file : List ℕ) (o : Outcome) (text : List ℕ) : Type 0 where
   pub answer : Result (List Instance) Fault

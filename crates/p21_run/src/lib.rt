@@ -1,6 +1,7 @@
 //! A run over any readers and writers: a schema and a file are read, and the report is written.
 #![tactic(auto)]
 
+mod check_text;
 mod input;
 mod listener;
 mod outcome;

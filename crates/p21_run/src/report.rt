@@ -1,22 +1,20 @@
 //! What is to be written of a file, or of a schema that is refused.
 
 ghost use Rattle.std.specs.Prelude.{◌≡◌, Some, IfOk};
-ghost use Rattle.p21_run.specs.Due.{IsFullReportOf, IsReport, IsReportOf, outcome_of};
-ghost use Rattle.p21_reader.specs.AllAnswer.{plain_all};
-ghost use Rattle.p21_reader.specs.Answer.{plain_answer};
-ghost use Rattle.p21_render.specs.ReadingText.{IsAllText, IsReadingText};
+ghost use Rattle.p21_run.specs.Due.{IsFullReportOf, IsOutcomeOf, IsReport, IsReportOf};
 ghost use Rattle.p21_render.specs.SchemaFaultLine.{schema_fault_text};
 ghost use Rattle.p21_run.specs.declared.outcome.Outcome.TheVariants.{SchemaRefused};
 
+use crate::check_text::{render_check, render_check_all};
 use crate::listener::Listener;
 use crate::outcome::Outcome;
+use p21_checker::{check_all_faults, check_lanes};
 use p21_crew::Gate;
 use p21_desk::LaneCount;
 use p21_express::SchemaError;
 use p21_hash::HashKey;
 use p21_lanes::Capacity;
-use p21_reader::{AllFaults, ReadError, Reading, read_all_faults, read_lanes};
-use p21_render::{render_all_by_threads, render_by_threads, schema_fault_line};
+use p21_render::schema_fault_line;
 use p21_schema::Schema;
 use std::alloc::{AllocError, Global};
 use std::slice;
@@ -70,16 +68,18 @@ fn full_report_of_file<R: Threads + Wait + Sync, G: Gate + Sync, L: Listener>(
 ) -> Result<Report, AllocError>
     ensures { IfOk result (λ report. IsFullReportOf schema.now file.now report.outcome report.text.items) }
 {
-    match read_all_faults(rt, alloc, schema, by.gate, file, by.lanes, by.capacity) {
-        Ok(all) => {
-            listener.hear_checked();
-            hear_all(listener, schema, file, &all);
-            let report = report_of_all(rt, alloc, schema, &all)?;
-            listener.let_go(all);
-            Ok(report)
-        }
-        Err(ReadError::Memory) => Err(AllocError),
+    let Ok(mut check) = check_all_faults(rt, alloc, schema, by.gate, file, by.lanes, by.capacity)
+    else {
+        return Err(AllocError);
+    };
+    listener.hear_checked();
+    if let Err(faults) = &check.answer {
+        listener.hear(schema, file, faults.as_slice());
     }
+    let outcome = outcome(&check.answer);
+    let text = render_check_all(alloc, schema, &mut check.answer)?;
+    listener.let_go(check);
+    Ok(Report { outcome, text })
 }
 
 /// The report of a file with its first fault alone.
@@ -93,77 +93,24 @@ fn first_report_of_file<R: Threads + Wait + Sync, G: Gate + Sync, L: Listener>(
 ) -> Result<Report, AllocError>
     ensures { IfOk result (λ report. IsReportOf schema.now file.now report.outcome report.text.items) }
 {
-    match read_lanes(rt, alloc, schema, by.gate, file, by.lanes, by.capacity) {
-        Ok(reading) => {
-            listener.hear_checked();
-            hear_reading(listener, schema, file, &reading);
-            let report = report_of_reading(rt, alloc, schema, &reading)?;
-            listener.let_go(reading);
-            Ok(report)
-        }
-        Err(ReadError::Memory) => Err(AllocError),
-    }
-}
-
-/// The report of a reading that tells all faults. Memory alone can fail.
-fn report_of_all<R: Threads + Sync>(
-    rt: &R,
-    alloc: Global,
-    schema: &Schema,
-    all: &AllFaults<'_>,
-) -> Result<Report, AllocError>
-    ensures outcome { IfOk result (λ report. report.outcome ≡ outcome_of (plain_all all.now.answer)) }
-    ensures text { IfOk result (λ report. IsAllText schema.now (plain_all all.now.answer) report.text.items) }
-{
-    let outcome = match &all.answer {
-        Ok(_) => Outcome::Complete,
-        Err(_) => Outcome::Faulty,
+    let Ok(mut check) = check_lanes(rt, alloc, schema, by.gate, file, by.lanes, by.capacity) else {
+        return Err(AllocError);
     };
-    let text = render_all_by_threads(rt, alloc, schema, all)?;
+    listener.hear_checked();
+    if let Err(fault) = &check.answer {
+        listener.hear(schema, file, slice::from_ref(fault));
+    }
+    let outcome = outcome(&check.answer);
+    let text = render_check(alloc, schema, &mut check.answer)?;
+    listener.let_go(check);
     Ok(Report { outcome, text })
 }
 
-/// Has the faults of a reading heard, where it has some.
-fn hear_all<L: Listener>(listener: &mut L, schema: &Schema, file: &[u8], all: &AllFaults<'_>) {
-    if let Err(faults) = &all.answer {
-        listener.hear(schema, file, faults.as_slice());
-    }
-}
-
-/// Has the fault of a reading heard, where it has one.
-fn hear_reading<L: Listener>(
-    listener: &mut L,
-    schema: &Schema,
-    file: &[u8],
-    reading: &Reading<'_>,
-) {
-    if let Err(fault) = &reading.answer {
-        listener.hear(schema, file, slice::from_ref(fault));
-    }
-}
-
-/// The report of a reading. Memory alone can fail.
-fn report_of_reading<R: Threads + Sync>(
-    rt: &R,
-    alloc: Global,
-    schema: &Schema,
-    reading: &Reading<'_>,
-) -> Result<Report, AllocError>
-    ensures outcome { IfOk result (λ report. report.outcome ≡ outcome_of (plain_answer reading.now.answer)) }
-    ensures text { IfOk result (λ report. IsReadingText schema.now (plain_answer reading.now.answer) report.text.items) }
+/// How a run ends over a file of which a check gave this answer.
+fn outcome<C, F>(answer: &Result<C, F>) -> Outcome
+    ensures { IsOutcomeOf answer.now result }
 {
-    let text = render_by_threads(rt, alloc, schema, reading)?;
-    Ok(Report {
-        outcome: outcome(reading),
-        text,
-    })
-}
-
-/// How a run ends whose file has this reading.
-fn outcome(reading: &Reading<'_>) -> Outcome
-    ensures { result ≡ outcome_of (plain_answer reading.now.answer) }
-{
-    match &reading.answer {
+    match answer {
         Ok(_) => Outcome::Complete,
         Err(_) => Outcome::Faulty,
     }

@@ -1,6 +1,6 @@
 //! A schema as a table.
 
-ghost use Rattle.std.specs.Prelude.{◌≡◌, ◌<◌, ◌↔◌, List, Some, length, slice_get, IfOk, IsTrue, MatchOption};
+ghost use Rattle.std.specs.Prelude.{◌≡◌, ◌<◌, ◌≤◌, ◌↔◌, List, Some, length, slice_get, IfOk, IsTrue, MatchOption};
 
 use crate::ancestry::{supertype_ids, supertypes};
 use crate::declarations::{Declaration, Known, all_declarations};
@@ -207,11 +207,33 @@ impl Schema {
         &self.declarations.entities[entity.index].name
     }
 
+    /// The entity at this place among those of the schema, in the order of the text, or `None` where there are not so many.
+    pub fn entity_at(&self, place: usize) -> Option<EntityId>
+        ensures { MatchOption result (length self.now.entities ≤ place) (λ e. IsEntityOf self.now e × (e.index ≡ place)) }
+    {
+        if place < self.declarations.entities.len() {
+            Some(EntityId { index: place })
+        } else {
+            None
+        }
+    }
+
     /// The type of this name, or `None` where there is none.
     pub fn type_named(&self, name: &[u8]) -> Option<TypeId>
         ensures { MatchOption result (¬ (IsType self.now name.now)) (λ t. IsTypeOf self.now t × (type_name self.now t ≡ name.now)) }
     {
         self.type_names.place(name).map(|index| TypeId { index })
+    }
+
+    /// The type at this place among those of the schema, in the order of the text, or `None` where there are not so many.
+    pub fn type_at(&self, place: usize) -> Option<TypeId>
+        ensures { MatchOption result (length self.now.types ≤ place) (λ t. IsTypeOf self.now t × (t.index ≡ place)) }
+    {
+        if place < self.declarations.types.len() {
+            Some(TypeId { index: place })
+        } else {
+            None
+        }
     }
 
     /// Whether ABSTRACT SUPERTYPE stands behind the entity's name.

@@ -277,6 +277,16 @@ fn selects_of_selects(rt: HostRuntime) -> Result<(), Fail> {
     check_reached(&rt, &schema, REACHED)
 }
 
+#[test]
+fn at_places(rt: HostRuntime) -> Result<(), Fail> {
+    let schema = table(rt.alloc(), SELECTS)?;
+    assert_eq!(rt; schema.entity_at(2), schema.entity(b"C"));
+    assert_eq!(rt; schema.entity_at(3), None);
+    assert_eq!(rt; schema.type_at(2), schema.type_named(b"R"));
+    assert_eq!(rt; schema.type_at(11), None);
+    Ok(())
+}
+
 /// Whether the SELECT that is the type of an entity's first own attribute reaches the entity of this name or an ancestor of it.
 fn admits(schema: &Schema, owner: &[u8], name: &[u8]) -> Result<bool, Fail> {
     let select = type_of(schema, owner)?;

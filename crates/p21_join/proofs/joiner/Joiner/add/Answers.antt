@@ -1,5 +1,5 @@
 use Rattle.std.proofs.Common.{Ok, refl, subst}
-use Rattle.p21_join.specs.NameTable.{InsertsPlace}
+use Rattle.p21_join.specs.InstancePlaces.{InsertsPlace}
 use Rattle.p21_join.proofs.NameLemmas.{is_named}
 use Rattle.p21_join.proofs.joiner.Joiner.add.Goals as goal
 

@@ -1,0 +1,5 @@
+mod NameLemmas
+mod GatheringLemmas
+mod AgainLemmas
+mod CheckLemmas
+mod Crossing

@@ -1,0 +1,5 @@
+pub mod Checked
+pub mod Gathering
+pub mod Counts
+pub mod Again
+pub mod Answers

@@ -1,0 +1,205 @@
+//! Checking a file by lanes that let the trees of simple instances go.
+
+ghost use Rattle.std.specs.Prelude.{◌≤◌, length, map, List, IfOk};
+ghost use Rattle.std.specs.List.{AllZip};
+ghost use Rattle.p21_tree.specs.declared.pieces.Piece.{Piece};
+ghost use Rattle.p21_cut.specs.Cutter.{plain_piece};
+ghost use Rattle.p21_cut.specs.Pieces.{PiecesAre};
+ghost use Rattle.p21_reader.specs.Lanes.{PiecesAreDealt};
+ghost use Rattle.p21_checker.specs.Answers.{AllReturned, AnswersTo, FirstReturned, TellsReading, TellsReadingWithAll};
+ghost use Rattle.p21_checker.specs.Checked.{IsStated};
+ghost use Rattle.p21_checker.specs.Counts.{HasFaults, IsFirstOf, TellsAll};
+ghost use Rattle.p21_checker.specs.Gathering.{IsGathered};
+ghost use Rattle.p21_checker.specs.declared.checked.Checked.{Checked};
+
+use crate::again::reference_faults;
+use crate::checked::Checked;
+use crate::checking::{Checking, check_pieces};
+use crate::counts::Counts;
+use crate::gathering::Gathering;
+use p21_crew::{Gate, Returned};
+use p21_desk::LaneCount;
+use p21_lanes::{Capacity, Receipt};
+use p21_reader::{Pieces, Stop, all_begin_with_reading, checked_preface, values_give_all_faults};
+use p21_schema::Schema;
+use p21_tree::{Fault, Piece};
+use std::alloc::{AllocError, Global};
+use std::sync::Wait;
+use std::thread::Threads;
+
+/// What a check of a file gave: its first fault, or none.
+#[derive(Drop)]
+pub struct FileCheck<'a> {
+    /// What is counted of the instances of the file; or its first fault.
+    pub answer: Result<Counts<'a>, Fault>,
+    /// What each lane received, by its number; none of a file that has a fault before its instances.
+    pub receipts: Vec<Receipt<Piece<'a>>>,
+    /// What each lane returned, by its number: its history, and no values. None where there are no receipts.
+    pub returned: Vec<Receipt<Returned<Checked<'a>>>>,
+    /// The lane that each piece of the file was dealt to; none where there are no receipts.
+    pub dealt: Vec<u32>,
+}
+
+/// What a check of a file gave, with all its faults.
+#[derive(Drop)]
+pub struct FaultCheck<'a> {
+    /// What is counted of the instances of the file; or all its faults, at least one.
+    pub answer: Result<Counts<'a>, Vec<Fault>>,
+    /// As in `FileCheck`.
+    pub receipts: Vec<Receipt<Piece<'a>>>,
+    /// As in `FileCheck`.
+    pub returned: Vec<Receipt<Returned<Checked<'a>>>>,
+    /// As in `FileCheck`.
+    pub dealt: Vec<u32>,
+}
+
+/// Why a check gave no answer.
+#[derive(Clone, Copy, Debug, PartialEq, Eq)]
+pub enum CheckError {
+    /// Memory was refused, or a thread for a lane.
+    Memory,
+}
+
+impl From<AllocError> for CheckError {
+    ghost use Rattle.std.specs.Prelude.{◌≡◌};
+    ghost use Rattle.p21_checker.specs.declared.check.CheckError.TheVariants.{Memory};
+
+    ghost from_gives = { λ _ e. e ≡ Memory };
+
+    fn from(_: AllocError) -> CheckError {
+        CheckError::Memory
+    }
+}
+
+/// Checks a whole file against a schema, by so many lanes: what is counted of its instances, or its first fault, as `read_lanes` finds
+/// them.
+///
+/// Pieces are dealt as `read_lanes` deals them. Each worker lets the tree of a simple instance go when it has checked it, and returns an
+/// outline of it; a complex one is kept whole. The answer hangs neither on the lanes nor on their capacity. An error is want of memory,
+/// or of a thread.
+pub fn check_lanes<'a, G: Gate + Sync, R: Threads + Wait + Sync>(
+    rt: &R,
+    alloc: Global,
+    schema: &'a Schema,
+    gate: &G,
+    file: &'a [u8],
+    lanes: LaneCount,
+    capacity: Capacity,
+) -> Result<FileCheck<'a>, CheckError>
+    ensures pieces { IfOk result (λ check. PiecesAreDealt schema.now file.now lanes check.dealt.items check.receipts.items) }
+    ensures returned { IfOk result (FirstReturned schema.now file.now lanes) }
+    ensures answer { IfOk result (TellsReading schema.now file.now) }
+{
+    all_begin_with_reading();
+    let all = check_all_faults(rt, alloc, schema, gate, file, lanes, capacity)?;
+    let FaultCheck {
+        answer,
+        receipts,
+        returned,
+        dealt,
+    } = all;
+    Ok(FileCheck {
+        answer: first_of(answer),
+        receipts,
+        returned,
+        dealt,
+    })
+}
+
+/// The counts, or the first of the faults, of which there is one.
+fn first_of(answer: Result<Counts<'_>, Vec<Fault>>) -> Result<Counts<'_>, Fault>
+    requires { HasFaults answer }
+    ensures { IsFirstOf answer.entry result }
+{
+    match answer {
+        Ok(counts) => Ok(counts),
+        Err(faults) => Err(faults[0]),
+    }
+}
+
+/// The same, with all faults of the file, as `read_all_faults` finds them.
+pub fn check_all_faults<'a, G: Gate + Sync, R: Threads + Wait + Sync>(
+    rt: &R,
+    alloc: Global,
+    schema: &'a Schema,
+    gate: &G,
+    file: &'a [u8],
+    lanes: LaneCount,
+    capacity: Capacity,
+) -> Result<FaultCheck<'a>, CheckError>
+    ensures pieces { IfOk result (λ check. PiecesAreDealt schema.now file.now lanes check.dealt.items check.receipts.items) }
+    ensures returned { IfOk result (AllReturned schema.now file.now lanes) }
+    ensures answer { IfOk result (TellsReadingWithAll schema.now file.now) }
+{
+    values_give_all_faults();
+    let preface = match checked_preface(alloc, schema, file) {
+        Ok(preface) => preface,
+        Err(stop) => return FaultCheck::stopped(alloc, stop),
+    };
+    let at = preface.data_at as usize;
+    let work = Checking { schema };
+    let pieces = Pieces::new(file, at);
+    let gathering = Gathering::new(alloc, schema.hash_key());
+    let run = check_pieces(rt, alloc, &work, gate, pieces, gathering, lanes, capacity)?;
+    gate.close();
+    let answer = conclude(rt, alloc, schema, file, at, run.tail as usize, run.gatherer)?;
+    Ok(FaultCheck {
+        answer,
+        receipts: run.receipts,
+        returned: run.returned,
+        dealt: run.dealt,
+    })
+}
+
+impl<'a> FaultCheck<'a> {
+    ghost use Rattle.p21_checker.specs.Answers.{IsStopped};
+
+    /// What a check of a file gives that was not read further: its one fault, or want of memory.
+    fn stopped(alloc: Global, stop: Stop) -> Result<FaultCheck<'a>, CheckError>
+        ensures { IfOk result (IsStopped stop) }
+    {
+        let fault = match stop {
+            Stop::Fault(fault) => fault,
+            Stop::Memory => return Err(CheckError::Memory),
+        };
+        let Ok(faults) = vec![in alloc; fault] else {
+            return Err(CheckError::Memory);
+        };
+        Ok(FaultCheck {
+            answer: Err(faults),
+            receipts: Vec::new(alloc),
+            returned: Vec::new(alloc),
+            dealt: Vec::new(alloc),
+        })
+    }
+}
+
+/// The answer to what was gathered of the pieces of a file, whose data section begins at a place, and whose tail at another.
+fn conclude<'a, R: Threads + Sync>(
+    rt: &R,
+    alloc: Global,
+    schema: &'a Schema,
+    file: &'a [u8],
+    at: usize,
+    tail: usize,
+    gathering: Gathering<'a>,
+) -> Result<Result<Counts<'a>, Vec<Fault>>, AllocError>
+    requires begins { at ≤ length file.now }
+    requires ends { tail ≤ length file.now }
+    requires gathered { (pieces : List Piece) × (outs : List Checked) × IsGathered gathering outs × AllZip (IsStated schema.now) pieces outs × PiecesAre file.now at 0 (map plain_piece pieces) tail }
+    ensures { (pieces : List Piece) → (outs : List Checked) → IsGathered gathering.entry outs → AllZip (IsStated schema.entry.now) pieces outs → PiecesAre file.entry.now at 0 (map plain_piece pieces) tail
+        → IfOk result (λ answer. AnswersTo (TellsAll answer) schema.entry.now file.entry.now tail outs) }
+{
+    let outline = match gathering.conclude(file, tail)? {
+        Ok(outline) => outline,
+        Err(faults) => return Ok(Err(faults)),
+    };
+    let faults = reference_faults(rt, alloc, schema, file, at, &outline)?;
+    if !faults.is_empty() {
+        return Ok(Err(faults));
+    }
+    Ok(Ok(Counts {
+        instances: outline.len() as u64,
+        tally: outline.tally(rt, alloc, schema)?,
+    }))
+}

@@ -1,0 +1,9 @@
+pub mod RowLemmas
+pub mod ColumnLemmas
+pub mod ViewLemmas
+pub mod NameLemmas
+pub mod Crossing
+pub mod TallyLemmas
+pub mod PartLemmas
+pub mod FaultLemmas
+pub mod KeptLemmas

@@ -1,0 +1,83 @@
+//! The outline of one instance.
+
+ghost use Rattle.std.specs.Prelude.{◌≡◌, None, IfOk};
+ghost use Rattle.p21_counts.specs.Counts.{capped, record_references};
+ghost use Rattle.p21_check.specs.EntityOf.{IsSimpleEntity};
+ghost use Rattle.p21_check.specs.LocalFault.{IsLocalFault};
+ghost use Rattle.p21_tree.specs.Views.{plain_instance};
+ghost use Rattle.p21_outline.specs.Kept.{kept_instance, IsKept};
+
+use crate::kept::Kept;
+use p21_check::push_references;
+use p21_counts::references_in;
+use p21_schema::{EntityId, Schema};
+use p21_tree::RawInstance;
+use smallvec::SmallVec;
+use std::alloc::{AllocError, Global};
+use std::snapshot::Snapshot;
+
+/// What is kept of an instance when its tree is let go. A complex instance is kept whole.
+#[derive(Drop)]
+pub struct InstanceOutline<'a> {
+    /// The number of its name.
+    pub name: u64,
+    /// The place of its name, in bytes from the file's first byte.
+    pub at: u64,
+    /// How many instance names are written in it as parameters, at most 2^64 - 1.
+    pub(crate) written: u64,
+    pub(crate) kept: Kept<'a>,
+    /// The name is that of the instance.
+    pub ghost named: { name ≡ (kept_instance kept).name },
+    /// The place is that of the instance.
+    pub ghost placed: { at ≡ (kept_instance kept).at },
+    /// The names that are written are those of the instance.
+    pub ghost counted: { written ≡ capped (record_references (plain_instance (kept_instance kept)).records) },
+}
+
+impl<'a> InstanceOutline<'a> {
+    ghost use Rattle.p21_outline.specs.InstanceOutline.{IsOutline, outlined};
+
+    /// The outline of an instance, which is let go unless it is complex. Its entity (`None` of a complex one) is known by the schema,
+    /// and it has no fault by itself. It is refused for want of memory alone.
+    pub fn of(
+        alloc: Global,
+        schema: &Schema,
+        entity: Option<EntityId>,
+        instance: RawInstance<'a>,
+    ) -> Result<InstanceOutline<'a>, AllocError>
+        requires entity { IsSimpleEntity schema.now (plain_instance instance) entity }
+        requires local { IsLocalFault schema.now (plain_instance instance) None }
+        ensures outlined { IfOk result (λ one. outlined one ≡ instance.entry) }
+        ensures fits { IfOk result (λ one. IsOutline schema.now one) }
+    {
+        let (name, at) = (instance.name, instance.at);
+        let written = references_in(&instance);
+        let kept = kept_of(alloc, schema, entity, instance)?;
+        Ok(InstanceOutline {
+            name,
+            at,
+            written,
+            kept,
+        })
+    }
+}
+
+/// What is kept of an instance, which is let go unless it is complex.
+fn kept_of<'a>(
+    alloc: Global,
+    schema: &Schema,
+    entity: Option<EntityId>,
+    instance: RawInstance<'a>,
+) -> Result<Kept<'a>, AllocError>
+    requires entity { IsSimpleEntity schema.now (plain_instance instance) entity }
+    requires local { IsLocalFault schema.now (plain_instance instance) None }
+    ensures instance { IfOk result (λ kept. kept_instance kept ≡ instance.entry) }
+    ensures fits { IfOk result (λ kept. IsKept schema.now kept) }
+{
+    let Some(own) = entity else {
+        return Ok(Kept::Whole(instance));
+    };
+    let mut references = SmallVec::new(alloc);
+    push_references(schema, own, &instance, &mut references)?;
+    Ok(Kept::Simple(own, references, Snapshot::of(&instance)))
+}

@@ -1,7 +1,0 @@
-use Rattle.std.proofs.Common.{◌≡◌, ◌+◌, ◌<◌, ◌^◌}
-use Rattle.p21_render.specs.Counts.{capped}
-use Rattle.p21_render.proofs.CountLemmas.{left_of}
-use Rattle.p21_render.proofs.references.in_instance.Given as goal
-
-abbrev pub invariant-loop-record : goal.invariant-loop-record
-invariant-loop-record l = (l.sum < 2 ^ 64) × (capped (l.sum + left_of l.record-items l.record-index) ≡ capped (left_of l.record-items 0))

@@ -1,8 +1,0 @@
-use Rattle.std.proofs.Common.{List, ℕ}
-use Rattle.indexmap.specs.IndexMap.{IsUnique}
-use Rattle.p21_render.specs.Tally.{CountsOf, key_eq}
-use Rattle.p21_render.proofs.TallyLemmas.{IsAdded}
-use Rattle.p21_render.proofs.tally.add_counts.Given as goal
-
-abbrev pub invariant-loop-keyword : goal.invariant-loop-keyword
-invariant-loop-keyword l = (ks js : List (List ℕ)) → CountsOf l.initial.keywords ks → CountsOf l.more js → IsUnique key_eq l.more → IsAdded l.keywords ks js l.more.entries l.keyword-iterator

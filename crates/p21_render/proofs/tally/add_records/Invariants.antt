@@ -1,6 +1,0 @@
-use Rattle.std.proofs.Common.{List, ℕ, ◌++◌, map, take}
-use Rattle.p21_render.specs.Tally.{CountsOf}
-use Rattle.p21_render.proofs.tally.add_records.Given as goal
-
-abbrev pub invariant-loop-record : goal.invariant-loop-record
-invariant-loop-record l = (ks : List (List ℕ)) → CountsOf l.initial.keywords ks → CountsOf l.keywords (ks ++ map (λ r. r.keyword.now) (take l.record-index l.records))
