@@ -1,6 +1,6 @@
 //! A run over a schema and a file.
 
-ghost use Rattle.std.specs.Prelude.{◌≡◌, ◌⊎◌, ℕ, List, Some, Ok, Err, IfOk, true, false};
+ghost use Rattle.std.specs.Prelude.{◌≡◌, ◌⊎◌, ℕ, List, Some, Ok, Err, IfOk, OnOk, true, false};
 ghost use Rattle.p21_express.specs.Answer.{HasNoReading};
 ghost use Rattle.p21_express.specs.Plain.{plain_schema};
 ghost use Rattle.p21_express.specs.WellFormed.{IsWellFormed};
@@ -10,7 +10,7 @@ ghost use Rattle.p21_reader.specs.Answer.{plain_answer};
 ghost use Rattle.p21_reader.specs.Reading.{IsReading};
 ghost use Rattle.p21_run.specs.declared.outcome.Outcome.TheVariants.{Complete, Faulty, SchemaRefused, Device as Failed};
 ghost use Rattle.p21_run.specs.declared.input.InputError.TheVariants.{Device};
-ghost use Rattle.p21_export.specs.Export.{Exports, OfDeclared, TellsFault};
+ghost use Rattle.p21_export.specs.Export.{Exports, OfDeclared, TellsFault, TellsRefusal, TellsSchemaFault};
 
 use crate::model::{write, write_model};
 use p21_crew::Gate;
@@ -65,6 +65,7 @@ pub fn export<
 ) -> Outcome
     ensures exported { (schema_text file : List ℕ) → S.remaining schema_in.old ≡ Some schema_text → F.remaining file_in.old ≡ Some file → result ≡ Complete → OfDeclared how.now.rules schema_text (λ s. Exports s file (K.taken out.old) (K.taken out.new)) }
     ensures told { (schema_text file : List ℕ) → S.remaining schema_in.old ≡ Some schema_text → F.remaining file_in.old ≡ Some file → result ≡ Faulty → OfDeclared how.now.rules schema_text (λ s. TellsFault s file (T.taken told.old) (T.taken told.new)) }
+    ensures refused { (schema_text : List ℕ) → S.remaining schema_in.old ≡ Some schema_text → result ≡ SchemaRefused → TellsRefusal schema_text (T.taken told.old) (T.taken told.new) }
     ensures kept { result ≡ Faulty ⊎ result ≡ SchemaRefused → out.new ≡ out.old }
     ensures writer_failed { K.failed out.old ≡ false → K.failed out.new ≡ true → result ≡ Failed }
     ensures unread { (schema_text : List ℕ) → S.remaining schema_in.old ≡ Some schema_text → HasNoReading schema_text → file_in.new ≡ file_in.old }
@@ -98,6 +99,7 @@ fn exported<
 ) -> Result<Outcome, InputError>
     ensures exported { (schema_text file : List ℕ) → S.remaining schema_in.old ≡ Some schema_text → F.remaining file_in.old ≡ Some file → result ≡ Ok Complete → OfDeclared how.now.rules schema_text (λ s. Exports s file (K.taken out.old) (K.taken out.new)) }
     ensures told { (schema_text file : List ℕ) → S.remaining schema_in.old ≡ Some schema_text → F.remaining file_in.old ≡ Some file → result ≡ Ok Faulty → OfDeclared how.now.rules schema_text (λ s. TellsFault s file (T.taken told.old) (T.taken told.new)) }
+    ensures refused { (schema_text : List ℕ) → S.remaining schema_in.old ≡ Some schema_text → result ≡ Ok SchemaRefused → TellsRefusal schema_text (T.taken told.old) (T.taken told.new) }
     ensures kept { result ≡ Ok Faulty ⊎ result ≡ Ok SchemaRefused → out.new ≡ out.old }
     ensures writer_failed { K.failed out.old ≡ false → K.failed out.new ≡ true → result ≡ Err Device }
     ensures unread { (schema_text : List ℕ) → S.remaining schema_in.old ≡ Some schema_text → HasNoReading schema_text → file_in.new ≡ file_in.old }
@@ -130,7 +132,8 @@ fn tell_refusal<T: Sink>(
     error: SchemaError,
     told: &mut T,
 ) -> Result<Outcome, InputError>
-    ensures { IfOk result (λ outcome. outcome ≡ SchemaRefused) }
+    ensures outcome { IfOk result (λ outcome. outcome ≡ SchemaRefused) }
+    ensures told { OnOk result (TellsSchemaFault error (T.taken told.old) (T.taken told.new)) }
 {
     let line = schema_fault_line(alloc, error)?;
     write(told, line.as_slice())?;
@@ -159,6 +162,7 @@ fn export_against<
     requires { IsWellFormed (plain_schema declarations) }
     ensures exported { (file : List ℕ) → F.remaining file_in.old ≡ Some file → result ≡ Ok Complete → Exports (with_rules (plain_schema declarations) how.now.rules) file (K.taken out.old) (K.taken out.new) }
     ensures told { (file : List ℕ) → F.remaining file_in.old ≡ Some file → result ≡ Ok Faulty → TellsFault (with_rules (plain_schema declarations) how.now.rules) file (T.taken told.old) (T.taken told.new) }
+    ensures ends { IfOk result (λ outcome. outcome ≡ Complete ⊎ outcome ≡ Faulty) }
     ensures kept { result ≡ Ok Faulty ⊎ result ≡ Ok SchemaRefused → out.new ≡ out.old }
     ensures writer_failed { K.failed out.old ≡ false → K.failed out.new ≡ true → result ≡ Err Device }
     ensures file_failed { F.failed file_in.old ≡ false → F.failed file_in.new ≡ true → (result ≡ Err Device) × (out.new ≡ out.old) }
@@ -196,6 +200,7 @@ fn export_file<R: Threads + Wait + Sync, G: Gate + Sync, K: Sink, T: Sink, L: Li
     requires { AreSpelled schema.now spelled.now }
     ensures exported { result ≡ Ok Complete → Exports schema.now file.now (K.taken out.old) (K.taken out.new) }
     ensures told { result ≡ Ok Faulty → TellsFault schema.now file.now (T.taken told.old) (T.taken told.new) }
+    ensures ends { IfOk result (λ outcome. outcome ≡ Complete ⊎ outcome ≡ Faulty) }
     ensures kept { result ≡ Ok Faulty ⊎ result ≡ Ok SchemaRefused → out.new ≡ out.old }
     ensures writer_failed { K.failed out.old ≡ false → K.failed out.new ≡ true → result ≡ Err Device }
 {
@@ -229,6 +234,7 @@ fn export_reading<R: Threads + Sync, G, K: Sink, T: Sink, L: Listener>(
     requires read { IsReading schema.now file.now (plain_answer reading.now.answer) }
     ensures exported { result ≡ Ok Complete → Exports schema.now file.now (K.taken out.old) (K.taken out.new) }
     ensures told { result ≡ Ok Faulty → TellsFault schema.now file.now (T.taken told.old) (T.taken told.new) }
+    ensures ends { IfOk result (λ outcome. outcome ≡ Complete ⊎ outcome ≡ Faulty) }
     ensures kept { result ≡ Ok Faulty ⊎ result ≡ Ok SchemaRefused → out.new ≡ out.old }
     ensures writer_failed { K.failed out.old ≡ false → K.failed out.new ≡ true → result ≡ Err Device }
 {
