@@ -73,12 +73,6 @@ known_at s [] k r h l e = absurd (omega arith)
 known_at s (x ∷ rs) zero r h l e = subst (λ (y : Record). IsEntity s y.keyword.now) (sym e) h.0
 known_at s (x ∷ rs) (suc k) r h l e = known_at s rs k r h.1 (omega arith) e
 
--- what stands behind the name of a simple instance
-pub behind_simple : (s : Schema) (i : Instance) (c : Bool) (rs : List Record) (r : Record) (parts : List Part) → c ≡ false → 0 < length rs → r ≡ get_or rs 0 r → IsRecordParts s i (plain_record r) parts → IsBehindName s i c (map plain_record rs) parts
-behind_simple s i true rs r parts f l e h = cc
-behind_simple s i false [] r parts f l e h = absurd (omega arith)
-behind_simple s i false (x ∷ rs) r parts f l e h = subst (λ (y : Record). IsRecordParts s i (plain_record y) parts) e h
-
 -- and of a complex one
 pub behind_complex : (s : Schema) (i : Instance) (c : Bool) (es : List Entry) (parts : List Part) → c ≡ true → IsBehindName s i true es parts → IsBehindName s i c es parts
 behind_complex s i true es parts e h = h

@@ -185,9 +185,6 @@ same_item {P} {Q} u v w alike l f h k =
 pub same_number_token : {v w : List ℕ} → json.number v ≡ json.number w → v ≡ w
 same_number_token e = cc
 
-number_of : {P Q : Type 0} (u x y v w : Token) → IsEither P u v x → IsEither Q u w y → P → Q → v ≡ w
-number_of u x y v w h k p q = sym (h.first_if p) ∙ k.first_if q
-
 low_bits : (m n : ℕ) → m < 2 ^ 64 → n < 2 ^ 64 → min m (2 ^ 64 - 1) ≡ min n (2 ^ 64 - 1) → m ≡ n
 low_bits m n h k e = omega arith
 

@@ -56,9 +56,6 @@ pub record Underway (s : Schema) (start now : Written) (all left : List Part) : 
   pub parts : all ≡ done ++ left
   pub adds : Adds s start now done
 
-pub begun : (s : Schema) (a : Written) (all : List Part) → Underway s a a all all
-begun s a all = record { done = []; parts = refl; adds = adds_none s a }
-
 pub further : {s : Schema} {a b c : Written} {all left p rest : List Part} → Underway s a b all left → left ≡ p ++ rest → Adds s b c p → Underway s a c all rest
 further {s} {a} {b} {c} {all} {left} {p} {rest} u e f = record {
   done = u.done ++ p;
