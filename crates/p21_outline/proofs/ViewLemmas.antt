@@ -4,7 +4,7 @@ use Rattle.std.specs.Prelude.{All}
 use Rattle.std.proofs.lemmas.List.{get_or-map, get_or_default, length-map}
 use Rattle.std.proofs.lemmas.List.Elements.{All-get_or}
 use Rattle.p21_express.specs.Schema.{Schema}
-use Rattle.p21_schema.specs.declared.ids.EntityId.{EntityId}
+use Rattle.p21_schema.specs.Ancestry.{entity_id}
 use Rattle.p21_tree.specs.declared.instances.RawInstance.{RawInstance}
 use Rattle.p21_tree.specs.Views.{plain_instance}
 use Rattle.p21_check.specs.EntityOf.{IsKnownAs, IsSimpleEntity, IsSimpleOf}
@@ -40,10 +40,10 @@ pub is_row : (s : Schema) (c : Columns) (k : ℕ) (row : Row) → RowAt s c k ro
 is_row s c k row h = subst (IsRow s c.wholes.items) (sym h.there) (All-get_or (IsRow s c.wholes.items) c.rows.items k row h.less h.rows)
 
 -- of a simple instance
-pub is_simple : (s : Schema) (c : Columns) (k : ℕ) (row : Row) (e : EntityId) → RowAt s c k row → row.held ≡ held.Simple e → IsSimpleOf s (plain_instance row.gone.value) e
+pub is_simple : (s : Schema) (c : Columns) (k : ℕ) (row : Row) (e : ℕ) → RowAt s c k row → row.held ≡ held.Simple e → IsSimpleOf s (plain_instance row.gone.value) (entity_id e)
 is_simple s c k row e h is = subst (IsHeld s c.wholes.items row.gone.value) is (is_row s c k row h)
 
-pub simple_instance : (s : Schema) (c : Columns) (k : ℕ) (row : Row) (e : EntityId) → RowAt s c k row → row.held ≡ held.Simple e → (d : RawInstance) → get_or (instances_in c) k d ≡ row.gone.value
+pub simple_instance : (s : Schema) (c : Columns) (k : ℕ) (row : Row) (e : ℕ) → RowAt s c k row → row.held ≡ held.Simple e → (d : RawInstance) → get_or (instances_in c) k d ≡ row.gone.value
 simple_instance s c k row e h is d = stands_there s c k row h d ∙ ap (held_instance c.wholes.items row.gone.value) is
 
 -- of a complex one
@@ -66,8 +66,8 @@ whole_complex s c k row at i h is there =
 
 -- ---- the instance of a name
 
-pub named_simple : (s : Schema) (c : Columns) (name k : ℕ) (row : Row) (e : EntityId) → HaveOwnNames (instances_in c) → IsPosition (instances_in c) name (Some k) → RowAt s c k row → row.held ≡ held.Simple e
-    → IsKnownAs s (named_in (plain_instances (instances_in c)) name) (known.Simple e)
+pub named_simple : (s : Schema) (c : Columns) (name k : ℕ) (row : Row) (e : ℕ) → HaveOwnNames (instances_in c) → IsPosition (instances_in c) name (Some k) → RowAt s c k row → row.held ≡ held.Simple e
+    → IsKnownAs s (named_in (plain_instances (instances_in c)) name) (known.Simple (entity_id e))
 named_simple s c name k row e own position h is =
     let i = row.gone.value in
     (plain_instance i, some_named (instances_in c) name k i own position (simple_instance s c k row e h is i), is_simple s c k row e h is)

@@ -45,7 +45,7 @@ pub record AppendsRow (old : Columns) (row : Row) (references : List Reference) 
 
 -- a simple instance that was let go comes behind the others, with its entity and its references
 abbrev pub AppendsSimple : Columns → ℕ → EntityId → List Reference → RawInstance → Columns → Type 0
-AppendsSimple old written entity references gone new = (row : Row) × (row.held ≡ held.Simple entity) × (row.gone.value ≡ gone) × AppendsRow old row references [] written new
+AppendsSimple old written entity references gone new = (row : Row) × (row.held ≡ held.Simple entity.index) × (row.gone.value ≡ gone) × AppendsRow old row references [] written new
 
 -- an instance that is whole comes behind the others
 abbrev pub AppendsWhole : Columns → ℕ → RawInstance → Columns → Type 0

@@ -38,8 +38,9 @@ impl<'a> Outline<'a> {
     }
 
     /// Puts the outline of an instance behind the others, where its name is new; the answer is whether it is. It is refused for want
-    /// of memory alone, as is the instance behind 2^32 - 1 others, more than a file within the bound holds. Where it is not put there,
-    /// the instances are as they were.
+    /// of memory alone, as is the instance behind 2^32 - 1 others, more than a file within the bound holds, one with which more than
+    /// 2^32 - 1 references are kept, and one of an entity behind 2^32 others of the schema. Where it is not put there, the instances are
+    /// as they were.
     #[inline(always)]
     pub fn add(&mut self, one: InstanceOutline<'a>) -> Result<bool, AllocError>
         ensures { Adds self.old one.entry result self.new }

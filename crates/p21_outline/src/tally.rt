@@ -10,7 +10,7 @@ ghost use Rattle.p21_join.specs.Model.{plain_instances};
 ghost use Rattle.p21_outline.specs.Rows.{AreRows-prop, IsRow, row_instance};
 ghost use Rattle.p21_outline.specs.Outline.{outlined_instances};
 
-use crate::columns::{Held, Row};
+use crate::columns::{Held, Row, entity_at};
 use crate::outline::Outline;
 use p21_counts::{Keywords, Tally, add_keywords, count_keyword, count_records, no_keywords};
 use p21_schema::Schema;
@@ -127,7 +127,7 @@ fn count_row<'a>(
     ensures { (ks : List (List ℕ)) → CountsOf keywords.old ks → OnOk result (CountsOf keywords.new (ks ++ instance_keywords (plain_instance (row_instance wholes.now row.now)))) }
 {
     match row.held {
-        Held::Simple(entity) => count_keyword(keywords, schema.name_of(entity)),
-        Held::Whole(place) => count_records(keywords, wholes[place].records.as_slice()),
+        Held::Simple(place) => count_keyword(keywords, schema.name_of(entity_at(schema, place))),
+        Held::Whole(place) => count_records(keywords, wholes[place as usize].records.as_slice()),
     }
 }

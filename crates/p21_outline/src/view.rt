@@ -3,7 +3,7 @@
 ghost use Rattle.std.specs.Prelude.{All};
 ghost use Rattle.p21_outline.specs.Rows.{AreRows-prop, IsRow};
 
-use crate::columns::Held;
+use crate::columns::{Held, entity_at};
 use crate::outline::Outline;
 use p21_check::{EntityOf, Named, Reference, check_references_among, references_decide};
 use p21_schema::Schema;
@@ -42,8 +42,8 @@ impl<'s, 'o, 'a> OutlineView<'s, 'o, 'a> {
         };
         let columns = &self.outline.columns;
         match columns.rows[place].held {
-            Held::Simple(entity) => Named::Simple(entity),
-            Held::Whole(at) => Named::Other(&columns.wholes[at]),
+            Held::Simple(entity) => Named::Simple(entity_at(self.schema, entity)),
+            Held::Whole(at) => Named::Other(&columns.wholes[at as usize]),
         }
     }
 }
@@ -69,7 +69,8 @@ impl OutlineView<'_, '_, '_> {
         match columns.rows[place].held {
             Held::Simple(_) => !self.are_answered(columns.references_at(place)),
             Held::Whole(at) => {
-                check_references_among(self.schema, None, &columns.wholes[at], &self).is_err()
+                let whole = &columns.wholes[at as usize];
+                check_references_among(self.schema, None, whole, &self).is_err()
             }
         }
     }

@@ -13,10 +13,10 @@ check_references_among-requires c κs =
     let view = c.args.self in
     let s = view.schema.now in
     let columns = view.outline.now.columns in
-    let i = c.index-in-Whole.result.now in
+    let i = c.index-whole.result.now in
     let row : RowAt s columns c.args.place c.index.result.now = record { less = row_within columns c.args.place c.requires.within; there = c.index.ensures; rows = view.known } in
-    let there : StandsAt (instances_in columns) c.args.place i = (c.requires.within, whole_instance s columns c.args.place c.index.result.now c.in-Whole.at i row c.in-Whole.is c.index-in-Whole.ensures) in
-    let own = no_entity s i (whole_complex s columns c.args.place c.index.result.now c.in-Whole.at i row c.in-Whole.is c.index-in-Whole.ensures) in
+    let there : StandsAt (instances_in columns) c.args.place i = (c.requires.within, whole_instance s columns c.args.place c.index.result.now c.in-Whole.at i row c.in-Whole.is c.index-whole.ensures) in
+    let own = no_entity s i (whole_complex s columns c.args.place c.index.result.now c.in-Whole.at i row c.in-Whole.is c.index-whole.ensures) in
     ((refl, (refl, tt)), (refl, (own, sound_there s (instances_in columns) c.args.place i c.requires.outlined.sound there)))
 
 pub returns-in-Simple : goal.returns-in-Simple
@@ -40,8 +40,8 @@ returns-in-Whole c =
     let view = c.args.self in
     let s = view.schema.now in
     let columns = view.outline.now.columns in
-    let i = c.index-in-Whole.result.now in
+    let i = c.index-whole.result.now in
     let row : RowAt s columns c.args.place c.index.result.now = record { less = row_within columns c.args.place c.requires.within; there = c.index.ensures; rows = view.known } in
-    let there : StandsAt (instances_in columns) c.args.place i = (c.requires.within, whole_instance s columns c.args.place c.index.result.now c.in-Whole.at i row c.in-Whole.is c.index-in-Whole.ensures) in
+    let there : StandsAt (instances_in columns) c.args.place i = (c.requires.within, whole_instance s columns c.args.place c.index.result.now c.in-Whole.at i row c.in-Whole.is c.index-whole.ensures) in
     at_place s (instances_in columns) c.args.place i c.is_err.result there
     (by_check s (plain_instances (instances_in columns)) (plain_instance i) c.check_references_among.result c.is_err.result c.check_references_among.ensures c.is_err.ensures.value)
