@@ -7,3 +7,4 @@ pub mod TallyLemmas
 pub mod PartLemmas
 pub mod FaultLemmas
 pub mod KeptLemmas
+pub mod NamelessLemmas

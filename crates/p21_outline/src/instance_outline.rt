@@ -1,14 +1,15 @@
 //! The outline of one instance.
 
-ghost use Rattle.std.specs.Prelude.{◌≡◌, None, IfOk};
+ghost use Rattle.std.specs.Prelude.{◌≡◌, None, Some, IfOk};
 ghost use Rattle.p21_counts.specs.Counts.{capped, record_references};
 ghost use Rattle.p21_check.specs.EntityOf.{IsSimpleEntity};
 ghost use Rattle.p21_check.specs.LocalFault.{IsLocalFault};
+ghost use Rattle.p21_check.specs.Referred.{AreReferencesOf};
 ghost use Rattle.p21_tree.specs.Views.{plain_instance};
 ghost use Rattle.p21_outline.specs.Kept.{kept_instance, IsKept};
 
 use crate::kept::Kept;
-use p21_check::push_references;
+use p21_check::{References, push_references};
 use p21_counts::references_in;
 use p21_schema::{EntityId, Schema};
 use p21_tree::RawInstance;
@@ -52,7 +53,7 @@ impl<'a> InstanceOutline<'a> {
     {
         let (name, at) = (instance.name, instance.at);
         let written = references_in(&instance);
-        let kept = kept_of(alloc, schema, entity, instance)?;
+        let kept = kept_of(alloc, schema, entity, written, instance)?;
         Ok(InstanceOutline {
             name,
             at,
@@ -62,22 +63,45 @@ impl<'a> InstanceOutline<'a> {
     }
 }
 
-/// What is kept of an instance, which is let go unless it is complex.
+/// What is kept of an instance, which is let go unless it is complex. So many instance names are written in it.
 fn kept_of<'a>(
     alloc: Global,
     schema: &Schema,
     entity: Option<EntityId>,
+    written: u64,
     instance: RawInstance<'a>,
 ) -> Result<Kept<'a>, AllocError>
     requires entity { IsSimpleEntity schema.now (plain_instance instance) entity }
     requires local { IsLocalFault schema.now (plain_instance instance) None }
+    requires counted { written ≡ capped (record_references (plain_instance instance).records) }
     ensures instance { IfOk result (λ kept. kept_instance kept ≡ instance.entry) }
     ensures fits { IfOk result (λ kept. IsKept schema.now kept) }
 {
     let Some(own) = entity else {
         return Ok(Kept::Whole(instance));
     };
-    let mut references = SmallVec::new(alloc);
-    push_references(schema, own, &instance, &mut references)?;
+    let references = references_of(alloc, schema, own, written, &instance)?;
     Ok(Kept::Simple(own, references, Snapshot::of(&instance)))
+}
+
+/// The references of a simple instance of this entity, in which so many instance names are written. Where there are none, as in points and
+/// directions, the schema is not asked.
+fn references_of(
+    alloc: Global,
+    schema: &Schema,
+    own: EntityId,
+    written: u64,
+    instance: &RawInstance<'_>,
+) -> Result<References, AllocError>
+    requires own { IsSimpleEntity schema.now (plain_instance instance.now) (Some own) }
+    requires local { IsLocalFault schema.now (plain_instance instance.now) None }
+    requires counted { written ≡ capped (record_references (plain_instance instance.now).records) }
+    ensures { IfOk result (λ references. AreReferencesOf schema.now (plain_instance instance.now) references.items) }
+{
+    let mut references = SmallVec::new(alloc);
+    if written == 0 {
+        return Ok(references);
+    }
+    push_references(schema, own, instance, &mut references)?;
+    Ok(references)
 }
