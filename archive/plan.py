@@ -10,7 +10,7 @@ from .sources import is_packed
 
 MEGABYTE = 1 << 20
 # How much longer a file is than it is packed, about; in how many bytes read a run begins; and how much memory it takes by its file.
-PACKED, BEGIN, MEMORY = 8, MEGABYTE, 6
+PACKED, BEGIN, MEMORY = 8, MEGABYTE, 3
 LEAST_GREAT = 16 * MEGABYTE
 # The batches that each processor has, so that all end together, and the least and the most that there is to read in one.
 BATCHES, LEAST, MOST = 16, 32 * MEGABYTE, 128 * MEGABYTE

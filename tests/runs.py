@@ -4,6 +4,7 @@ import os
 import pathlib
 import pty
 import subprocess
+import sys
 import tempfile
 
 from report import Report
@@ -17,6 +18,9 @@ PROGRAM = pathlib.Path(subprocess.run([TOP / 'p21check'], env={**os.environ, 'P2
 DEVICE = b'p21check: input or output failed\n'
 MEMORY = b'p21check: out of memory\n'
 SECONDS = 10
+PEAK = """import resource, subprocess, sys
+subprocess.run(sys.argv[1:], stdin=subprocess.DEVNULL, stdout=subprocess.DEVNULL)
+print(resource.getrusage(resource.RUSAGE_CHILDREN).ru_maxrss)"""
 
 
 def run(words, program=(PROGRAM,), seconds=SECONDS, **more):
@@ -26,6 +30,12 @@ def run(words, program=(PROGRAM,), seconds=SECONDS, **more):
     except subprocess.TimeoutExpired:
         return None
     return ran.returncode, ran.stdout, ran.stderr
+
+
+def peak_memory(words):
+    """The most memory that a run takes, in bytes. A small process starts it, since a run begins with the memory of who starts it."""
+    ran = subprocess.run([sys.executable, '-c', PEAK, PROGRAM, *words], stdout=subprocess.PIPE, check=True)
+    return int(ran.stdout) * 1024
 
 
 def on_terminal(words, seconds=SECONDS):
