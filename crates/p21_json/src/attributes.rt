@@ -15,7 +15,7 @@ use p21_schema::{AttrId, Declaration, EntityId, Form, Schema};
 use p21_tree::RawInstance;
 
 /// How many attributes a record of the entity has.
-pub(crate) fn attribute_count(schema: &Schema, complex: bool, entity: EntityId) -> usize
+pub fn attribute_count(schema: &Schema, complex: bool, entity: EntityId) -> usize
     requires { IsEntityOf schema.now entity }
     ensures { (os : List Origin) × (AreAttributesOf schema.now complex entity os × (result ≡ length os)) }
 {
@@ -27,7 +27,7 @@ pub(crate) fn attribute_count(schema: &Schema, complex: bool, entity: EntityId) 
 }
 
 /// One of them.
-pub(crate) fn attribute(schema: &Schema, complex: bool, entity: EntityId, position: usize) -> AttrId
+pub fn attribute(schema: &Schema, complex: bool, entity: EntityId, position: usize) -> AttrId
     requires entity { IsEntityOf schema.now entity }
     requires position { (os : List Origin) × (AreAttributesOf schema.now complex entity os × (position < length os)) }
     ensures known { IsAttributeOf schema.now result }
@@ -42,7 +42,7 @@ pub(crate) fn attribute(schema: &Schema, complex: bool, entity: EntityId, positi
 }
 
 /// Whether items of enumerations in the attribute of an instance are values of BOOLEAN or LOGICAL.
-pub(crate) fn is_logical(terms: &Terms<'_>, instance: &RawInstance<'_>, attribute: AttrId) -> bool
+pub fn is_logical(terms: &Terms<'_>, instance: &RawInstance<'_>, attribute: AttrId) -> bool
     requires { IsAttributeOf terms.now attribute }
     ensures { IsTrue result ↔ IsLogicalAttribute terms.now (plain_instance instance.now) (attribute_at terms.now attribute) }
 {

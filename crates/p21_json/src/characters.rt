@@ -43,7 +43,7 @@ fn character(code: u16) -> char
 }
 
 /// Makes a text of the characters of a string, whose body this is.
-pub(crate) fn write_string(text: &mut String, body: &[u8]) -> Result<(), AllocError>
+pub fn write_string(text: &mut String, body: &[u8]) -> Result<(), AllocError>
     requires { IsBody body.now }
     ensures { OnOk result ((found : List Item) × (ItemsOf body.now found × (string_bytes text.new ≡ text_of_items found))) }
 {
@@ -62,7 +62,7 @@ fn push_items(text: &mut String, mut items: StrItems<'_>) -> Result<(), AllocErr
 }
 
 /// Makes a text of bytes: each byte is a character.
-pub(crate) fn write_bytes(text: &mut String, bytes: &[u8]) -> Result<(), AllocError>
+pub fn write_bytes(text: &mut String, bytes: &[u8]) -> Result<(), AllocError>
     ensures { OnOk result (string_bytes text.new ≡ text_of bytes.now) }
 {
     text.clear();

@@ -13,6 +13,8 @@ mod numerals;
 mod pages;
 mod terms;
 
+pub use attributes::{attribute, attribute_count, is_logical};
+pub use characters::{write_bytes, write_string};
 pub use header::write_header;
 pub use laws::{no_value_is_lost, nothing_is_lost, numbers_stay_numbers};
 pub use lines::write_lines;

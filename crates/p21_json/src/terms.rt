@@ -73,7 +73,7 @@ impl<'s> Terms<'s> {
     }
 
     /// The name of an entity.
-    pub(crate) fn entity(&self, entity: EntityId) -> &str
+    pub fn entity(&self, entity: EntityId) -> &str
         requires { IsEntityOf self.now entity }
         ensures { IsSpelled result.now (entity_name self.now entity) }
     {
@@ -81,7 +81,7 @@ impl<'s> Terms<'s> {
     }
 
     /// The name of an attribute.
-    pub(crate) fn attribute(&self, attribute: AttrId) -> &str
+    pub fn attribute(&self, attribute: AttrId) -> &str
         requires { IsAttributeOf self.now attribute }
         ensures { IsSpelled result.now (attribute_at self.now attribute).name }
     {
@@ -89,7 +89,7 @@ impl<'s> Terms<'s> {
     }
 
     /// Makes a text of the name of a type; of a keyword that is no type as it is.
-    pub(crate) fn write_type(&self, text: &mut String, name: &[u8]) -> Result<(), AllocError>
+    pub fn write_type(&self, text: &mut String, name: &[u8]) -> Result<(), AllocError>
         ensures { OnOk result (IsSpelled (string_bytes text.new) name.now) }
     {
         match self.schema.type_named(name) {
@@ -102,7 +102,7 @@ impl<'s> Terms<'s> {
     }
 
     /// Whether this is a type of BOOLEAN or LOGICAL, or of aggregates of such.
-    pub(crate) fn is_logical(&self, name: &[u8]) -> bool
+    pub fn is_logical(&self, name: &[u8]) -> bool
         ensures { IsTrue result ↔ TakesLogical self.now (named name.now) }
     {
         match self.schema.type_named(name) {

@@ -1,0 +1,5 @@
+mod AnyLemmas
+mod FirstLemmas
+mod NameLemmas
+mod PathLemmas
+mod PlainLemmas

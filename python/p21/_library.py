@@ -1,0 +1,126 @@
+"""The calls of libp21, as p21.h declares them."""
+
+import ctypes
+import os
+import pathlib
+import threading
+
+OK, FAULT, NONE, MEMORY, HANDLE = range(5)
+ABSENT, DERIVED, INTEGER, REAL, STRING, ENUMERATION, LOGICAL, BINARY, REFERENCE, LIST, TYPED = range(11)
+
+_U32, _U64, _SIZE, _PLACE = ctypes.c_uint32, ctypes.c_uint64, ctypes.c_size_t, ctypes.c_void_p
+
+
+class FaultView(ctypes.Structure):
+    _fields_ = [("kind", _U32), ("at", _U64), ("record", _U64), ("attribute", _U64), ("name", _U64)]
+
+
+class InstanceView(ctypes.Structure):
+    _fields_ = [("name", _U64), ("at", _U64), ("records", _U64), ("entity", _U64), ("complex", _U32)]
+
+
+class RecordView(ctypes.Structure):
+    _fields_ = [("entity", _U64), ("parameters", _U64)]
+
+
+class ValueView(ctypes.Structure):
+    _fields_ = [
+        ("kind", _U32),
+        ("exact", _U32),
+        ("integer", ctypes.c_int64),
+        ("real", ctypes.c_double),
+        ("number", _U64),
+        ("length", _U64),
+    ]
+
+
+def _path() -> str:
+    """The library: where P21_LIBRARY says, else beside this file, else where the system finds it."""
+    named = os.environ.get("P21_LIBRARY")
+    if named:
+        return named
+    beside = pathlib.Path(__file__).with_name("libp21.so")
+    return str(beside) if beside.exists() else "libp21.so"
+
+
+# What reads lets other threads of Python run; what answers at once does not.
+_slow, _quick = ctypes.CDLL(_path()), ctypes.PyDLL(_path())
+
+
+def _call(library, name, *types):
+    call = getattr(library, name)
+    call.argtypes, call.restype = types, ctypes.c_int
+    return call
+
+
+_TEXT, _ROOM = (ctypes.c_char_p, _SIZE), (_PLACE, _SIZE)
+schema_read = _call(_slow, "p21_schema_read", *_TEXT, _U64, _PLACE, _PLACE)
+read = _call(_slow, "p21_read", _PLACE, _PLACE, _SIZE, _PLACE, _PLACE)
+explain = _call(_slow, "p21_explain", _PLACE, _PLACE, _SIZE, *_TEXT, _PLACE, *_ROOM, _PLACE)
+schema_name = _call(_quick, "p21_schema_name", _PLACE, *_ROOM, _PLACE)
+entity_count = _call(_quick, "p21_entity_count", _PLACE, _PLACE)
+entity = _call(_quick, "p21_entity", _PLACE, *_TEXT, _PLACE)
+entity_name = _call(_quick, "p21_entity_name", _PLACE, _U64, *_ROOM, _PLACE)
+is_a = _call(_quick, "p21_is_a", _PLACE, _U64, _U64, _PLACE)
+attribute_count = _call(_quick, "p21_attribute_count", _PLACE, _U64, _U32, _PLACE)
+attribute_name = _call(_quick, "p21_attribute_name", _PLACE, _U64, _U32, _U64, *_ROOM, _PLACE)
+count = _call(_quick, "p21_count", _PLACE, _PLACE)
+find = _call(_quick, "p21_find", _PLACE, _U64, _PLACE)
+instance = _call(_quick, "p21_instance", _PLACE, _U64, _PLACE)
+instances = _call(_slow, "p21_instances", _PLACE, _U64, *_ROOM, *_ROOM, _PLACE)
+record = _call(_quick, "p21_record", _PLACE, _U64, _U64, _PLACE)
+next_of = _call(_slow, "p21_next_of", _PLACE, _U64, _U32, _U64, _PLACE)
+next_naming = _call(_slow, "p21_next_naming", _PLACE, _U64, _U64, _PLACE)
+value = _call(_quick, "p21_value", _PLACE, _U64, _U64, _PLACE, _SIZE, *_ROOM, _PLACE)
+
+_clear = _slow.p21_clear
+_clear.argtypes, _clear.restype = (_PLACE,), None
+_free = ctypes.CDLL(None).free
+_free.argtypes, _free.restype = (_PLACE,), None
+
+
+def free(handle) -> None:
+    """Lets go of a schema or a model."""
+    _clear(handle)
+    _free(handle)
+
+
+class Room(threading.local):
+    """Room for what a call hands out, each thread's own."""
+
+    def __init__(self):
+        self.number = _U64()
+        self.number_at = ctypes.addressof(self.number)
+        self.value = ValueView()
+        self.fit(256)
+
+    def fit(self, size):
+        """Makes room for so many bytes."""
+        self.size = size
+        self._bytes = ctypes.create_string_buffer(size)
+        self.bytes_at = ctypes.addressof(self._bytes)
+        # What reading a value takes, at one look.
+        self.all = self.value, ctypes.addressof(self.value), memoryview(self._bytes), self.bytes_at, size
+
+
+room = Room()
+
+
+def text(call, *words) -> str:
+    """The text that a call hands out."""
+    while call(*words, room.bytes_at, room.size, room.number_at) == OK:
+        length = room.number.value
+        if length <= room.size:
+            return ctypes.string_at(room.bytes_at, length).decode("utf-8", "replace")
+        room.fit(length)
+    raise LookupError
+
+
+def number(call, *words):
+    """The number that a call hands out; None where there is none."""
+    return room.number.value if call(*words, room.number_at) == OK else None
+
+
+def version() -> str:
+    """The version of this package."""
+    return "0.1.0"

@@ -1,0 +1,172 @@
+"""Models: the instances of a file."""
+
+import array
+import ctypes
+from typing import Dict, Iterator, List, Optional, Union
+
+from . import _library as library
+from ._library import room
+from .errors import Error, OutOfMemory
+from .instance import Instance, _first_path
+
+
+# What stands for the entity of a complex instance.
+_NO_ENTITY = (1 << 64) - 1
+
+
+class Model:
+    """The instances of a file that conforms to its schema, in the order of the file."""
+
+    def __init__(self, handle, schema, data: bytes):
+        # The library reads the schema and the bytes where they are, so they live as long as the model.
+        self._handle, self._schema, self._data = handle, schema, data
+        count = library.number(library.count, handle)
+        self._names = array.array("Q", bytes(8 * count))
+        self._entities = array.array("Q", bytes(8 * count))
+        names, entities = self._names.buffer_info(), self._entities.buffer_info()
+        library.instances(handle, 0, *names, *entities, room.number_at)
+        self._by_name: Dict[str, Optional[int]] = {}
+        self._spelled: Dict[int, str] = {}
+        self._below: Dict[tuple, bool] = {}
+        self._places: Dict[object, dict] = {}
+        self._guids: Optional[Dict[str, int]] = None
+
+    # ---- what users call
+
+    @property
+    def schema(self) -> str:
+        """The name of the schema: IFC2X3."""
+        return library.text(library.schema_name, self._open())
+
+    def __len__(self) -> int:
+        return len(self._names)
+
+    def __iter__(self) -> Iterator[Instance]:
+        return (Instance(self, place) for place in range(len(self._names)))
+
+    def __getitem__(self, key: Union[int, str]) -> Instance:
+        """The instance of a number, or of a GlobalId; KeyError if there is none."""
+        try:
+            return self.by_guid(key) if isinstance(key, str) else self.by_id(key)
+        except RuntimeError:
+            raise KeyError(key) from None
+
+    def __contains__(self, key) -> bool:
+        return library.number(library.find, self._open(), int(key.id if isinstance(key, Instance) else key)) is not None
+
+    def by_id(self, number: int) -> Instance:
+        """The instance of a number: 767 for #767; RuntimeError if there is none."""
+        if library.find(self._handle or self._open(), number, room.number_at):
+            raise RuntimeError("there is no instance #%d" % number)
+        return Instance(self, room.number.value)
+
+    def by_type(self, name: str, include_subtypes: bool = True) -> List[Instance]:
+        """The instances of the entity of this name, and of its subtypes; RuntimeError if the schema has no such entity."""
+        entity = self._entity(name)
+        if entity is None:
+            raise RuntimeError("the schema has no entity %s" % name)
+        return self._all(library.next_of, entity, int(include_subtypes))
+
+    def by_guid(self, guid: str) -> Instance:
+        """The instance with this GlobalId; RuntimeError if there is none."""
+        if self._guids is None:
+            self._guids = {}
+            for instance in self:
+                if "GlobalId" in self._attributes(instance._place):
+                    self._guids.setdefault(instance.GlobalId, instance._place)
+        if guid not in self._guids:
+            raise RuntimeError("there is no instance with the GlobalId %s" % guid)
+        return Instance(self, self._guids[guid])
+
+    def inverse(self, of: Union[int, Instance]) -> List[Instance]:
+        """The instances that refer to this one, by itself or by its number."""
+        return self._all(library.next_naming, int(of.id if isinstance(of, Instance) else of))
+
+    get_inverse = inverse
+
+    def close(self) -> None:
+        """Lets go of the model. Its instances may not be used any more."""
+        if self._handle is not None:
+            library.free(self._handle)
+            self._handle = None
+
+    def __enter__(self) -> "Model":
+        return self
+
+    def __exit__(self, *_) -> None:
+        self.close()
+
+    def __del__(self):
+        if getattr(self, "_handle", None) is not None:
+            self.close()
+
+    # ---- what the package calls
+
+    def _open(self):
+        if self._handle is None:
+            raise Error("the model is closed")
+        return self._handle
+
+    def _refuse(self, code):
+        self._open()
+        raise OutOfMemory("a value") if code == library.MEMORY else LookupError("there is no such value")
+
+    def _all(self, call, *words) -> List[Instance]:
+        found, handle, at, number = [], self._open(), room.number_at, room.number
+        place = 0
+        while call(handle, *words, place, at) == library.OK:
+            place = number.value
+            found.append(Instance(self, place))
+            place += 1
+        return found
+
+    def _entity(self, name: str) -> Optional[int]:
+        if name not in self._by_name:
+            word = name.upper().encode()
+            self._by_name[name] = library.number(library.entity, self._open(), word, len(word))
+        return self._by_name[name]
+
+    def _entity_name(self, entity: int) -> str:
+        if entity not in self._spelled:
+            self._spelled[entity] = library.text(library.entity_name, self._open(), entity)
+        return self._spelled[entity]
+
+    def _is_a(self, entity: int, other: int) -> bool:
+        pair = entity, other
+        if pair not in self._below:
+            answer = ctypes.c_uint32()
+            library.is_a(self._open(), entity, other, ctypes.addressof(answer))
+            self._below[pair] = bool(answer.value)
+        return self._below[pair]
+
+    def _entities_of(self, place: int):
+        """The entities of the records of an instance."""
+        if self._entities[place] != _NO_ENTITY:
+            return (self._entities[place],)
+        view, record, entities = library.InstanceView(), library.RecordView(), []
+        library.instance(self._open(), place, ctypes.addressof(view))
+        for number in range(view.records):
+            library.record(self._open(), place, number, ctypes.addressof(record))
+            entities.append(record.entity)
+        return tuple(entities)
+
+    def _attributes(self, place: int) -> dict:
+        """The record and the path of each attribute of an instance, by its name."""
+        entity = self._entities[place]
+        key = entity if entity != _NO_ENTITY else self._entities_of(place)
+        found = self._places.get(key)
+        if found is None:
+            found = self._places[key] = self._named(0, key, 0) if key is entity else self._merged(key)
+        return found
+
+    def _merged(self, entities: tuple) -> dict:
+        """The same of a complex instance, whose records have the own attributes of their entities."""
+        merged: dict = {}
+        for record, entity in enumerate(entities):
+            merged.update(self._named(record, entity, 1))
+        return merged
+
+    def _named(self, record: int, entity: int, own: int) -> dict:
+        count = library.number(library.attribute_count, self._open(), entity, own)
+        names = (library.text(library.attribute_name, self._open(), entity, own, at) for at in range(count))
+        return {name: (record, _first_path(at)) for at, name in enumerate(names)}

@@ -1,0 +1,166 @@
+"""Tries the package over a small schema and file: python -m unittest discover -s python/tests"""
+
+import gc
+import pathlib
+import sys
+import tempfile
+import threading
+import unittest
+
+sys.path.insert(0, str(pathlib.Path(__file__).resolve().parent.parent))
+import p21
+
+SCHEMA = b"""SCHEMA HOUSE;
+TYPE Label = STRING; END_TYPE;
+TYPE Length = REAL; END_TYPE;
+TYPE Flag = BOOLEAN; END_TYPE;
+TYPE Kind = ENUMERATION OF (SOLID, GLAZED); END_TYPE;
+TYPE Value = SELECT (Label, Length, Flag, Kind); END_TYPE;
+ENTITY Root ABSTRACT SUPERTYPE; GlobalId : STRING; Name : OPTIONAL Label; END_ENTITY;
+ENTITY Point; Coordinates : LIST [1:3] OF Length; END_ENTITY;
+ENTITY Placement; Location : Point; RelTo : OPTIONAL Placement; END_ENTITY;
+ENTITY Element SUBTYPE OF (Root); ObjectPlacement : OPTIONAL Placement; END_ENTITY;
+ENTITY Wall SUBTYPE OF (Element); Height : OPTIONAL Length; PredefinedType : Kind; IsExternal : LOGICAL; END_ENTITY;
+ENTITY CurtainWall SUBTYPE OF (Wall); END_ENTITY;
+ENTITY Door SUBTYPE OF (Element); Panels : INTEGER; Code : OPTIONAL BINARY; Marks : LIST OF LIST OF INTEGER; END_ENTITY;
+ENTITY Property; Name : Label; NominalValue : OPTIONAL Value; END_ENTITY;
+ENTITY Connects SUBTYPE OF (Root); RelatingElement : Element; RelatedElements : SET OF Element; END_ENTITY;
+ENTITY Red SUPERTYPE OF (Round); Shade : Label; END_ENTITY;
+ENTITY Round SUBTYPE OF (Red); Radius : Length; END_ENTITY;
+END_SCHEMA;
+"""
+
+FILE = rb"""ISO-10303-21;
+HEADER;FILE_DESCRIPTION((''),'2;1');FILE_NAME('','',(''),(''),'','','');FILE_SCHEMA(('HOUSE'));ENDSEC;
+DATA;
+#1=POINT((0.,1.5,-2.E1));
+#2=PLACEMENT(#1,$);
+#3=PLACEMENT(#1,#2);
+#10=WALL('guid-10','Wand-\X2\00E4\X0\',#3,2.75,.SOLID.,.T.);
+#11=CURTAINWALL('guid-11',$,#2,$,.GLAZED.,.U.);
+#12=DOOR('guid-12','Door',$,2,"14A",((1,2),(),(99999999999999999999)));
+#20=PROPERTY('a',LABEL('wood'));
+#21=PROPERTY('b',LENGTH(3.));
+#22=PROPERTY('c',FLAG(.F.));
+#23=PROPERTY('d',KIND(.SOLID.));
+#24=PROPERTY('e',$);
+#30=CONNECTS('guid-30','both',#12,(#10,#11));
+#40=(RED('dark')ROUND(1.));
+ENDSEC;
+END-ISO-10303-21;
+"""
+
+
+class Package(unittest.TestCase):
+    @classmethod
+    def setUpClass(cls):
+        cls.schema = p21.Schema(SCHEMA)
+        cls.model = cls.schema.read_bytes(FILE)
+
+    def test_values(self):
+        wall, curtain, door = (self.model[name] for name in (10, 11, 12))
+        self.assertEqual(wall.Name, 'Wand-ä')
+        self.assertEqual((wall.Height, wall.PredefinedType, wall.IsExternal), (2.75, 'SOLID', True))
+        self.assertEqual((curtain.Name, curtain.IsExternal), (None, 'UNKNOWN'))
+        self.assertEqual((door.Panels, door.Code, door.Marks), (2, '1001010'[-7:], ((1, 2), (), (99999999999999999999,))))
+        self.assertEqual(wall.ObjectPlacement.Location.Coordinates, (0.0, 1.5, -20.0))
+        self.assertEqual([self.model[name].NominalValue for name in range(20, 25)], [
+            p21.Typed('Label', 'wood'), p21.Typed('Length', 3.0), p21.Typed('Flag', False), p21.Typed('Kind', 'SOLID'), None])
+        self.assertEqual((wall[0], len(wall), wall.attribute_name(0), list(wall)[4]), ('guid-10', 6, 'GlobalId', 'SOLID'))
+        self.assertEqual(wall.get_info()['Height'], 2.75)
+        self.assertIn('Height', dir(wall))
+        with self.assertRaises(AttributeError):
+            wall.Width
+
+    def test_instances(self):
+        self.assertEqual((len(self.model), self.model.schema), (13, 'HOUSE'))
+        self.assertEqual([it.id for it in self.model.by_type('Wall')], [10, 11])
+        self.assertEqual([it.id for it in self.model.by_type('wall', include_subtypes=False)], [10])
+        self.assertEqual([it.id for it in self.model.inverse(12)], [30])
+        self.assertEqual([it.id for it in self.model.get_inverse(self.model[1])], [2, 3])
+        curtain = self.model.by_guid('guid-11')
+        self.assertEqual((curtain.id(), curtain.is_a(), curtain.is_a('Element'), curtain.is_a('Door')), (11, 'CurtainWall', True, False))
+        self.assertEqual(curtain, self.model.by_id(11))
+        self.assertEqual(len({curtain, self.model[11], self.model[10]}), 2)
+        self.assertTrue(10 in self.model and 13 not in self.model)
+        self.assertEqual(repr(self.model[30]), "#30=Connects('guid-30','both',#12,(#10,#11))")
+        self.assertRaises(KeyError, lambda: self.model[13])
+        self.assertRaises(RuntimeError, self.model.by_id, 13)
+        self.assertRaises(RuntimeError, self.model.by_type, 'Roof')
+
+    def test_complex_instances(self):
+        both = self.model[40]
+        self.assertEqual((both.Shade, both.Radius, both.is_a('Round'), both.is_a('Red')), ('dark', 1.0, True, True))
+        self.assertEqual([it.id for it in self.model.by_type('Red')], [40])
+
+    def test_faults(self):
+        with self.assertRaises(p21.Fault) as raised:
+            self.schema.read_bytes(FILE.replace(b"'Door'", b'7'), 'house.stp')
+        fault = raised.exception
+        self.assertEqual((fault.kind, fault.record, fault.attribute, fault.name), ('BadAttribute', 0, 1, None))
+        self.assertTrue(FILE[fault.at :].startswith(b'#12='))
+        self.assertTrue(str(fault).startswith('house.stp:9:') and 'Found the integer 7' in fault.explanation)
+        with self.assertRaises(p21.SchemaFault) as raised:
+            p21.Schema(b'SCHEMA S; END')
+        self.assertEqual(raised.exception.kind, 'Syntax')
+
+    def test_lifetimes(self):
+        with tempfile.TemporaryDirectory() as folder:
+            path = pathlib.Path(folder) / 'house.exp'
+            path.write_bytes(SCHEMA)
+            (pathlib.Path(folder) / 'house.stp').write_bytes(FILE)
+            with p21.open(str(pathlib.Path(folder) / 'house.stp'), path) as model:
+                wall = model[10]
+                gc.collect()
+                self.assertEqual(wall.Name, 'Wand-ä')
+        self.assertRaises(p21.Error, lambda: wall.Name)
+        model.close()
+
+    def test_threads(self):
+        wrong = []
+
+        def look():
+            for _ in range(200):
+                if [it.Name for it in self.model.by_type('Element')] != ['Wand-ä', None, 'Door'] or self.model[1].Coordinates[2] != -20.0:
+                    wrong.append(1)
+
+        threads = [threading.Thread(target=look) for _ in range(4)]
+        for thread in threads:
+            thread.start()
+        for thread in threads:
+            thread.join()
+        self.assertEqual(wrong, [])
+
+
+class Scripts(unittest.TestCase):
+    """Scripts as users of other packages write them."""
+
+    def setUp(self):
+        self.model = p21.Schema(SCHEMA).read_bytes(FILE)
+
+    def test_a_list_of_walls(self):
+        model, lines = self.model, []
+        for wall in model.by_type('Wall'):
+            lines.append('%s %s %s' % (wall.id(), wall.is_a(), wall.Name))
+        self.assertEqual(lines, ['10 Wall Wand-ä', '11 CurtainWall None'])
+
+    def test_properties(self):
+        model, found = self.model, {}
+        for prop in model.by_type('Property'):
+            value = prop.NominalValue
+            found[prop.Name] = (value.is_a(), value.wrappedValue) if value else None
+        self.assertEqual(found, {'a': ('Label', 'wood'), 'b': ('Length', 3.0), 'c': ('Flag', False), 'd': ('Kind', 'SOLID'), 'e': None})
+
+    def test_what_is_connected(self):
+        model = self.model
+        wall = model.by_guid('guid-10')
+        names = [rel.RelatingElement.Name for rel in model.get_inverse(wall) if rel.is_a('Connects') and wall in rel.RelatedElements]
+        self.assertEqual(names, ['Door'])
+        placement, depth = wall.ObjectPlacement, 0
+        while placement is not None:
+            placement, depth = placement.RelTo, depth + 1
+        self.assertEqual(depth, 2)
+
+
+if __name__ == '__main__':
+    unittest.main()
