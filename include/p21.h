@@ -190,8 +190,8 @@ int p21_next_naming(const p21_model *model, uint64_t name, uint64_t from, uint64
 int p21_value(const p21_model *model, uint64_t place, uint64_t record, const uint64_t *path, size_t path_size, uint8_t *room, size_t room_size,
               p21_value_view *value);
 
-/* ---- of the calls that free ---- */
-
+/* Lets go of what a handle holds. The handle itself is then freed by free(), as p21_schema_free and p21_model_free do below; this is for languages that
+ * cannot take these from here. */
 void p21_clear(void *handle);
 
 static inline void p21_schema_free(p21_schema *schema) {

@@ -1,4 +1,5 @@
-/* Reads a schema and a file through the library, and prints what p21check reports: for tests/library. The exit status is that of p21check, too. */
+/* Reads a schema and a file through the library, and prints what p21check reports: for tests/library. The exit status is that of p21check, too;
+ * 9 where the library contradicts itself. */
 #include <p21.h>
 #include <stdio.h>
 #include <string.h>
@@ -103,7 +104,10 @@ static int report(seen *it) {
         for (uint64_t i = 0; i < length; i++) name[i] -= name[i] >= 'a' && name[i] <= 'z' ? 32 : 0;
         if (p21_entity(it->model, (uint8_t *)name, length, &same) != P21_OK || same != entity) it->wrong = 9;
         lines[told] = malloc(length + 32);
-        if (lines[told]) sprintf(lines[told++], "%.*s %llu", (int)length, name, NUMBER(it->records[entity]));
+        if (lines[told])
+            sprintf(lines[told++], "%.*s %llu", (int)length, name, NUMBER(it->records[entity]));
+        else
+            it->wrong = 5;
     }
     qsort(lines, told, sizeof *lines, by_name);
     for (size_t i = 0; i < told; i++) {
@@ -131,7 +135,7 @@ int main(int count, char **words) {
     if (count != 3) return 2;
     size_t text_size = 0, file_size = 0;
     uint8_t *text = bytes_of(words[1], &text_size), *file = bytes_of(words[2], &file_size);
-    if (!text || !file) return 4;
+    if (!text || !file) return 5;
     p21_schema *schema = NULL;
     p21_model *model = NULL, *other = NULL;
     p21_fault fault = {0, 0, 0, 0, 0};

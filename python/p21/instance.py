@@ -126,7 +126,8 @@ def _shown(value: Value) -> str:
 
 
 class Instance:
-    """An instance of a model. Its attributes are attributes of the object, by the names of the schema."""
+    """An instance of a model. Its attributes are attributes of the object, by the names of the schema; one whose name is that of a method, such as id
+    in AP203, is instance["id"]."""
 
     __slots__ = ("_model", "_place")
 
@@ -153,8 +154,10 @@ class Instance:
             raise AttributeError("%s has no attribute %s" % (self.is_a(), name))
         return value_at(model, place, found[0], found[1])
 
-    def __getitem__(self, index: int) -> Value:
-        record, path = list(self._model._attributes(self._place).values())[index]
+    def __getitem__(self, key: Union[int, str]) -> Value:
+        """An attribute by its place, or by its name."""
+        places = self._model._attributes(self._place)
+        record, path = places[key] if isinstance(key, str) else list(places.values())[key]
         return value_at(self._model, self._place, record, path)
 
     def __len__(self) -> int:
@@ -168,12 +171,13 @@ class Instance:
         """The name of an attribute by its place."""
         return list(self._model._attributes(self._place))[index]
 
+    def attributes(self) -> Dict[str, Value]:
+        """Its attributes by their names."""
+        return {name: self[name] for name in self._model._attributes(self._place)}
+
     def get_info(self) -> Dict[str, Any]:
-        """Its id, its type and its attributes by their names."""
-        info: Dict[str, Any] = {"id": int(self.id), "type": self.is_a()}
-        for name in self._model._attributes(self._place):
-            info[name] = getattr(self, name)
-        return info
+        """Its id, its type and its attributes by their names, but for those of these two names."""
+        return {**self.attributes(), "id": int(self.id), "type": self.is_a()}
 
     def __dir__(self):
         return [*super().__dir__(), *self._model._attributes(self._place)]
