@@ -9,6 +9,7 @@ pub mod Rows
 pub mod Parts
 pub mod Instances
 pub mod Lines
+pub mod Values
 pub mod Same
 pub mod Spellings
 pub mod Laws

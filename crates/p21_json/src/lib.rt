@@ -12,6 +12,7 @@ mod logical;
 mod numerals;
 mod pages;
 mod terms;
+mod values;
 
 pub use attributes::{attribute, attribute_count, is_logical};
 pub use characters::{write_bytes, write_string};
@@ -19,3 +20,4 @@ pub use header::write_header;
 pub use laws::{no_value_is_lost, nothing_is_lost, numbers_stay_numbers};
 pub use lines::write_lines;
 pub use terms::Terms;
+pub use values::write_value;
