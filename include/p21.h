@@ -38,7 +38,7 @@ enum {
     P21_HANDLE = 4  /* the handle is null, or one of another kind */
 };
 
-/* The kinds of fault, as docs/FORMAT.md describes them: 1 to 15 of a file, 17 to 22 of a schema. */
+/* The kinds of fault, as docs/FORMAT.md describes them: 1 to 15 of a file, and of a schema 100 more than the number there. */
 enum {
     P21_BAD_TOKEN = 1,
     P21_UNEXPECTED = 2,
@@ -55,12 +55,12 @@ enum {
     P21_MISSING_REFERENCE = 13,
     P21_WRONG_REFERENCE = 14,
     P21_REPEATED_REFERENCE = 15,
-    P21_SYNTAX = 17,
-    P21_NOT_SUPPORTED = 18,
-    P21_REPEATED = 19,
-    P21_UNKNOWN_NAME = 20,
-    P21_CYCLE = 21,
-    P21_BAD_REDECLARATION = 22
+    P21_SYNTAX = 101,
+    P21_NOT_SUPPORTED = 102,
+    P21_REPEATED = 103,
+    P21_UNKNOWN_NAME = 104,
+    P21_CYCLE = 105,
+    P21_BAD_REDECLARATION = 106
 };
 
 /* A fault of a file or of a schema. */

@@ -5,8 +5,8 @@
 #include <string.h>
 
 static const char *const KINDS[] = {"", "BadToken", "Unexpected", "Truncated", "TooDeep", "HeaderEntities", "WrongSchema", "DuplicateName", "UnknownEntity",
-    "AbstractEntity", "BadComplex", "WrongCount", "BadAttribute", "MissingReference", "WrongReference", "RepeatedReference", "", "Syntax", "NotSupported",
-    "Repeated", "UnknownName", "Cycle", "BadRedeclaration"};
+    "AbstractEntity", "BadComplex", "WrongCount", "BadAttribute", "MissingReference", "WrongReference", "RepeatedReference"};
+static const char *const KINDS_OF_SCHEMA[] = {"", "Syntax", "NotSupported", "Repeated", "UnknownName", "Cycle", "BadRedeclaration"};
 
 #define NUMBER(n) ((unsigned long long)(n))
 
@@ -24,8 +24,9 @@ static uint8_t *bytes_of(const char *path, size_t *size) {
 }
 
 static int tell_fault(const p21_fault *fault) {
-    int of_schema = fault->kind > 16;
-    printf("%sfault %u %s at %llu", of_schema ? "schema " : "", of_schema ? fault->kind - 16 : fault->kind, KINDS[fault->kind], NUMBER(fault->at));
+    int of_schema = fault->kind > 100;
+    uint32_t number = of_schema ? fault->kind - 100 : fault->kind;
+    printf("%sfault %u %s at %llu", of_schema ? "schema " : "", number, of_schema ? KINDS_OF_SCHEMA[number] : KINDS[number], NUMBER(fault->at));
     if (fault->kind >= P21_WRONG_COUNT && !of_schema) printf(" rec %llu", NUMBER(fault->record));
     if (fault->kind >= P21_BAD_ATTRIBUTE && !of_schema) printf(" attr %llu", NUMBER(fault->attribute));
     if (fault->kind == P21_MISSING_REFERENCE || fault->kind == P21_WRONG_REFERENCE) printf(" name #%llu", NUMBER(fault->name));

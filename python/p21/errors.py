@@ -16,12 +16,12 @@ KINDS = {
     13: "MissingReference",
     14: "WrongReference",
     15: "RepeatedReference",
-    17: "Syntax",
-    18: "NotSupported",
-    19: "Repeated",
-    20: "UnknownName",
-    21: "Cycle",
-    22: "BadRedeclaration",
+    101: "Syntax",
+    102: "NotSupported",
+    103: "Repeated",
+    104: "UnknownName",
+    105: "Cycle",
+    106: "BadRedeclaration",
 }
 
 

@@ -103,12 +103,12 @@ pub(crate) fn told_fault(told: CFault) -> Option<Fault> {
 /// The fault of a schema, as C sees it; `None` where memory was refused.
 pub(crate) fn schema_fault(error: SchemaError) -> Option<CFault> {
     match error {
-        SchemaError::Syntax(at) => Some(plain(17, at)),
-        SchemaError::NotSupported(at) => Some(plain(18, at)),
-        SchemaError::Repeated(at) => Some(plain(19, at)),
-        SchemaError::UnknownName(at) => Some(plain(20, at)),
-        SchemaError::Cycle(at) => Some(plain(21, at)),
-        SchemaError::BadRedeclaration(at) => Some(plain(22, at)),
+        SchemaError::Syntax(at) => Some(plain(101, at)),
+        SchemaError::NotSupported(at) => Some(plain(102, at)),
+        SchemaError::Repeated(at) => Some(plain(103, at)),
+        SchemaError::UnknownName(at) => Some(plain(104, at)),
+        SchemaError::Cycle(at) => Some(plain(105, at)),
+        SchemaError::BadRedeclaration(at) => Some(plain(106, at)),
         SchemaError::Memory => None,
     }
 }
