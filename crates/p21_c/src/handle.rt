@@ -6,7 +6,7 @@ ghost use Rattle.p21_c.specs.contracts.held.Held.{the_row};
 ghost use Rattle.p21_c.specs.declared.held.Held.{Held};
 
 use crate::held::Held;
-use std::marker::Model;
+use std::marker::{Model, Send};
 
 /// The place of what a handle leads to, or null. For the time of a call, C lends what is there.
 #[repr(C)]
@@ -23,6 +23,9 @@ impl Model for Handle {
 
     ghost also_owns = { λ h. lent the_row h.at h.held };
 }
+
+// What it leads to may be looked at by several threads at once.
+unsafe impl Send for Handle {}
 
 impl Handle {
     /// What it leads to; `None` where it is null.
