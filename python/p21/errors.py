@@ -1,5 +1,7 @@
 """What can go wrong."""
 
+import re
+
 KINDS = {
     1: "BadToken",
     2: "Unexpected",
@@ -49,7 +51,7 @@ class Fault(Error):
 
     kind: the word for what is wrong, such as "BadAttribute"; at: the place, in bytes from the first byte; record, attribute and name: those
     of the instance, counted from 0, and the name that a reference gives, where the kind has them, else None; explanation: what is wrong in words,
-    with the line of the file.
+    with the line of the file; line and column: where to look, from 1 on.
     """
 
     def __init__(self, kind, at, record, attribute, name, explanation):
@@ -60,6 +62,8 @@ class Fault(Error):
         self.attribute = attribute
         self.name = name
         self.explanation: str = explanation
+        place = re.search(r":(\d+):(\d+): fault at ", explanation)
+        self.line, self.column = (int(place[1]), int(place[2])) if place else (None, None)
 
 
 def fault_of(view, explanation: str) -> Fault:

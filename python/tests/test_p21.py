@@ -99,7 +99,8 @@ class Package(unittest.TestCase):
         fault = raised.exception
         self.assertEqual((fault.kind, fault.record, fault.attribute, fault.name), ('BadAttribute', 0, 1, None))
         self.assertTrue(FILE[fault.at :].startswith(b'#12='))
-        self.assertTrue(str(fault).startswith('house.stp:9:') and 'Found the integer 7' in fault.explanation)
+        self.assertEqual((fault.line, fault.column), (9, 20))
+        self.assertTrue(str(fault).startswith('house.stp:9:20:') and 'Found the integer 7' in fault.explanation)
         with self.assertRaises(p21.SchemaFault) as raised:
             p21.Schema(b'SCHEMA S; END')
         self.assertEqual(raised.exception.kind, 'Syntax')
