@@ -1,0 +1,161 @@
+-- Different values are written by different bytes.
+use Rattle.std.proofs.Common.{◌≡◌, ◌⊎◌, ◌<◌, ◌≤◌, ◌+◌, ◌/◌, ◌%◌, ◌^◌, ℕ, Bool, true, false, List, [], ◌∷◌, ◌++◌, map, cond, refl, sym, ap, ◌∙◌, ⊎_elim, inl, inr, append_assoc, arith}
+use Rattle.std.specs.Prelude.{nat_lt}
+use Rattle.std.proofs.lemmas.Bool.{cases_Bool, ltb-true}
+use Rattle.std.proofs.lemmas.List.{append-nil}
+use Rattle.p21_text.specs.Items.{Item, scalar, page}
+use Rattle.p21_rules.specs.Code.{triple, number_code, scalar_code, item_code, items_code, bytes_code, value_code, values_code, key_code}
+use Rattle.p21_rules.specs.Value.{Value, integer, text, item, instance, typed}
+
+triple_once : (m n : ℕ) → m / 65536 ≡ n / 65536 → m / 256 % 256 ≡ n / 256 % 256 → m % 256 ≡ n % 256 → m ≡ n
+triple_once m n high mid low = omega arith
+
+triple_split : (m n : ℕ) (a b : List ℕ) → triple m ++ a ≡ triple n ++ b → (m ≡ n) × (a ≡ b)
+triple_split m n a b e =
+    let high : m / 65536 ≡ n / 65536 = cc in
+    let mid : m / 256 % 256 ≡ n / 256 % 256 = cc in
+    let low : m % 256 ≡ n % 256 = cc in
+    let rest : a ≡ b = cc in
+    (triple_once m n high mid low, rest)
+
+number_once : (m n : ℕ) → m / 2 ^ 48 ≡ n / 2 ^ 48 → m / 2 ^ 24 % 2 ^ 24 ≡ n / 2 ^ 24 % 2 ^ 24 → m % 2 ^ 24 ≡ n % 2 ^ 24 → m ≡ n
+number_once m n high mid low = omega arith
+
+number_split : (m n : ℕ) (a b : List ℕ) → number_code m ++ a ≡ number_code n ++ b → (m ≡ n) × (a ≡ b)
+number_split m n a b e =
+    let first = triple_split (m / 2 ^ 48) (n / 2 ^ 48) (triple (m / 2 ^ 24 % 2 ^ 24) ++ (triple (m % 2 ^ 24) ++ a)) (triple (n / 2 ^ 24 % 2 ^ 24) ++ (triple (n % 2 ^ 24) ++ b)) e in
+    let second = triple_split (m / 2 ^ 24 % 2 ^ 24) (n / 2 ^ 24 % 2 ^ 24) (triple (m % 2 ^ 24) ++ a) (triple (n % 2 ^ 24) ++ b) first.1 in
+    let third = triple_split (m % 2 ^ 24) (n % 2 ^ 24) a b second.1 in
+    (number_once m n first.0 second.0 third.0, third.1)
+
+-- the two forms of a character
+scalar_low : (c : ℕ) → nat_lt c 128 ≡ true → (c < 128) × (scalar_code c ≡ (c + 1) ∷ [])
+unfolding scalar_code
+scalar_low c h = (ltb-true c 128 h, ap (λ b. cond b ((c + 1) ∷ []) (200 ∷ triple c)) h)
+
+scalar_high : (c : ℕ) → nat_lt c 128 ≡ false → scalar_code c ≡ 200 ∷ triple c
+unfolding scalar_code
+scalar_high c h = ap (λ b. cond b ((c + 1) ∷ []) (200 ∷ triple c)) h
+
+scalar_split : (c d : ℕ) (a b : List ℕ) → scalar_code c ++ a ≡ scalar_code d ++ b → (c ≡ d) × (a ≡ b)
+scalar_split c d a b e =
+    ⊎_elim
+    (λ (h : nat_lt c 128 ≡ true). let p = scalar_low c h in
+    ⊎_elim
+    (λ (k : nat_lt d 128 ≡ true). let q = scalar_low d k in low p.1 q.1 e)
+    (λ (k : nat_lt d 128 ≡ false). absurd (mixed c d a b p.0 p.1 (scalar_high d k) e))
+    (cases_Bool (nat_lt d 128)))
+    (λ (h : nat_lt c 128 ≡ false). let p = scalar_high c h in
+    ⊎_elim
+    (λ (k : nat_lt d 128 ≡ true). let q = scalar_low d k in absurd (mixed d c b a q.0 q.1 p (sym e)))
+    (λ (k : nat_lt d 128 ≡ false). high p (scalar_high d k) e)
+    (cases_Bool (nat_lt d 128)))
+    (cases_Bool (nat_lt c 128))
+  where
+    low : scalar_code c ≡ (c + 1) ∷ [] → scalar_code d ≡ (d + 1) ∷ [] → scalar_code c ++ a ≡ scalar_code d ++ b → (c ≡ d) × (a ≡ b)
+    low p q e =
+        let both : (c + 1) ∷ a ≡ (d + 1) ∷ b = sym (ap (λ l. l ++ a) p) ∙ e ∙ ap (λ l. l ++ b) q in
+        let one : c + 1 ≡ d + 1 = cc in
+        let rest : a ≡ b = cc in
+        (omega arith, rest)
+
+    high : scalar_code c ≡ 200 ∷ triple c → scalar_code d ≡ 200 ∷ triple d → scalar_code c ++ a ≡ scalar_code d ++ b → (c ≡ d) × (a ≡ b)
+    high p q e =
+        let both : 200 ∷ (triple c ++ a) ≡ 200 ∷ (triple d ++ b) = sym (ap (λ l. l ++ a) p) ∙ e ∙ ap (λ l. l ++ b) q in
+        let rest : triple c ++ a ≡ triple d ++ b = cc in
+        triple_split c d a b rest
+
+    mixed : (c d : ℕ) (a b : List ℕ) → c < 128 → scalar_code c ≡ (c + 1) ∷ [] → scalar_code d ≡ 200 ∷ triple d → scalar_code c ++ a ≡ scalar_code d ++ b → ⊥
+    mixed c d a b less p q e =
+        let both : (c + 1) ∷ a ≡ 200 ∷ (triple d ++ b) = sym (ap (λ l. l ++ a) p) ∙ e ∙ ap (λ l. l ++ b) q in
+        let one : c + 1 ≡ 200 = cc in
+        omega arith
+
+-- a character begins with no byte that ends a string or begins a character of a part
+scalar_first : (c f : ℕ) (a b : List ℕ) → (f ≡ 0) ⊎ (f ≡ 201) → scalar_code c ++ a ≡ f ∷ b → ⊥
+scalar_first c f a b which e =
+    ⊎_elim
+    (λ (h : nat_lt c 128 ≡ true).
+    let p = scalar_low c h in
+    let both : (c + 1) ∷ a ≡ f ∷ b = sym (ap (λ l. l ++ a) p.1) ∙ e in
+    let one : c + 1 ≡ f = cc in
+    let less = p.0 in
+    omega arith)
+    (λ (h : nat_lt c 128 ≡ false).
+    let both : 200 ∷ (triple c ++ a) ≡ f ∷ b = sym (ap (λ l. l ++ a) (scalar_high c h)) ∙ e in
+    let one : 200 ≡ f = cc in
+    omega arith)
+    (cases_Bool (nat_lt c 128))
+
+item_split : (x y : Item) (a b : List ℕ) → item_code x ++ a ≡ item_code y ++ b → (x ≡ y) × (a ≡ b)
+item_split (scalar c) (scalar d) a b e = let r = scalar_split c d a b e in (ap scalar r.0, r.1)
+item_split (scalar c) (page l n) a b e = absurd (scalar_first c 201 a (l ∷ n ∷ b) (inr refl) e)
+item_split (page l n) (scalar d) a b e = absurd (scalar_first d 201 b (l ∷ n ∷ a) (inr refl) (sym e))
+item_split (page l n) (page k m) a b e =
+    let one : l ≡ k = cc in
+    let two : n ≡ m = cc in
+    let rest : a ≡ b = cc in
+    (ap (λ u. page u n) one ∙ ap (page k) two, rest)
+
+item_first : (x : Item) (a b : List ℕ) → item_code x ++ a ≡ 0 ∷ b → ⊥
+item_first (scalar c) a b e = scalar_first c 0 a b (inl refl) e
+item_first (page l n) a b e = let one : ◌≡◌ {A = ℕ} 201 0 = cc in omega (arith, one)
+
+items_split : (xs ys : List Item) (a b : List ℕ) → items_code xs ++ a ≡ items_code ys ++ b → (xs ≡ ys) × (a ≡ b)
+items_split [] [] a b e = let rest : a ≡ b = cc in (refl, rest)
+items_split [] (y ∷ ys) a b e = absurd (item_first y (items_code ys ++ b) a (sym (append_assoc (item_code y) (items_code ys) b) ∙ sym e))
+items_split (x ∷ xs) [] a b e = absurd (item_first x (items_code xs ++ a) b (sym (append_assoc (item_code x) (items_code xs) a) ∙ e))
+items_split (x ∷ xs) (y ∷ ys) a b e =
+    let first = item_split x y (items_code xs ++ a) (items_code ys ++ b) (sym (append_assoc (item_code x) (items_code xs) a) ∙ e ∙ append_assoc (item_code y) (items_code ys) b) in
+    let rest = items_split xs ys a b first.1 in
+    (ap (λ u. u ∷ xs) first.0 ∙ ap (λ l. y ∷ l) rest.0, rest.1)
+
+scalars_once : (xs ys : List ℕ) → map scalar xs ≡ map scalar ys → xs ≡ ys
+scalars_once [] [] e = refl
+scalars_once [] (y ∷ ys) e = cc
+scalars_once (x ∷ xs) [] e = cc
+scalars_once (x ∷ xs) (y ∷ ys) e =
+    let first : x ≡ y = cc in
+    let others : map scalar xs ≡ map scalar ys = cc in
+    ap (λ u. u ∷ xs) first ∙ ap (λ l. y ∷ l) (scalars_once xs ys others)
+
+bytes_split : (xs ys : List ℕ) (a b : List ℕ) → bytes_code xs ++ a ≡ bytes_code ys ++ b → (xs ≡ ys) × (a ≡ b)
+bytes_split xs ys a b e = let r = items_split (map scalar xs) (map scalar ys) a b e in (scalars_once xs ys r.0, r.1)
+
+behind_tag : (t u : ℕ) (a b : List ℕ) → t ∷ a ≡ u ∷ b → a ≡ b
+behind_tag t u a b e = cc
+
+value_split : (v w : Value) (a b : List ℕ) → value_code v ++ a ≡ value_code w ++ b → (v ≡ w) × (a ≡ b)
+value_split (integer s) (integer t) a b e = let r = bytes_split s t a b (behind_tag 1 1 (bytes_code s ++ a) (bytes_code t ++ b) e) in (ap integer r.0, r.1)
+value_split (text s) (text t) a b e = let r = items_split s t a b (behind_tag 2 2 (items_code s ++ a) (items_code t ++ b) e) in (ap text r.0, r.1)
+value_split (item s) (item t) a b e = let r = bytes_split s t a b (behind_tag 3 3 (bytes_code s ++ a) (bytes_code t ++ b) e) in (ap item r.0, r.1)
+value_split (instance m) (instance n) a b e = let r = number_split m n a b (behind_tag 4 4 (number_code m ++ a) (number_code n ++ b) e) in (ap instance r.0, r.1)
+value_split (typed k v) (typed l w) a b e =
+    let behind = behind_tag 5 5 ((bytes_code k ++ value_code v) ++ a) ((bytes_code l ++ value_code w) ++ b) e in
+    let first = bytes_split k l (value_code v ++ a) (value_code w ++ b) (sym (append_assoc (bytes_code k) (value_code v) a) ∙ behind ∙ append_assoc (bytes_code l) (value_code w) b) in
+    let rest = value_split v w a b first.1 in
+    (ap (λ u. typed u v) first.0 ∙ ap (typed l) rest.0, rest.1)
+value_split (integer s) w a b e = cc
+value_split (text s) w a b e = cc
+value_split (item s) w a b e = cc
+value_split (instance m) w a b e = cc
+value_split (typed k v) w a b e = cc
+
+some : (v : Value) (a : List ℕ) → value_code v ++ a ≡ [] → ⊥
+some (integer s) a e = cc
+some (text s) a e = cc
+some (item s) a e = cc
+some (instance n) a e = cc
+some (typed k v) a e = cc
+
+values_once : (vs ws : List Value) → values_code vs ≡ values_code ws → vs ≡ ws
+values_once [] [] e = refl
+values_once [] (w ∷ ws) e = absurd (some w (values_code ws) (sym e))
+values_once (v ∷ vs) [] e = absurd (some v (values_code vs) e)
+values_once (v ∷ vs) (w ∷ ws) e =
+    let r = value_split v w (values_code vs) (values_code ws) e in
+    ap (λ u. u ∷ vs) r.0 ∙ ap (λ l. w ∷ l) (values_once vs ws r.1)
+
+-- a key is of one rule and one list of values
+pub key_once : (j k : ℕ) (vs ws : List Value) → key_code j vs ≡ key_code k ws → (j ≡ k) × (vs ≡ ws)
+key_once j k vs ws e = let r = number_split j k (values_code vs) (values_code ws) e in (r.0, values_once vs ws r.1)

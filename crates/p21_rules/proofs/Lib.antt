@@ -1,0 +1,5 @@
+pub mod CodeLemmas
+pub mod ParameterLemmas
+pub mod ValueLemmas
+pub mod FirstLemmas
+pub mod PushLemmas

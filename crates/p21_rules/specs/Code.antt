@@ -1,0 +1,44 @@
+-- How values are written one after the other, so that different ones differ: no value's bytes begin with those of another.
+use Rattle.std.specs.Prelude.{ℕ, ◌+◌, ◌/◌, ◌%◌, ◌^◌, nat_lt, List, [], ◌∷◌, ◌++◌, map, if◌then◌else◌}
+use Rattle.p21_text.specs.Items.{Item, scalar, page}
+use Rattle.p21_rules.specs.Value.{Value, integer, text, item, instance, typed}
+
+-- a number below 2^24 by three bytes
+abbrev pub triple : ℕ → List ℕ
+triple n = n / 65536 ∷ n / 256 % 256 ∷ n % 256 ∷ []
+
+-- a number below 2^64
+abbrev pub number_code : ℕ → List ℕ
+number_code n = triple (n / 2 ^ 48) ++ (triple (n / 2 ^ 24 % 2 ^ 24) ++ triple (n % 2 ^ 24))
+
+-- a character by its number
+unfoldable pub scalar_code : ℕ → List ℕ
+scalar_code c = if nat_lt c 128 then (c + 1) ∷ [] else 200 ∷ triple c
+
+abbrev pub item_code : Item → List ℕ
+item_code (scalar c) = scalar_code c
+item_code (page letter n) = 201 ∷ letter ∷ n ∷ []
+
+-- the items of a string, and their end
+abbrev pub items_code : List Item → List ℕ
+items_code [] = 0 ∷ []
+items_code (x ∷ xs) = item_code x ++ items_code xs
+
+-- bytes as such items
+abbrev pub bytes_code : List ℕ → List ℕ
+bytes_code bs = items_code (map scalar bs)
+
+abbrev pub value_code : Value → List ℕ
+value_code (integer ds) = 1 ∷ bytes_code ds
+value_code (text xs) = 2 ∷ items_code xs
+value_code (item s) = 3 ∷ bytes_code s
+value_code (instance n) = 4 ∷ number_code n
+value_code (typed k v) = 5 ∷ (bytes_code k ++ value_code v)
+
+abbrev pub values_code : List Value → List ℕ
+values_code [] = []
+values_code (v ∷ vs) = value_code v ++ values_code vs
+
+-- values under the rule of this number
+abbrev pub key_code : ℕ → List Value → List ℕ
+key_code rule vs = number_code rule ++ values_code vs
