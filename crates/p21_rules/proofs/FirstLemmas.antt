@@ -1,5 +1,5 @@
 -- The first instances that have certain values, where one more instance is seen.
-use Rattle.std.proofs.Common.{◌≡◌, ◌⊎◌, ⊎_elim, ℕ, ◌+◌, ◌<◌, ◌≤◌, cond, map, take, drop, length, get_or, Vec, Bool, true, false, List, [], ◌∷◌, ◌++◌, Option, None, Some, refl, sym, ap, subst, ◌∙◌, append_assoc, arith}
+use Rattle.std.proofs.Common.{◌≡◌, ⊎_elim, ℕ, ◌+◌, ◌<◌, ◌≤◌, cond, length, Vec, true, false, List, [], ◌∷◌, ◌++◌, Option, None, Some, refl, sym, ap, subst, ◌∙◌, append_assoc, arith}
 use Rattle.std.specs.List.{AllByRecursion}
 use Rattle.std.specs.Prelude.{slice_get, nat_eq, nat_lt}
 use Rattle.std.specs.Cmp.Lexicographic.{bytes_decides, pointwise}
@@ -13,7 +13,7 @@ use Rattle.p21_tree.specs.Sentence.{Instance}
 use Rattle.p21_rules.specs.declared.rule.UniqueRule.{UniqueRule}
 use Rattle.p21_rules.specs.declared.unique.NotUnique.{NotUnique}
 use Rattle.p21_rules.specs.Code.{key_code}
-use Rattle.p21_rules.specs.Firsts.{breach_of, key_eq, seen_below, Holds, IsBreach, IsKept, IsKey}
+use Rattle.p21_rules.specs.Firsts.{breach_of, key_eq, seen_below, Holds, IsBreach, IsKept}
 use Rattle.p21_rules.proofs.CodeLemmas.{key_once}
 use Rattle.p21_rules.proofs.ValueLemmas.{OneItems, values_of_once}
 use Rattle.p21_rules.specs.NotUnique as unique

@@ -1,5 +1,5 @@
 -- The attributes of a record are one list, and an attribute has one parameter in an instance.
-use Rattle.std.proofs.Common.{◌≡◌, ◌⊎◌, ⊎_elim, inl, inr, ℕ, zero, suc, add-one, ◌+◌, ◌<◌, ◌≤◌, Bool, true, false, List, [], ◌∷◌, ◌++◌, Option, Some, None, cond, map, min, length, take, drop, get_or, nat_eq, refl, sym, ap, subst, ◌∙◌, arith}
+use Rattle.std.proofs.Common.{◌≡◌, ⊎_elim, inl, inr, ℕ, zero, suc, add-one, ◌+◌, ◌<◌, ◌≤◌, Bool, true, false, List, [], ◌∷◌, ◌++◌, Option, Some, None, cond, map, min, length, take, drop, get_or, nat_eq, refl, sym, ap, subst, ◌∙◌, arith}
 use Rattle.std.specs.Prelude.{slice_get, MatchOption}
 use Rattle.std.proofs.lemmas.List.{take_more, drop_more, length-map, map-append}
 use Rattle.std.proofs.lemmas.Slice.Zip.{AllZip-long}
@@ -9,7 +9,7 @@ use Rattle.std.specs.Str.{bytes_eq}
 use Rattle.std.specs.Cmp.Lexicographic.{bytes_decides}
 use Rattle.p21_express.specs.Schema.{Schema, Entity, Defined}
 use Rattle.p21_express.specs.WellFormed.{IsIn, AreDistinct, IsWellFormed, IsEntity, Origin}
-use Rattle.p21_tree.specs.Tree.{Tree, Trees, nil, cons}
+use Rattle.p21_tree.specs.Tree.{Tree}
 use Rattle.p21_tree.specs.Grammar.{Entry}
 use Rattle.p21_tree.specs.Plain.{plain, plain_all}
 use Rattle.p21_tree.specs.Views.{plain_record}

@@ -13,7 +13,7 @@ use Rattle.p21_rules.specs.Firsts.{IsPushed}
 use Rattle.p21_rules.specs.Means.{Means}
 use Rattle.p21_rules.specs.Means as means
 use Rattle.p21_rules.specs.Parameter.{HasValue, HasValues, IsParameterIn}
-use Rattle.p21_rules.specs.Value.{Value, integer, text, item, instance, typed}
+use Rattle.p21_rules.specs.Value.{Value, integer, text, typed}
 use Rattle.p21_rules.proofs.ParameterLemmas.{parameter_once, zip_more}
 
 -- a body has one list of items at most

@@ -1,5 +1,4 @@
 use Rattle.std.proofs.Common.{◌≡◌, ◌∙◌, Some, nat_eq, sym, ap}
-use Rattle.p21_express.specs.WellFormed.{Origin}
 use Rattle.p21_schema.specs.Row.{attribute_at, same_origin}
 use Rattle.p21_rules.proofs.ParameterLemmas.{same_attribute}
 use Rattle.p21_rules.proofs.attributes.is_at.Goals as goal

@@ -1,13 +1,11 @@
-use Rattle.std.proofs.Common.{◌≡◌, ◌<◌, ◌≤◌, ◌+◌, ◌∷◌, ◌∙◌, ℕ, List, Option, Some, None, length, drop, map, get_or, sym, ap, subst, arith}
+use Rattle.std.proofs.Common.{◌≡◌, ◌∙◌, ℕ, List, Option, Some, None, length, map, sym, ap, subst, arith}
 use Rattle.std.proofs.lemmas.List.{drop_all}
-use Rattle.p21_express.specs.WellFormed.{Origin}
 use Rattle.p21_tree.specs.Grammar.{Entry}
 use Rattle.p21_tree.specs.Plain.{plain, plain_all}
-use Rattle.p21_tree.specs.Tree.{Tree, Trees}
+use Rattle.p21_tree.specs.Tree.{Tree}
 use Rattle.p21_tree.specs.Views.{plain_record}
 use Rattle.p21_tree.specs.declared.instances.Record.{Record}
 use Rattle.p21_tree.specs.declared.params.Param.{Param}
-use Rattle.p21_schema.specs.Place.{entity_name}
 use Rattle.p21_schema.specs.Row.{attribute_at}
 use Rattle.p21_check.specs.Attributes.{AreAttributes}
 use Rattle.p21_rules.specs.Named.{AreNamed, IsNamed}

@@ -1,6 +1,5 @@
-use Rattle.std.proofs.Common.{◌≡◌, ◌<◌, ◌≤◌, ◌∙◌, List, Some, length, get_or, min, sym, ap, subst, arith}
+use Rattle.std.proofs.Common.{◌≡◌, ◌<◌, ◌≤◌, ◌∙◌, Some, length, get_or, min, sym, ap, arith}
 use Rattle.std.proofs.lemmas.Option.{slice_get-get_or}
-use Rattle.p21_express.specs.WellFormed.{Origin}
 use Rattle.p21_tree.specs.declared.params.Param.{Param}
 use Rattle.p21_tree.specs.Plain.{plain}
 use Rattle.p21_schema.specs.Row.{attribute_at, no_attribute}

@@ -1,4 +1,4 @@
-use Rattle.std.proofs.Common.{sym, subst}
+use Rattle.std.proofs.Common.{subst}
 use Rattle.p21_tree.specs.Views.{plain_instance}
 use Rattle.p21_rules.specs.Firsts.{IsKey}
 use Rattle.p21_rules.proofs.FirstLemmas.{breach_with, breach_without}

@@ -1,10 +1,9 @@
-use Rattle.std.proofs.Common.{◌≡◌, ◌+◌, ◌++◌, ◌∷◌, ◌∙◌, List, [], Some, length, drop, get_or, refl, sym, ap, subst, append_assoc, arith}
+use Rattle.std.proofs.Common.{◌≡◌, ◌+◌, ◌++◌, ◌∷◌, ◌∙◌, List, [], Some, drop, sym, ap, subst, append_assoc}
 use Rattle.std.proofs.lemmas.List.{append-nil, drop_more, drop_all}
 use Rattle.std.proofs.lemmas.Option.{slice_get-get_or}
 use Rattle.std.specs.Prelude.{slice_get}
 use Rattle.p21_tree.specs.Views.{plain_instance}
 use Rattle.p21_rules.specs.declared.rule.UniqueRule.{UniqueRule}
-use Rattle.p21_rules.specs.declared.unique.NotUnique.{NotUnique}
 use Rattle.p21_rules.specs.Firsts.{breach_of}
 use Rattle.p21_rules.specs.NotUnique.{AreFaultsAt}
 use Rattle.p21_rules.specs.NotUnique as unique

@@ -1,0 +1,44 @@
+-- The report of a file against a schema and the rules UNIQUE that are looked at.
+use Rattle.std.specs.Prelude.{◌≡◌, ◌≢◌, ℕ, Bool, true, false, List, [], Ok, Err, map, take}
+use Rattle.p21_express.specs.Schema.{Schema}
+use Rattle.p21_tree.specs.Sentence.{Instance}
+use Rattle.p21_tree.specs.declared.faults.Fault.{Fault}
+use Rattle.p21_reader.specs.AllFaults.{IsReadingWithAll}
+use Rattle.p21_reader.specs.Reading.{IsReading}
+use Rattle.p21_render.specs.FaultLine.{fault_lines, fault_text}
+use Rattle.p21_render.specs.ReadingText.{IsModelText}
+use Rattle.p21_rules.specs.declared.unique.NotUnique.{NotUnique}
+use Rattle.p21_rules.specs.NotUnique.{AreFaults}
+use Rattle.p21_rule_text.specs.declared.rules.Rules.{Rules}
+use Rattle.p21_run.specs.declared.outcome.Outcome.{Outcome}
+use Rattle.p21_run.specs.declared.outcome.Outcome.TheVariants as outcome
+use Rattle.p21_rule_run.specs.FaultLine.{not_unique_lines}
+
+-- the labels of rules, in their order
+abbrev pub labels_of : Rules → List (List ℕ)
+labels_of rules = map (λ label. label.items) rules.labels.items
+
+-- the faults that a report tells: all, or the first alone
+abbrev pub told : (all : Bool) → List NotUnique → List NotUnique
+told true fs = fs
+told false fs = take 1 fs
+
+-- The report of a model: its counts where all instances are unique, and else the lines of those that are not.
+pub data IsOfModel (all : Bool) (s : Schema) (rules : Rules) (is : List Instance) : Outcome → List ℕ → Type 0 where
+  unique : {text : List ℕ} → AreFaults s rules.unique.items is [] → IsModelText s is text → IsOfModel all s rules is outcome.Complete text
+  not_unique : {fs : List NotUnique} {text : List ℕ} → AreFaults s rules.unique.items is fs → fs ≢ [] → text ≡ not_unique_lines (labels_of rules) (told all fs) → IsOfModel all s rules is outcome.Faulty text
+
+-- The report of a file: the line of the fault of its reading, or the report of its model.
+pub data IsFirstRuled (s : Schema) (rules : Rules) (file : List ℕ) : Outcome → List ℕ → Type 0 where
+  faulty : {f : Fault} {text : List ℕ} → IsReading s file (Err f) → text ≡ fault_text f → IsFirstRuled s rules file outcome.Faulty text
+  of_model : {is : List Instance} {o : Outcome} {text : List ℕ} → IsReading s file (Ok is) → IsOfModel false s rules is o text → IsFirstRuled s rules file o text
+
+-- The same with the lines of all faults.
+pub data IsFullyRuled (s : Schema) (rules : Rules) (file : List ℕ) : Outcome → List ℕ → Type 0 where
+  faulty : {fs : List Fault} {text : List ℕ} → IsReadingWithAll s file (Err fs) → text ≡ fault_lines fs → IsFullyRuled s rules file outcome.Faulty text
+  of_model : {is : List Instance} {o : Outcome} {text : List ℕ} → IsReadingWithAll s file (Ok is) → IsOfModel true s rules is o text → IsFullyRuled s rules file o text
+
+-- the report with all faults where they are wanted, and else with the first alone
+abbrev pub IsRuled : (all : Bool) → Schema → Rules → List ℕ → Outcome → List ℕ → Type 0
+IsRuled true s rules file o text = IsFullyRuled s rules file o text
+IsRuled false s rules file o text = IsFirstRuled s rules file o text

@@ -1,0 +1,8 @@
+//! A run that checks a file against its schema, and then against the rules UNIQUE of the schema.
+#![tactic(auto)]
+
+mod fault_text;
+mod runner;
+
+pub use fault_text::render_not_unique;
+pub use runner::{How, run_rules};

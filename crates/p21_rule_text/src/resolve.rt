@@ -1,0 +1,151 @@
+//! The attributes that rules name.
+
+ghost use Rattle.p21_schema.specs.Place.{IsEntityOf};
+ghost use Rattle.p21_schema.specs.Row.{IsAttributeOf};
+ghost use Rattle.std.specs.Prelude.{IfSome};
+ghost use Rattle.p21_rule_text.specs.Clauses.{AreClausesOf, IsFoundIn};
+
+use crate::clauses::{Clause, Section};
+use p21_express::EntityDecl;
+use p21_schema::{AttrId, EntityId, Schema};
+
+/// What a name is in an entity.
+#[derive(Clone, Copy)]
+pub(crate) enum Found {
+    /// An explicit attribute of it or of an ancestor.
+    Explicit(AttrId),
+    /// A derived or inverse attribute.
+    Other,
+    Nothing,
+}
+
+/// What a name is in an entity; behind SELF and the name of an entity, by what this one declares.
+pub(crate) fn resolve(
+    schema: &Schema,
+    clauses: &[Clause<'_>],
+    entity: EntityId,
+    of: Option<&[u8]>,
+    name: &[u8],
+) -> Found
+    requires entity { IsEntityOf schema.now entity }
+    requires clauses { AreClausesOf schema.now clauses.now }
+    ensures { IsFoundIn schema.now result }
+{
+    if let Some(attribute) = explicit(schema, entity, of, name) {
+        return Found::Explicit(attribute);
+    }
+    if is_derived(schema, entity, of, name) || is_inverse(schema, clauses, entity, of, name) {
+        return Found::Other;
+    }
+    Found::Nothing
+}
+
+/// The explicit attribute of this name that the entity or an ancestor newly declares.
+fn explicit(schema: &Schema, entity: EntityId, of: Option<&[u8]>, name: &[u8]) -> Option<AttrId>
+    requires { IsEntityOf schema.now entity }
+    ensures { IfSome result (IsAttributeOf schema.now) }
+{
+    for declared in &schema.declared().entities {
+        if let Some(other) = named_above(schema, entity, of, &declared.name) {
+            if let Some(attribute) = own(schema, other, declared, name) {
+                return Some(attribute);
+            }
+        }
+    }
+    None
+}
+
+/// The entity of a name, where it is this one or an ancestor, and the one that is named behind SELF.
+fn named_above(
+    schema: &Schema,
+    entity: EntityId,
+    of: Option<&[u8]>,
+    name: &[u8],
+) -> Option<EntityId>
+    requires { IsEntityOf schema.now entity }
+    ensures { IfSome result (IsEntityOf schema.now) }
+{
+    let other = schema.entity(name)?;
+    if schema.is_a(entity, other) && is_named(of, name) {
+        Some(other)
+    } else {
+        None
+    }
+}
+
+/// Whether no name is given, or this one.
+fn is_named(of: Option<&[u8]>, name: &[u8]) -> bool {
+    match of {
+        Some(of) => of.eq_ignore_ascii_case(name),
+        None => true,
+    }
+}
+
+/// The explicit attribute of this name that an entity newly declares.
+fn own(schema: &Schema, entity: EntityId, declared: &EntityDecl, name: &[u8]) -> Option<AttrId>
+    requires { IsEntityOf schema.now entity }
+    ensures { IfSome result (IsAttributeOf schema.now) }
+{
+    let position = declared
+        .attributes
+        .iter()
+        .filter(|attribute| attribute.of.is_none())
+        .position(|attribute| name.eq_ignore_ascii_case(&attribute.name))?;
+    if position < schema.own_count(entity) {
+        Some(schema.own(entity, position))
+    } else {
+        None
+    }
+}
+
+/// Whether the entity or an ancestor declares an attribute of this name in DERIVE.
+fn is_derived(schema: &Schema, entity: EntityId, of: Option<&[u8]>, name: &[u8]) -> bool
+    requires { IsEntityOf schema.now entity }
+{
+    for declared in &schema.declared().entities {
+        if derives(declared, name) && named_above(schema, entity, of, &declared.name).is_some() {
+            return true;
+        }
+    }
+    false
+}
+
+/// Whether an entity declares an attribute of this name in DERIVE.
+fn derives(declared: &EntityDecl, name: &[u8]) -> bool {
+    declared
+        .derived
+        .iter()
+        .any(|attribute| name.eq_ignore_ascii_case(&attribute.name))
+}
+
+/// Whether the entity or an ancestor declares an attribute of this name in INVERSE.
+fn is_inverse(
+    schema: &Schema,
+    clauses: &[Clause<'_>],
+    entity: EntityId,
+    of: Option<&[u8]>,
+    name: &[u8],
+) -> bool
+    requires entity { IsEntityOf schema.now entity }
+    requires clauses { AreClausesOf schema.now clauses.now }
+{
+    for clause in clauses {
+        if declares_inverse(clause, name)
+            && schema.is_a(entity, clause.entity)
+            && is_named(of, schema.name_of(clause.entity))
+        {
+            return true;
+        }
+    }
+    false
+}
+
+/// Whether a clause of INVERSE declares an attribute of this name.
+fn declares_inverse(clause: &Clause<'_>, name: &[u8]) -> bool {
+    clause.section == Section::Inverse
+        && match clause.words.as_slice() {
+            [own, _, _, word, ..] if own.is(b"SELF") => word.is(name),
+            [word, ..] => word.is(name),
+            [] => false,
+        }
+}
