@@ -7,7 +7,7 @@ _p21check() {
     --format) mapfile -t COMPREPLY < <(compgen -W 'text json' -- "$word") && return ;;
     esac
     if [[ $word == -* ]]; then
-        mapfile -t COMPREPLY < <(compgen -W '--lanes --capacity --all --distinct --explain --format --progress --help --version' -- "$word")
+        mapfile -t COMPREPLY < <(compgen -W '--lanes --capacity --all --distinct --rules --explain --format --progress --help --version' -- "$word")
         return
     fi
     # The first word that is no option and no value of one is the schema, the second the file.

@@ -11,6 +11,7 @@ use crate::program_error::ProgramError;
 use crate::progress::{NoClock, Program, Progress, Stage};
 use crate::watched::Watched;
 use crate::words::{Wanted, not_text, what_is_wanted};
+use p21_rule_run::{How, run_rules};
 use p21_run::{Outcome, Source, Stream, run_heard};
 use std::alloc::{AllocError, Global};
 use std::fs::Files;
@@ -21,7 +22,7 @@ use std::time::Clock;
 
 /// The program `p21check [OPTIONS] SCHEMA FILE`: reads the schema, checks the file against it by `--lanes` worker threads (4) of this
 /// `--capacity` (256), and writes the report to `output`; with `--all` that of every fault. With `--distinct` a SET or a LIST OF UNIQUE
-/// that names one instance twice is a fault. With `--explain` at most so many faults (20) are then explained on `errors`, and a device
+/// that names one instance twice is a fault; with `--rules` so is an instance that is not unique by a rule UNIQUE of the schema. With `--explain` at most so many faults (20) are then explained on `errors`, and a device
 /// that failed, where there is memory; with `--format json` as objects.
 ///
 /// `words` are the arguments of the command line, the program's own name first; FILE `-` is `input`, and `rt` opens the others,
@@ -216,20 +217,34 @@ where
     let mut schema = Opened::new(rt, wanted.schema);
     let mut file = Watched::new(file, progress);
     let mut out = Stream::new(output);
-    let outcome = run_heard(
-        rt,
-        alloc,
-        progress,
-        &mut schema,
-        &mut file,
-        &mut out,
-        wanted.options.lanes,
-        wanted.options.capacity,
-        wanted.all,
-        wanted.options.rules,
-        drawn_key(rt),
-        explainer,
-    );
+    let options = wanted.options;
+    let key = drawn_key(rt);
+    let outcome = if wanted.ruled {
+        let how = How {
+            gate: progress,
+            lanes: options.lanes,
+            capacity: options.capacity,
+            all: wanted.all,
+            rules: options.rules,
+            key,
+        };
+        run_rules(rt, alloc, &how, &mut schema, &mut file, &mut out, explainer)
+    } else {
+        run_heard(
+            rt,
+            alloc,
+            progress,
+            &mut schema,
+            &mut file,
+            &mut out,
+            options.lanes,
+            options.capacity,
+            wanted.all,
+            options.rules,
+            key,
+            explainer,
+        )
+    };
     progress.remove();
     explainer.hear_end(
         outcome,

@@ -18,6 +18,8 @@ pub(crate) struct Wanted<'a> {
     pub(crate) file: &'a str,
     /// Whether every fault is reported, or only the first.
     pub(crate) all: bool,
+    /// Whether the rules UNIQUE of the schema are checked too.
+    pub(crate) ruled: bool,
     pub(crate) options: Options,
 }
 
@@ -75,6 +77,7 @@ fn wanted_by<'a>(matches: &ArgMatches<'a>, is_terminal: bool) -> Option<Wanted<'
         schema: matches.get_str("SCHEMA")?,
         file: matches.get_str("FILE")?,
         all: matches.get_flag("all"),
+        ruled: matches.get_flag("rules"),
         options: options_of(matches, is_terminal)?,
     })
 }
@@ -142,7 +145,8 @@ fn command<'a>(alloc: Global) -> Result<Command<'a>, AllocError> {
 /// Adds the options.
 fn with_options<'a>(alloc: Global, command: Command<'a>) -> Result<Command<'a>, AllocError> {
     let command = with_lanes(alloc, command)?.arg(all(alloc))?;
-    with_telling(alloc, with_rules(alloc, command)?)
+    let command = with_rules(alloc, command)?.arg(rules(alloc))?;
+    with_telling(alloc, command)
 }
 
 /// Adds the options of the worker threads.
@@ -191,6 +195,12 @@ fn capacity<'a>(alloc: Global) -> Arg<'a> {
 
 fn all<'a>(alloc: Global) -> Arg<'a> {
     flag(alloc, "all").help("report every fault, one per line, instead of only the first")
+}
+
+fn rules<'a>(alloc: Global) -> Arg<'a> {
+    flag(alloc, "rules").help(
+        "also report instances that are not unique by a rule UNIQUE of the schema",
+    )
 }
 
 fn distinct<'a>(alloc: Global) -> Arg<'a> {

@@ -1,6 +1,10 @@
 -- The report of a file against a schema and the rules UNIQUE that are looked at.
-use Rattle.std.specs.Prelude.{◌≡◌, ◌≢◌, ℕ, Bool, true, false, List, [], Ok, Err, map, take}
+use Rattle.std.specs.Prelude.{◌≡◌, ◌≢◌, ℕ, Bool, true, false, List, [], Option, Ok, Err, map, take}
+use Rattle.std.specs.Io.KnownBytes.{Appends}
+use Rattle.p21_express.specs.Reading as express
 use Rattle.p21_express.specs.Schema.{Schema}
+use Rattle.p21_schema.specs.Rules.{with_rules}
+use Rattle.p21_schema.specs.declared.rules.Rules.{Rules as SchemaRules}
 use Rattle.p21_tree.specs.Sentence.{Instance}
 use Rattle.p21_tree.specs.declared.faults.Fault.{Fault}
 use Rattle.p21_reader.specs.AllFaults.{IsReadingWithAll}
@@ -8,7 +12,7 @@ use Rattle.p21_reader.specs.Reading.{IsReading}
 use Rattle.p21_render.specs.FaultLine.{fault_lines, fault_text}
 use Rattle.p21_render.specs.ReadingText.{IsModelText}
 use Rattle.p21_rules.specs.declared.unique.NotUnique.{NotUnique}
-use Rattle.p21_rules.specs.NotUnique.{AreFaults}
+use Rattle.p21_rules.specs.NotUnique.{AreFaults, AreRulesOf}
 use Rattle.p21_rule_text.specs.declared.rules.Rules.{Rules}
 use Rattle.p21_run.specs.declared.outcome.Outcome.{Outcome}
 use Rattle.p21_run.specs.declared.outcome.Outcome.TheVariants as outcome
@@ -42,3 +46,25 @@ pub data IsFullyRuled (s : Schema) (rules : Rules) (file : List ℕ) : Outcome �
 abbrev pub IsRuled : (all : Bool) → Schema → Rules → List ℕ → Outcome → List ℕ → Type 0
 IsRuled true s rules file o text = IsFullyRuled s rules file o text
 IsRuled false s rules file o text = IsFirstRuled s rules file o text
+
+-- The report of a file by some rules of the schema.
+pub record IsReportBy (all : Bool) (s : Schema) (file : List ℕ) (o : Outcome) (text : List ℕ) : Type 0 where
+  pub rules : Rules
+  pub are_rules : AreRulesOf s rules.unique.items
+  pub ruled : IsRuled all s rules file o text
+
+-- The text that is due with an outcome: the report of the file against the schema; nothing is said of the line of one that is refused.
+abbrev pub IsDueOf : (all : Bool) → Schema → List ℕ → Outcome → List ℕ → Type 0
+IsDueOf all s file outcome.SchemaRefused text = Unit {0}
+IsDueOf all s file o text = IsReportBy all s file o text
+
+-- the same by the schema that a text declares, under these rules
+abbrev pub IsDue : (all : Bool) → SchemaRules → List ℕ → List ℕ → Outcome → List ℕ → Type 0
+IsDue all under schema_text file outcome.SchemaRefused text = Unit {0}
+IsDue all under schema_text file o text = (s : Schema) × express.IsReading schema_text s × IsReportBy all (with_rules s under) file o text
+
+-- where a run ends with a model or with a fault of the file, the text that is due was written
+abbrev pub Writes : (all : Bool) → SchemaRules → List ℕ → List ℕ → Outcome → Option (List ℕ) → Option (List ℕ) → Type 0
+Writes all under schema_text file outcome.Complete old new = (text : List ℕ) × IsDue all under schema_text file outcome.Complete text × Appends old new text
+Writes all under schema_text file outcome.Faulty old new = (text : List ℕ) × IsDue all under schema_text file outcome.Faulty text × Appends old new text
+Writes all under schema_text file o old new = Unit {0}

@@ -1,6 +1,6 @@
 //! A run over a schema and a file.
 
-ghost use Rattle.std.specs.Prelude.{◌≡◌, IfOk, map};
+ghost use Rattle.std.specs.Prelude.{◌≡◌, ℕ, List, Some, IfOk, map};
 ghost use Rattle.p21_express.specs.Plain.{plain_schema};
 ghost use Rattle.p21_express.specs.WellFormed.{IsWellFormed};
 ghost use Rattle.p21_reader.specs.AllAnswer.{plain_all};
@@ -9,8 +9,9 @@ ghost use Rattle.p21_reader.specs.Answer.{plain_answer};
 ghost use Rattle.p21_reader.specs.Reading.{IsReading};
 ghost use Rattle.p21_render.specs.ReadingText.{IsModelText};
 ghost use Rattle.p21_rules.specs.NotUnique.{AreRulesOf};
-ghost use Rattle.p21_rule_run.specs.Ruled.{told, IsFirstRuled, IsFullyRuled, IsOfModel, IsRuled};
-ghost use Rattle.p21_run.specs.declared.outcome.Outcome.TheVariants.{Complete, Faulty};
+ghost use Rattle.p21_rule_run.specs.Ruled.{told, IsDue, IsDueOf, IsFirstRuled, IsFullyRuled, IsOfModel, IsRuled, Writes};
+ghost use Rattle.p21_run.specs.declared.outcome.Outcome.TheVariants.{Complete, Faulty, SchemaRefused};
+ghost use Rattle.p21_schema.specs.Rules.{with_rules};
 ghost use Rattle.p21_tree.specs.Views.{plain_instance};
 
 use crate::fault_text::render_not_unique;
@@ -65,7 +66,9 @@ pub fn run_rules<
     file_in: &mut F,
     out: &mut K,
     listener: &mut L,
-) -> Outcome {
+) -> Outcome
+    ensures { (schema_text file : List ℕ) → S.remaining schema_in.old ≡ Some schema_text → F.remaining file_in.old ≡ Some file → Writes how.now.all how.now.rules schema_text file result (K.taken out.old) (K.taken out.new) }
+{
     match report_of(rt, alloc, how, schema_in, file_in, listener) {
         Ok(report) => {
             listener.hear_made();
@@ -94,7 +97,9 @@ fn report_of<R: Threads + Wait + Sync, G: Gate + Sync, S: Source, F: Source, L: 
     schema_in: &mut S,
     file_in: &mut F,
     listener: &mut L,
-) -> Result<Report, InputError> {
+) -> Result<Report, InputError>
+    ensures { (schema_text file : List ℕ) → S.remaining schema_in.old ≡ Some schema_text → F.remaining file_in.old ≡ Some file → IfOk result (λ report. IsDue how.now.all how.now.rules schema_text file report.outcome report.text.items) }
+{
     let text = read_bounded(alloc, schema_in, SCHEMA_BOUNDS)?;
     match read_declarations(alloc, text.as_slice()) {
         Ok(declarations) => report_against(rt, alloc, how, &text, declarations, file_in, listener),
@@ -106,7 +111,9 @@ fn report_of<R: Threads + Wait + Sync, G: Gate + Sync, S: Source, F: Source, L: 
 }
 
 /// What is to be written of a schema that is refused.
-fn report_of_refusal(alloc: Global, error: SchemaError) -> Result<Report, InputError> {
+fn report_of_refusal(alloc: Global, error: SchemaError) -> Result<Report, InputError>
+    ensures { IfOk result (λ report. report.outcome ≡ SchemaRefused) }
+{
     let text = schema_fault_line(alloc, error)?;
     Ok(Report {
         outcome: Outcome::SchemaRefused,
@@ -125,6 +132,7 @@ fn report_against<R: Threads + Wait + Sync, G: Gate + Sync, F: Source, L: Listen
     listener: &mut L,
 ) -> Result<Report, InputError>
     requires { IsWellFormed (plain_schema declarations) }
+    ensures { (file : List ℕ) → F.remaining file_in.old ≡ Some file → IfOk result (λ report. IsDueOf how.now.all (with_rules (plain_schema declarations) how.now.rules) file report.outcome report.text.items) }
 {
     let schema = Schema::build_with_key(alloc, declarations, how.rules, how.key)?;
     match read_rules(alloc, text, &schema) {
