@@ -1,0 +1,157 @@
+//! The tables of a model and their columns.
+
+ghost use Rattle.std.specs.Prelude.{IfSome};
+ghost use Rattle.p21_schema.specs.Place.{IsEntityOf};
+ghost use Rattle.p21_schema.specs.Row.{IsAttributeOf};
+
+use crate::uses::{Use, uses_of};
+use p21_json::Terms;
+use p21_schema::{AttrId, EntityId, Schema};
+use p21_tree::RawInstance;
+use std::alloc::{AllocError, Global};
+
+/// The tables of a model: which entities have one, and how its columns are called.
+#[derive(Drop)]
+pub struct Layout<'t, 's> {
+    terms: &'t Terms<'s>,
+    /// How each entity is used, in the order of the schema.
+    uses: Vec<Use>,
+    /// The columns that a table of each has.
+    columns: Vec<TableColumns>,
+}
+
+/// The names of the columns of a table behind `id`: of each attribute of the entity's row.
+#[derive(Debug, Drop)]
+pub struct TableColumns {
+    pub names: Vec<String>,
+}
+
+impl<'t, 's> Layout<'t, 's> {
+    /// The tables of the entities of which there are records. Memory alone can fail.
+    pub(crate) fn new(
+        alloc: Global,
+        terms: &'t Terms<'s>,
+        instances: &[RawInstance<'_>],
+    ) -> Result<Layout<'t, 's>, AllocError> {
+        let uses = uses_of(alloc, terms.schema(), instances)?;
+        let mut columns = Vec::with_capacity(alloc, uses.len())?;
+        for place in 0..uses.len() {
+            columns.push(columns_at(alloc, terms, place)?)?;
+        }
+        Ok(Layout {
+            terms,
+            uses,
+            columns,
+        })
+    }
+
+    /// The names of the schema.
+    pub fn terms(&self) -> &'t Terms<'s> {
+        self.terms
+    }
+
+    /// How an entity is used.
+    pub fn use_of(&self, entity: EntityId) -> Use {
+        match self.uses.get(entity.place()) {
+            Some(found) => *found,
+            None => Use {
+                simple: false,
+                complex: false,
+            },
+        }
+    }
+
+    /// Whether an entity has a table.
+    pub fn has_table(&self, entity: EntityId) -> bool {
+        let found = self.use_of(entity);
+        found.simple || found.complex
+    }
+
+    /// The names of the columns that a table of an entity has behind `id`.
+    pub fn columns(&self, entity: EntityId) -> &[String] {
+        match self.columns.get(entity.place()) {
+            Some(found) => found.names.as_slice(),
+            None => &[],
+        }
+    }
+}
+
+/// The columns of the entity at a place of the schema.
+fn columns_at(alloc: Global, terms: &Terms<'_>, place: usize) -> Result<TableColumns, AllocError> {
+    match terms.schema().entity_at(place) {
+        Some(entity) => columns_of(alloc, terms, entity),
+        None => Ok(TableColumns {
+            names: Vec::new(alloc),
+        }),
+    }
+}
+
+/// The columns of an entity: each is called as its attribute; as `entity.attribute`, by the entity that declares it, where the name is that
+/// of a column before it, or `id`.
+fn columns_of(
+    alloc: Global,
+    terms: &Terms<'_>,
+    entity: EntityId,
+) -> Result<TableColumns, AllocError>
+    requires { IsEntityOf terms.now entity }
+{
+    let mut names = Vec::new(alloc);
+    for position in 0..terms.schema().row_count(entity) {
+        let attribute = terms.schema().row(entity, position);
+        names.push(column(alloc, terms, attribute, names.as_slice())?)?;
+    }
+    Ok(TableColumns { names })
+}
+
+/// How the column of an attribute is called behind some others.
+fn column(
+    alloc: Global,
+    terms: &Terms<'_>,
+    attribute: AttrId,
+    before: &[String],
+) -> Result<String, AllocError>
+    requires { IsAttributeOf terms.now attribute }
+{
+    let name = terms.attribute(attribute);
+    if !is_taken(name, before) {
+        return String::from_str(alloc, name);
+    }
+    match declaring(terms.schema(), attribute) {
+        Some(entity) => format!(in alloc; "{}.{name}", terms.entity(entity)),
+        None => format!(in alloc; ".{name}"),
+    }
+}
+
+/// Whether a name is that of one of some columns, or `id`, but for the case of letters.
+fn is_taken(name: &str, columns: &[String]) -> bool {
+    name.eq_ignore_ascii_case("id")
+        || columns
+            .iter()
+            .any(|column| column.as_str().eq_ignore_ascii_case(name))
+}
+
+/// The entity that newly declares an attribute.
+fn declaring(schema: &Schema, attribute: AttrId) -> Option<EntityId>
+    ensures { IfSome result (IsEntityOf schema.now) }
+{
+    for place in 0..schema.declared().entities.len() {
+        if let Some(entity) = schema.entity_at(place)
+            && declares(schema, entity, attribute)
+        {
+            return Some(entity);
+        }
+    }
+    None
+}
+
+/// Whether an entity newly declares an attribute.
+fn declares(schema: &Schema, entity: EntityId, attribute: AttrId) -> bool
+    requires { IsEntityOf schema.now entity }
+{
+    for position in 0..schema.own_count(entity) {
+        if schema.own(entity, position) == attribute {
+            return true;
+        }
+    }
+    false
+}
