@@ -1,6 +1,6 @@
 //! A run over a schema and a file.
 
-ghost use Rattle.std.specs.Prelude.{◌≡◌, ◌⊎◌, ℕ, List, Some, Ok, Err, IfOk, OnOk, true, false};
+ghost use Rattle.std.specs.Prelude.{◌≡◌, ◌≤◌, ◌⊎◌, ℕ, List, Some, Ok, Err, IfOk, OnOk, length, true, false};
 ghost use Rattle.p21_express.specs.Answer.{HasNoReading};
 ghost use Rattle.p21_express.specs.Plain.{plain_schema};
 ghost use Rattle.p21_express.specs.WellFormed.{IsWellFormed};
@@ -8,6 +8,7 @@ ghost use Rattle.p21_spelling.specs.Spelled.{AreSpelled};
 ghost use Rattle.p21_schema.specs.Rules.{with_rules};
 ghost use Rattle.p21_reader.specs.Answer.{plain_answer};
 ghost use Rattle.p21_reader.specs.Reading.{IsReading};
+ghost use Rattle.p21_run.specs.Due.{most_file_bytes};
 ghost use Rattle.p21_run.specs.declared.outcome.Outcome.TheVariants.{Complete, Faulty, SchemaRefused, Device as Failed};
 ghost use Rattle.p21_run.specs.declared.input.InputError.TheVariants.{Device};
 ghost use Rattle.p21_export.specs.Export.{Exports, OfDeclared, TellsFault, TellsRefusal, TellsSchemaFault};
@@ -67,6 +68,8 @@ pub fn export<
     ensures told { (schema_text file : List ℕ) → S.remaining schema_in.old ≡ Some schema_text → F.remaining file_in.old ≡ Some file → result ≡ Faulty → OfDeclared how.now.rules schema_text (λ s. TellsFault s file (T.taken told.old) (T.taken told.new)) }
     ensures refused { (schema_text : List ℕ) → S.remaining schema_in.old ≡ Some schema_text → result ≡ SchemaRefused → TellsRefusal schema_text (T.taken told.old) (T.taken told.new) }
     ensures kept { result ≡ Faulty ⊎ result ≡ SchemaRefused → out.new ≡ out.old }
+    ensures untold { result ≡ Complete → told.new ≡ told.old }
+    ensures file_bounded { result ≡ Complete ⊎ result ≡ Faulty → (file : List ℕ) → F.remaining file_in.old ≡ Some file → length file ≤ most_file_bytes }
     ensures writer_failed { K.failed out.old ≡ false → K.failed out.new ≡ true → result ≡ Failed }
     ensures unread { (schema_text : List ℕ) → S.remaining schema_in.old ≡ Some schema_text → HasNoReading schema_text → file_in.new ≡ file_in.old }
     ensures schema_failed { S.failed schema_in.old ≡ false → S.failed schema_in.new ≡ true → (result ≡ Failed) × (file_in.new ≡ file_in.old) × (out.new ≡ out.old) }
@@ -101,6 +104,8 @@ fn exported<
     ensures told { (schema_text file : List ℕ) → S.remaining schema_in.old ≡ Some schema_text → F.remaining file_in.old ≡ Some file → result ≡ Ok Faulty → OfDeclared how.now.rules schema_text (λ s. TellsFault s file (T.taken told.old) (T.taken told.new)) }
     ensures refused { (schema_text : List ℕ) → S.remaining schema_in.old ≡ Some schema_text → result ≡ Ok SchemaRefused → TellsRefusal schema_text (T.taken told.old) (T.taken told.new) }
     ensures kept { result ≡ Ok Faulty ⊎ result ≡ Ok SchemaRefused → out.new ≡ out.old }
+    ensures untold { result ≡ Ok Complete → told.new ≡ told.old }
+    ensures file_bounded { IfOk result (λ outcome. outcome ≡ Complete ⊎ outcome ≡ Faulty → (file : List ℕ) → F.remaining file_in.old ≡ Some file → length file ≤ most_file_bytes) }
     ensures writer_failed { K.failed out.old ≡ false → K.failed out.new ≡ true → result ≡ Err Device }
     ensures unread { (schema_text : List ℕ) → S.remaining schema_in.old ≡ Some schema_text → HasNoReading schema_text → file_in.new ≡ file_in.old }
     ensures schema_failed { S.failed schema_in.old ≡ false → S.failed schema_in.new ≡ true → (result ≡ Err Device) × (file_in.new ≡ file_in.old) × (out.new ≡ out.old) }
@@ -164,6 +169,8 @@ fn export_against<
     ensures told { (file : List ℕ) → F.remaining file_in.old ≡ Some file → result ≡ Ok Faulty → TellsFault (with_rules (plain_schema declarations) how.now.rules) file (T.taken told.old) (T.taken told.new) }
     ensures ends { IfOk result (λ outcome. outcome ≡ Complete ⊎ outcome ≡ Faulty) }
     ensures kept { result ≡ Ok Faulty ⊎ result ≡ Ok SchemaRefused → out.new ≡ out.old }
+    ensures untold { result ≡ Ok Complete → told.new ≡ told.old }
+    ensures file_bounded { IfOk result (λ _. (file : List ℕ) → F.remaining file_in.old ≡ Some file → length file ≤ most_file_bytes) }
     ensures writer_failed { K.failed out.old ≡ false → K.failed out.new ≡ true → result ≡ Err Device }
     ensures file_failed { F.failed file_in.old ≡ false → F.failed file_in.new ≡ true → (result ≡ Err Device) × (out.new ≡ out.old) }
 {
@@ -202,6 +209,7 @@ fn export_file<R: Threads + Wait + Sync, G: Gate + Sync, K: Sink, T: Sink, L: Li
     ensures told { result ≡ Ok Faulty → TellsFault schema.now file.now (T.taken told.old) (T.taken told.new) }
     ensures ends { IfOk result (λ outcome. outcome ≡ Complete ⊎ outcome ≡ Faulty) }
     ensures kept { result ≡ Ok Faulty ⊎ result ≡ Ok SchemaRefused → out.new ≡ out.old }
+    ensures untold { result ≡ Ok Complete → told.new ≡ told.old }
     ensures writer_failed { K.failed out.old ≡ false → K.failed out.new ≡ true → result ≡ Err Device }
 {
     match read_lanes(rt, alloc, schema, how.gate, file, how.lanes, how.capacity) {
@@ -236,6 +244,7 @@ fn export_reading<R: Threads + Sync, G, K: Sink, T: Sink, L: Listener>(
     ensures told { result ≡ Ok Faulty → TellsFault schema.now file.now (T.taken told.old) (T.taken told.new) }
     ensures ends { IfOk result (λ outcome. outcome ≡ Complete ⊎ outcome ≡ Faulty) }
     ensures kept { result ≡ Ok Faulty ⊎ result ≡ Ok SchemaRefused → out.new ≡ out.old }
+    ensures untold { result ≡ Ok Complete → told.new ≡ told.old }
     ensures writer_failed { K.failed out.old ≡ false → K.failed out.new ≡ true → result ≡ Err Device }
 {
     match &reading.answer {
