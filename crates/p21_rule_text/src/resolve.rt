@@ -45,9 +45,10 @@ fn explicit(schema: &Schema, entity: EntityId, of: Option<&[u8]>, name: &[u8]) -
     requires { IsEntityOf schema.now entity }
     ensures { IfSome result (IsAttributeOf schema.now) }
 {
-    for declared in &schema.declared().entities {
-        if let Some(other) = named_above(schema, entity, of, &declared.name) {
-            if let Some(attribute) = own(schema, other, declared, name) {
+    let entities = &schema.declared().entities;
+    for place in 0..entities.len() {
+        if let Some(other) = above(schema, entity, of, place) {
+            if let Some(attribute) = own(schema, other, &entities[place], name) {
                 return Some(attribute);
             }
         }
@@ -55,18 +56,13 @@ fn explicit(schema: &Schema, entity: EntityId, of: Option<&[u8]>, name: &[u8]) -
     None
 }
 
-/// The entity of a name, where it is this one or an ancestor, and the one that is named behind SELF.
-fn named_above(
-    schema: &Schema,
-    entity: EntityId,
-    of: Option<&[u8]>,
-    name: &[u8],
-) -> Option<EntityId>
+/// The entity at a place, where it is this one or an ancestor, and the one that is named behind SELF.
+fn above(schema: &Schema, entity: EntityId, of: Option<&[u8]>, place: usize) -> Option<EntityId>
     requires { IsEntityOf schema.now entity }
     ensures { IfSome result (IsEntityOf schema.now) }
 {
-    let other = schema.entity(name)?;
-    if schema.is_a(entity, other) && is_named(of, name) {
+    let other = schema.entity_at(place)?;
+    if schema.is_a(entity, other) && is_named(of, schema.name_of(other)) {
         Some(other)
     } else {
         None
@@ -102,8 +98,9 @@ fn own(schema: &Schema, entity: EntityId, declared: &EntityDecl, name: &[u8]) ->
 fn is_derived(schema: &Schema, entity: EntityId, of: Option<&[u8]>, name: &[u8]) -> bool
     requires { IsEntityOf schema.now entity }
 {
-    for declared in &schema.declared().entities {
-        if derives(declared, name) && named_above(schema, entity, of, &declared.name).is_some() {
+    let entities = &schema.declared().entities;
+    for place in 0..entities.len() {
+        if derives(&entities[place], name) && above(schema, entity, of, place).is_some() {
             return true;
         }
     }
