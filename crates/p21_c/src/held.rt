@@ -4,7 +4,6 @@ ghost use Rattle.std.specs.Prelude.{◌≡◌, map};
 ghost use Rattle.std.specs.List.{flat_map};
 ghost use Rattle.p21_spelling.specs.Spelled.{lower, names_in, own_names};
 
-use crate::handle::Handle;
 use p21_join::Model;
 use p21_json::Terms;
 use p21_schema::Schema;
@@ -34,12 +33,4 @@ pub enum Held {
     Model(HeldModel),
     /// What it led to was let go.
     Nothing,
-}
-
-/// The model that a handle leads to.
-pub(crate) fn model_in(handle: Handle) -> Option<&'static HeldModel> {
-    match handle.get() {
-        Some(Held::Model(held)) => Some(held),
-        _ => None,
-    }
 }

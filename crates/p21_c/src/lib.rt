@@ -6,6 +6,7 @@ mod explaining;
 mod handle;
 mod held;
 mod model_calls;
+mod models;
 mod owner;
 mod reading;
 mod schema_calls;

@@ -1,8 +1,17 @@
 //! What is asked of the instances of a model.
 
+ghost use Rattle.std.specs.Prelude.{◌≡◌, None, Some, length, pos};
+ghost use Rattle.p21_tree.specs.Views.{plain_instance};
+ghost use Rattle.p21_join.specs.Model.{instances_of};
+ghost use Rattle.p21_join.specs.Names.{IsPosition};
+ghost use Rattle.p21_query.specs.First.{IsFirst};
+ghost use Rattle.p21_query.specs.Names.{AnyHasName};
+ghost use Rattle.p21_c.specs.Answers.{OnModel};
+
 use crate::codes::{HANDLE, NONE, OK};
 use crate::handle::Handle;
-use crate::held::{HeldModel, model_in};
+use crate::held::HeldModel;
+use crate::models::model_in;
 use crate::schema_calls::entity_at;
 use p21_check::simple_entity;
 use p21_query::{next_naming, next_of};
@@ -64,7 +73,9 @@ fn number_of(entity: Option<EntityId>) -> u64 {
 
 /// How many instances there are.
 #[unsafe(no_mangle)]
-pub extern "C" fn p21_count(model: Handle, count: &mut u64) -> i32 {
+pub extern "C" fn p21_count(model: Handle, count: &mut u64) -> i32
+    ensures { OnModel (pos 0) result model.held (λ m. count.new ≡ length (instances_of m.model)) }
+{
     let Some(held) = model_in(model) else {
         return HANDLE;
     };
@@ -74,7 +85,10 @@ pub extern "C" fn p21_count(model: Handle, count: &mut u64) -> i32 {
 
 /// The place of the instance of a name.
 #[unsafe(no_mangle)]
-pub extern "C" fn p21_find(model: Handle, name: u64, place: &mut u64) -> i32 {
+pub extern "C" fn p21_find(model: Handle, name: u64, place: &mut u64) -> i32
+    ensures found { OnModel (pos 0) result model.held (λ m. IsPosition (instances_of m.model) name (Some place.new)) }
+    ensures missing { OnModel (pos 2) result model.held (λ m. IsPosition (instances_of m.model) name None) }
+{
     let Some(held) = model_in(model) else {
         return HANDLE;
     };
@@ -179,14 +193,14 @@ pub extern "C" fn p21_next_of(
 
 /// The first instance from a place on that refers to the instance of a name.
 #[unsafe(no_mangle)]
-pub extern "C" fn p21_next_naming(model: Handle, name: u64, from: u64, place: &mut u64) -> i32 {
+pub extern "C" fn p21_next_naming(model: Handle, name: u64, from: u64, place: &mut u64) -> i32
+    ensures found { OnModel (pos 0) result model.held (λ m. IsFirst (λ i. AnyHasName name (plain_instance i).records) (λ i. ¬ (AnyHasName name (plain_instance i).records)) (instances_of m.model) from (Some place.new)) }
+    ensures missing { OnModel (pos 2) result model.held (λ m. IsFirst (λ i. AnyHasName name (plain_instance i).records) (λ i. ¬ (AnyHasName name (plain_instance i).records)) (instances_of m.model) from None) }
+{
     let Some(held) = model_in(model) else {
         return HANDLE;
     };
-    let Ok(from) = usize::try_from(from) else {
-        return NONE;
-    };
-    let Some(found) = next_naming(held.model.instances(), name, from) else {
+    let Some(found) = next_naming(held.model.instances(), name, from as usize) else {
         return NONE;
     };
     *place = found as u64;

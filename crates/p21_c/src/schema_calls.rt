@@ -5,7 +5,7 @@ ghost use Rattle.p21_schema.specs.Place.{IsEntityOf};
 
 use crate::codes::{HANDLE, NONE, OK};
 use crate::handle::Handle;
-use crate::held::model_in;
+use crate::models::model_in;
 use p21_json::{attribute, attribute_count};
 use p21_query::{attribute_named, copy_front};
 use p21_schema::{EntityId, Schema};

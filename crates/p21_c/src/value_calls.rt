@@ -2,8 +2,9 @@
 
 use crate::codes::{HANDLE, MEMORY, NONE, OK};
 use crate::handle::Handle;
-use crate::held::{HeldModel, model_in};
+use crate::held::HeldModel;
 use crate::model_calls::{instance_at, record_at};
+use crate::models::model_in;
 use crate::values::{CValue, value_of};
 use p21_json::{attribute, attribute_count, is_logical};
 use p21_query::{copy_front, parameter_at, write_text};
