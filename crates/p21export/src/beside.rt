@@ -1,6 +1,6 @@
 //! A new file beside another, which takes its place when it is whole.
 
-use std::alloc::Global;
+use std::alloc::{AllocError, Global};
 use std::fs::{self, File, Files, OpenFile};
 use std::io;
 
@@ -34,6 +34,38 @@ impl<'a, R: Files> Beside<'a, R> {
         Err(io::Error::from(io::ErrorKind::AlreadyExists))
     }
 
+    /// The same for a database: beside it stands no log, either.
+    pub(crate) fn create_database(
+        rt: &'a R,
+        alloc: Global,
+        path: &str,
+    ) -> io::Result<Beside<'a, R>> {
+        for number in 0..NAMES {
+            let name = format!(in alloc; "{path}.part{number}")?;
+            let log = log_name(alloc, name.as_str())?;
+            if fs::symlink_metadata(rt, log.as_str()).is_ok() {
+                continue;
+            }
+            match File::create_new(rt, name.as_str()) {
+                Ok(file) => {
+                    return Ok(Beside {
+                        rt,
+                        path: name,
+                        file,
+                    });
+                }
+                Err(error) if error.kind() == io::ErrorKind::AlreadyExists => {}
+                Err(error) => return Err(error),
+            }
+        }
+        Err(io::Error::from(io::ErrorKind::AlreadyExists))
+    }
+
+    /// Its name.
+    pub(crate) fn path(&self) -> &str {
+        self.path.as_str()
+    }
+
     /// The file.
     pub(crate) fn file(&mut self) -> &mut R::File {
         &mut self.file
@@ -57,4 +89,9 @@ impl<'a, R: Files> Beside<'a, R> {
         let Beside { rt, path, file: _ } = self;
         let _ = fs::remove_file(rt, path.as_str());
     }
+}
+
+/// The name of the log of a database.
+pub(crate) fn log_name(alloc: Global, path: &str) -> Result<String, AllocError> {
+    format!(in alloc; "{path}-wal")
 }

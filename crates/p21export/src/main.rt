@@ -1,7 +1,8 @@
-//! `p21export SCHEMA FILE --json OUT`: checks a STEP file against an EXPRESS schema, and writes its model as JSON.
+//! `p21export SCHEMA FILE --json OUT`, or `--sqlite OUT`: checks a STEP file against an EXPRESS schema, and writes its model as JSON or as a database.
 #![tactic(auto)]
 
 mod beside;
+mod database;
 mod program;
 mod words;
 
@@ -24,5 +25,5 @@ fn main(rt: HostRuntime) -> ExitCode {
         errors: &mut rt.stderr(),
         is_terminal: rt.stderr().is_terminal(),
     };
-    ExitCode::from(program(&rt, rt.alloc(), words.as_slice(), around, rt.stderr()))
+    ExitCode::from(program(&rt, &rt, rt.alloc(), words.as_slice(), around, rt.stderr()))
 }

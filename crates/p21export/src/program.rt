@@ -1,7 +1,8 @@
 //! The program, over its words.
 
 use crate::beside::Beside;
-use crate::words::{Refusal, Wanted, what_is_wanted};
+use crate::database::export_database;
+use crate::words::{Onto, Refusal, Wanted, what_is_wanted};
 use p21_export::{How, Outcome, Source, Stream, export};
 use p21_report::{
     Explainer, LastError, Names, Opened, Program, Progress, Stage, Watched, drawn_key,
@@ -22,9 +23,11 @@ pub(crate) struct Around<'a, I, O, E> {
     pub(crate) is_terminal: bool,
 }
 
-/// Does what the words ask for, and answers the status to end with. How far it is is told on a line of `progress`.
+/// Does what the words ask for, and answers the status to end with. How far it is is told on a line of `progress`. `host` is `rt` for
+/// the writer of databases, which takes no other.
 pub(crate) fn program<R, I, O, E, P>(
     rt: &R,
+    host: &HostRuntime,
     alloc: Global,
     words: &[String],
     around: Around<'_, I, O, E>,
@@ -48,7 +51,9 @@ where
             let is_shown = is_terminal || wanted.options.progress;
             let progress = Progress::new(rt, progress, Program::Export, is_shown);
             let mut said = String::new(alloc);
-            let outcome = export_wanted(rt, alloc, &wanted, &progress, input, output, &mut said);
+            let outcome = export_wanted(
+                rt, host, alloc, &wanted, &progress, input, output, &mut said,
+            );
             let status = status_of(outcome, errors);
             let _ = errors.write_all(said.as_bytes());
             status
@@ -94,6 +99,7 @@ fn status_of<E: Write>(outcome: Outcome, errors: &mut E) -> u8 {
 /// Exports from the paths that are wanted, tells how far it is, and keeps what is to be said of faults, and of devices that failed.
 fn export_wanted<R, I, O, P>(
     rt: &R,
+    host: &HostRuntime,
     alloc: Global,
     wanted: &Wanted<'_>,
     progress: &Progress<&R, P>,
@@ -118,10 +124,28 @@ where
     let mut explainer = Explainer::new(alloc, progress, names, options.explained, options.format);
     let outcome = if wanted.file == "-" {
         let file = Stream::new(input);
-        export_from(rt, alloc, wanted, progress, file, output, &mut explainer)
+        export_from(
+            rt,
+            host,
+            alloc,
+            wanted,
+            progress,
+            file,
+            output,
+            &mut explainer,
+        )
     } else {
         let file = Opened::new(rt, wanted.file);
-        export_from(rt, alloc, wanted, progress, file, output, &mut explainer)
+        export_from(
+            rt,
+            host,
+            alloc,
+            wanted,
+            progress,
+            file,
+            output,
+            &mut explainer,
+        )
     };
     *said = explainer.into_said();
     outcome
@@ -130,6 +154,7 @@ where
 /// Exports to where it is wanted.
 fn export_from<R, F, O, P>(
     rt: &R,
+    host: &HostRuntime,
     alloc: Global,
     wanted: &Wanted<'_>,
     progress: &Progress<&R, P>,
@@ -144,33 +169,25 @@ where
     P: Write + Send + Drop,
 {
     let mut fault = Vec::new(alloc);
-    let outcome = if wanted.json == "-" {
-        export_to(
-            rt,
-            alloc,
-            wanted,
-            progress,
-            file,
-            &mut *output,
-            &mut fault,
-            explainer,
-        )
-    } else if is_no_file(rt, wanted.json) {
-        match File::create(rt, wanted.json) {
-            Ok(onto) => export_to(
-                rt, alloc, wanted, progress, file, onto, &mut fault, explainer,
-            ),
-            Err(error) => refused(explainer, error),
+    let outcome = match wanted.onto {
+        Onto::Json("-") => {
+            export_to(
+                rt,
+                alloc,
+                wanted,
+                progress,
+                file,
+                &mut *output,
+                &mut fault,
+                explainer,
+            )
         }
-    } else {
-        match Beside::create(rt, alloc, wanted.json) {
-            Ok(beside) => {
-                export_beside(
-                    rt, alloc, wanted, progress, file, beside, &mut fault, explainer,
-                )
-            }
-            Err(error) => refused(explainer, error),
-        }
+        Onto::Json(path) => export_json(
+            rt, alloc, wanted, path, progress, file, &mut fault, explainer,
+        ),
+        Onto::Sqlite(path) => export_database(
+            rt, host, alloc, wanted, path, progress, file, &mut fault, explainer,
+        ),
     };
     match output.write_all(fault.as_slice()) {
         Ok(()) => outcome,
@@ -178,8 +195,44 @@ where
     }
 }
 
+/// Exports JSON to a path.
+fn export_json<R, F, P>(
+    rt: &R,
+    alloc: Global,
+    wanted: &Wanted<'_>,
+    path: &str,
+    progress: &Progress<&R, P>,
+    file: F,
+    fault: &mut Vec<u8>,
+    explainer: &mut Explainer<'_, &R, P>,
+) -> Outcome
+where
+    R: Files + Threads + Wait + Clock + Sync,
+    F: Source + LastError + Drop,
+    P: Write + Send + Drop,
+{
+    if is_no_file(rt, path) {
+        match File::create(rt, path) {
+            Ok(onto) => export_to(rt, alloc, wanted, progress, file, onto, fault, explainer),
+            Err(error) => refused(explainer, error),
+        }
+    } else {
+        match Beside::create(rt, alloc, path) {
+            Ok(beside) => {
+                export_beside(
+                    rt, alloc, wanted, path, progress, file, beside, fault, explainer,
+                )
+            }
+            Err(error) => refused(explainer, error),
+        }
+    }
+}
+
 /// What a run ends with that cannot write where it is wanted.
-fn refused<R: Clock, P: Write>(explainer: &mut Explainer<'_, &R, P>, error: io::Error) -> Outcome {
+pub(crate) fn refused<R: Clock, P: Write>(
+    explainer: &mut Explainer<'_, &R, P>,
+    error: io::Error,
+) -> Outcome {
     let outcome = if error.kind() == io::ErrorKind::OutOfMemory {
         Outcome::Memory
     } else {
@@ -190,7 +243,7 @@ fn refused<R: Clock, P: Write>(explainer: &mut Explainer<'_, &R, P>, error: io::
 }
 
 /// Whether something stands at the path that is no regular file, as a device or a pipe: nothing may take its place.
-fn is_no_file<R: Files>(rt: &R, path: &str) -> bool {
+pub(crate) fn is_no_file<R: Files>(rt: &R, path: &str) -> bool {
     match fs::metadata(rt, path) {
         Ok(found) => !found.is_file(),
         Err(_) => false,
@@ -202,6 +255,7 @@ fn export_beside<R, F, P>(
     rt: &R,
     alloc: Global,
     wanted: &Wanted<'_>,
+    path: &str,
     progress: &Progress<&R, P>,
     file: F,
     beside: Beside<'_, R>,
@@ -220,7 +274,7 @@ where
         beside.remove();
         return outcome;
     }
-    match beside.take_place(wanted.json) {
+    match beside.take_place(path) {
         Ok(()) => Outcome::Complete,
         Err(error) => refused(explainer, error),
     }

@@ -5,6 +5,15 @@ use clap::{Arg, ArgMatches, Command};
 use p21_report::{Options, options_of, with_lanes, with_rules, with_telling};
 use std::alloc::{AllocError, Global};
 
+/// What a model is written as, and the path that it is written to.
+#[derive(Clone, Copy, Debug)]
+pub(crate) enum Onto<'a> {
+    /// JSON; `-` is the standard output.
+    Json(&'a str),
+    /// A SQLite database.
+    Sqlite(&'a str),
+}
+
 /// What the words ask for.
 #[derive(Clone, Copy, Debug)]
 pub(crate) struct Wanted<'a> {
@@ -12,24 +21,27 @@ pub(crate) struct Wanted<'a> {
     pub(crate) schema: &'a str,
     /// The path of the file; `-` is the standard input.
     pub(crate) file: &'a str,
-    /// The path of the JSON; `-` is the standard output.
-    pub(crate) json: &'a str,
+    /// What is written, and where.
+    pub(crate) onto: Onto<'a>,
     pub(crate) options: Options,
 }
 
 impl Wanted<'_> {
     /// How what is written to is told of.
     pub(crate) fn out_name(&self) -> &str {
-        if self.json == "-" {
-            "standard output"
-        } else {
-            self.json
+        match self.onto {
+            Onto::Json("-") => "standard output",
+            Onto::Json(path) => path,
+            Onto::Sqlite(path) => path,
         }
     }
 }
 
 /// The version of the program.
 const VERSION: &str = "0.1.0";
+
+/// The program and its version.
+pub(crate) const PROGRAM: &str = "p21export 0.1.0";
 
 /// What the help says of statuses.
 const STATUSES: &str = "\
@@ -83,7 +95,7 @@ pub(crate) fn what_is_wanted<'a>(
 fn missing(alloc: Global) -> Result<Refusal, AllocError> {
     let error = command(alloc)?.error(
         ErrorKind::MissingRequiredArgument,
-        "SCHEMA, FILE or --json OUT is missing",
+        "SCHEMA, FILE, and one of --json OUT and --sqlite OUT are wanted; a database is written to a file alone",
     )?;
     Ok(Refusal::Words(error))
 }
@@ -93,9 +105,18 @@ fn wanted_by<'a>(matches: &ArgMatches<'a>, is_terminal: bool) -> Option<Wanted<'
     Some(Wanted {
         schema: matches.get_str("SCHEMA")?,
         file: matches.get_str("FILE")?,
-        json: matches.get_str("json")?,
+        onto: onto_by(matches)?,
         options: options_of(matches, is_terminal)?,
     })
+}
+
+/// What is written, if it is one thing; a database is not written to the standard output.
+fn onto_by<'a>(matches: &ArgMatches<'a>) -> Option<Onto<'a>> {
+    match (matches.get_str("json"), matches.get_str("sqlite")) {
+        (Some(path), None) => Some(Onto::Json(path)),
+        (None, Some(path)) if path != "-" => Some(Onto::Sqlite(path)),
+        _ => None,
+    }
 }
 
 /// The words that the program takes.
@@ -103,12 +124,13 @@ fn command<'a>(alloc: Global) -> Result<Command<'a>, AllocError> {
     let command = Command::new(alloc, "p21export")
         .version(VERSION)
         .about(
-            "Checks a STEP file (ISO 10303-21) against an EXPRESS schema, and writes its model as JSON",
+            "Checks a STEP file (ISO 10303-21) against an EXPRESS schema, and writes its model as JSON or as a SQLite database",
         )
         .after_help(STATUSES)
         .arg(schema(alloc))?
         .arg(file(alloc))?
-        .arg(json(alloc))?;
+        .arg(json(alloc))?
+        .arg(sqlite(alloc))?;
     let command = with_rules(alloc, with_lanes(alloc, command)?)?;
     with_telling(alloc, command)
 }
@@ -126,11 +148,14 @@ fn file<'a>(alloc: Global) -> Arg<'a> {
 }
 
 fn json<'a>(alloc: Global) -> Arg<'a> {
-    Arg::new(alloc, "json")
-        .long("json")
+    Arg::new(alloc, "json").long("json").value_name("OUT").help(
+        "write the model as JSON: a line for the header and one for each instance; - is standard output",
+    )
+}
+
+fn sqlite<'a>(alloc: Global) -> Arg<'a> {
+    Arg::new(alloc, "sqlite")
+        .long("sqlite")
         .value_name("OUT")
-        .required(true)
-        .help(
-            "where the model is written, a line for the header and one for each instance; - is standard output",
-        )
+        .help("write the model as a SQLite database: a table for each entity")
 }
