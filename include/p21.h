@@ -7,6 +7,7 @@
  * Each call answers a code, and where that is not P21_OK it leaves what it would have written as it was (but for what p21_schema_read
  * and p21_read say of faults). A handle may be null, which is answered by P21_HANDLE; so is a schema where a model is wanted, and the
  * other way round. No other pointer may be null, except that of a text, a path or a room of no elements. What was freed may not be used.
+ * What a call writes to overlaps nothing else that it is handed.
  *
  * Texts are bytes with a length, and end with no zero. A call that hands out a text writes as many of its bytes as the room has, and
  * says how many bytes the text has: more than the room's size where it did not fit. A room of size 0 serves to ask for the length.
