@@ -54,6 +54,9 @@ def _call(library, name, *types):
 
 
 _TEXT, _ROOM = (ctypes.c_char_p, _SIZE), (_PLACE, _SIZE)
+# What is the same in many calls is made into an argument once: a handle, a number, a size. A call takes the first of its arguments by its
+# types, and those behind them as they were made.
+pointer, u64, _size = _PLACE.from_param, _U64.from_param, _SIZE.from_param
 schema_read = _call(_slow, "p21_schema_read", *_TEXT, _U64, _PLACE, _PLACE)
 read = _call(_slow, "p21_read", _PLACE, _PLACE, _SIZE, _PLACE, _PLACE)
 explain = _call(_slow, "p21_explain", _PLACE, _PLACE, _SIZE, *_TEXT, _PLACE, *_ROOM, _PLACE)
@@ -71,7 +74,7 @@ instances = _call(_slow, "p21_instances", _PLACE, _U64, *_ROOM, *_ROOM, _PLACE)
 record = _call(_quick, "p21_record", _PLACE, _U64, _U64, _PLACE)
 next_of = _call(_slow, "p21_next_of", _PLACE, _U64, _U32, _U64, _PLACE)
 next_naming = _call(_slow, "p21_next_naming", _PLACE, _U64, _U64, _PLACE)
-value = _call(_quick, "p21_value", _PLACE, _U64, _U64, _PLACE, _SIZE, *_ROOM, _PLACE)
+value = _call(_quick, "p21_value", _PLACE, _U64)
 
 _clear = _slow.p21_clear
 _clear.argtypes, _clear.restype = (_PLACE,), None
@@ -85,22 +88,30 @@ def free(handle) -> None:
     _free(handle)
 
 
+# A path has a step for each parenthesis that is open where the value stands, of which a file may have so many; and its size by the depth of its last step.
+STEPS = 64
+SIZES = [_size(depth + 1) for depth in range(STEPS)]
+
+
 class Room(threading.local):
-    """Room for what a call hands out, each thread's own."""
+    """Room for what a call hands out, and for the path of a value, each thread's own."""
 
     def __init__(self):
         self.number = _U64()
-        self.number_at = ctypes.addressof(self.number)
+        self.number_at = ctypes.byref(self.number)
         self.value = ValueView()
+        self._path = (_U64 * STEPS)()
+        self.path_at = ctypes.byref(self._path)
         self.fit(256)
 
     def fit(self, size):
         """Makes room for so many bytes."""
         self.size = size
-        self._bytes = ctypes.create_string_buffer(size)
-        self.bytes_at = ctypes.addressof(self._bytes)
+        self.bytes = ctypes.create_string_buffer(size)
+        self.bytes_at = ctypes.byref(self.bytes)
+        self.text_and_view = self.bytes_at, _size(size), ctypes.byref(self.value)
         # What reading a value takes, at one look.
-        self.all = self.value, ctypes.addressof(self.value), memoryview(self._bytes), self.bytes_at, size
+        self.all = self.value, self._path, self.bytes, size, self.path_at, *self.text_and_view
 
 
 room = Room()
@@ -111,7 +122,7 @@ def text(call, *words) -> str:
     while call(*words, room.bytes_at, room.size, room.number_at) == OK:
         length = room.number.value
         if length <= room.size:
-            return ctypes.string_at(room.bytes_at, length).decode("utf-8", "replace")
+            return room.bytes[:length].decode("utf-8", "replace")
         room.fit(length)
     raise LookupError
 

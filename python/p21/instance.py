@@ -1,7 +1,6 @@
 """Instances, and the values of their attributes."""
 
-import ctypes
-from typing import Any, Dict, Iterator, Optional, Tuple, Union
+from typing import TYPE_CHECKING, Any, Callable, Dict, Iterator, Optional, Tuple, Type, Union
 
 from . import _library as library
 from ._library import room
@@ -9,22 +8,8 @@ from ._library import room
 Value = Union[None, int, float, str, bool, Tuple[Any, ...], "Instance", "Typed"]
 
 _LOGICAL = (False, True, "UNKNOWN")
-_value, _STRING, _ENUMERATION, _REFERENCE, _REAL = library.value, library.STRING, library.ENUMERATION, library.REFERENCE, library.REAL
-_paths: Dict[Tuple[int, ...], Any] = {}
-
-
-def _path_of(path):
-    """A path as the library takes it."""
-    held = (ctypes.c_uint64 * len(path))(*path)
-    return held, ctypes.addressof(held), len(path)
-
-
-def _first_path(position):
-    """The path of an attribute, kept."""
-    path = _paths.get(position)
-    if path is None:
-        path = _paths[position] = _path_of((position,))
-    return path
+_value, _SIZES = library.value, library.SIZES
+_STRING, _ENUMERATION, _REFERENCE, _REAL, _LIST = library.STRING, library.ENUMERATION, library.REFERENCE, library.REAL, library.LIST
 
 
 class Number(int):
@@ -64,51 +49,43 @@ class Typed:
         return "%s(%r)" % (self._type, self.wrappedValue)
 
 
-def value_at(model, place: int, record: int, path) -> Value:
-    """The value at a path of a record."""
-    view, view_at, text, text_at, size = room.all
-    code = _value(model._handle, place, record, path[1], path[2], text_at, size, view_at)
+def value_at(model, place: int, record, depth: int, step: int) -> Value:
+    """The value in a record to which this step leads, after those to that depth which are in this thread's path."""
+    view, path, text, size, path_at, text_at, size_of_text, view_at = room.all
+    path[depth] = step
+    code = _value(model._handle, place, record, path_at, _SIZES[depth], text_at, size_of_text, view_at)
     if code:
         model._refuse(code)
     kind = view.kind
     if kind == _STRING or kind == _ENUMERATION:
-        return str(text[: view.length], "utf-8", "replace") if view.length <= size else _text(model, place, record, path)
+        return text[: view.length].decode("utf-8", "replace") if view.length <= size else _text(model, place, record, depth)
     if kind == _REFERENCE:
         return model.by_id(view.number)
     if kind == _REAL:
         return view.real
+    if kind == _LIST:
+        inner = depth + 1
+        return tuple([value_at(model, place, record, inner, index) for index in range(view.number)])
     if kind <= library.DERIVED:
         return None
     if kind == library.INTEGER:
-        return view.integer if view.exact else int(_text(model, place, record, path))
+        return view.integer if view.exact else int(_text(model, place, record, depth))
     if kind == library.LOGICAL:
         return _LOGICAL[view.number]
-    if kind == library.LIST:
-        return _elements(model, place, record, path, view.number)
     if kind == library.BINARY:
         bits = view.number
-        return _bits(_text(model, place, record, path), bits)
-    name = _text(model, place, record, path)
-    return Typed(name, value_at(model, place, record, _path_of((*path[0], 0))))
+        return _bits(_text(model, place, record, depth), bits)
+    name = _text(model, place, record, depth)
+    return Typed(name, value_at(model, place, record, depth + 1, 0))
 
 
-def _text(model, place, record, path) -> str:
+def _text(model, place, record, depth) -> str:
     """The text of the value that was asked for last."""
     length = room.value.length
     if length > room.size:
         room.fit(length)
-        _value(model._handle, place, record, path[1], path[2], room.bytes_at, room.size, room.all[1])
-    return ctypes.string_at(room.bytes_at, length).decode("utf-8", "replace")
-
-
-def _elements(model, place, record, path, count) -> Tuple[Value, ...]:
-    """The elements of a list."""
-    inner = _path_of((*path[0], 0))
-    values, last = [], path[2]
-    for index in range(count):
-        inner[0][last] = index
-        values.append(value_at(model, place, record, inner))
-    return tuple(values)
+        _value(model._handle, place, record, room.path_at, _SIZES[depth], *room.text_and_view)
+    return room.bytes[:length].decode("utf-8", "replace")
 
 
 def _bits(digits: str, count: int) -> str:
@@ -125,14 +102,29 @@ def _shown(value: Value) -> str:
     return repr(value)
 
 
+def _reader(record: int, position: int) -> Callable[["Instance"], Value]:
+    """What reads an attribute of an instance: the parameter at a position of a record."""
+    number = library.u64(record)
+
+    def read(instance):
+        return value_at(instance._model, instance._place, number, 0, position)
+
+    return read
+
+
 class Instance:
-    """An instance of a model. Its attributes are attributes of the object, by the names of the schema; one whose name is that of a method, such as id
-    in AP203, is instance["id"]."""
+    """An instance of a model, of a class that its entity gives it. Its attributes are attributes of the object, by the names of the schema; one whose name
+    is that of a method, such as id in AP203, is instance["id"]."""
 
     __slots__ = ("_model", "_place")
+    _attributes: Dict[str, Callable[["Instance"], Value]] = {}
 
     def __init__(self, model, place: int):
         self._model, self._place = model, place
+
+    if TYPE_CHECKING:
+
+        def __getattr__(self, name: str) -> Value: ...
 
     @property
     def id(self) -> Number:
@@ -147,40 +139,29 @@ class Instance:
         other = model._entity(name)
         return other is not None and any(model._is_a(entity, other) for entity in model._entities_of(self._place))
 
-    def __getattr__(self, name: str) -> Value:
-        model, place = self._model, self._place
-        found = model._attributes(place).get(name)
-        if found is None:
-            raise AttributeError("%s has no attribute %s" % (self.is_a(), name))
-        return value_at(model, place, found[0], found[1])
-
     def __getitem__(self, key: Union[int, str]) -> Value:
         """An attribute by its place, or by its name."""
-        places = self._model._attributes(self._place)
-        record, path = places[key] if isinstance(key, str) else list(places.values())[key]
-        return value_at(self._model, self._place, record, path)
+        name = key if isinstance(key, str) else self.attribute_name(key)
+        return self._attributes[name](self)
 
     def __len__(self) -> int:
         """How many attributes it has."""
-        return len(self._model._attributes(self._place))
+        return len(self._attributes)
 
     def __iter__(self) -> Iterator[Value]:
         return (self[index] for index in range(len(self)))
 
     def attribute_name(self, index: int) -> str:
         """The name of an attribute by its place."""
-        return list(self._model._attributes(self._place))[index]
+        return list(self._attributes)[index]
 
     def attributes(self) -> Dict[str, Value]:
         """Its attributes by their names."""
-        return {name: self[name] for name in self._model._attributes(self._place)}
+        return {name: read(self) for name, read in self._attributes.items()}
 
     def get_info(self) -> Dict[str, Any]:
         """Its id, its type and its attributes by their names, but for those of these two names."""
         return {**self.attributes(), "id": int(self.id), "type": self.is_a()}
-
-    def __dir__(self):
-        return [*super().__dir__(), *self._model._attributes(self._place)]
 
     def __eq__(self, other):
         return isinstance(other, Instance) and self._model is other._model and self._place == other._place
@@ -190,3 +171,10 @@ class Instance:
 
     def __repr__(self):
         return "#%d=%s(%s)" % (self.id, self.is_a(), ",".join(_shown(it) for it in self))
+
+
+def class_of(name: str, places: Dict[str, Tuple[int, int]]) -> Type[Instance]:
+    """The class of the instances of an entity, by the record and the position of each attribute."""
+    attributes = {it: _reader(*place) for it, place in places.items()}
+    named = {it: property(read) for it, read in attributes.items() if not hasattr(Instance, it)}
+    return type(name, (Instance,), {"__slots__": (), "_attributes": attributes, **named})

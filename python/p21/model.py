@@ -2,12 +2,12 @@
 
 import array
 import ctypes
-from typing import Dict, Iterator, List, Optional, Union
+from typing import Dict, Iterator, List, Optional, Tuple, Type, Union
 
 from . import _library as library
 from ._library import room
 from .errors import Error, OutOfMemory
-from .instance import Instance, _first_path
+from .instance import Instance, class_of
 
 
 # What stands for the entity of a complex instance.
@@ -19,7 +19,7 @@ class Model:
 
     def __init__(self, handle, schema, data: bytes):
         # The library reads the schema and the bytes where they are, so they live as long as the model.
-        self._handle, self._schema, self._data = handle, schema, data
+        self._handle, self._schema, self._data = library.pointer(handle), schema, data
         count = library.number(library.count, handle)
         self._names = array.array("Q", bytes(8 * count))
         self._entities = array.array("Q", bytes(8 * count))
@@ -28,7 +28,7 @@ class Model:
         self._by_name: Dict[str, Optional[int]] = {}
         self._spelled: Dict[int, str] = {}
         self._below: Dict[tuple, bool] = {}
-        self._places: Dict[object, dict] = {}
+        self._classes: Dict[object, Type[Instance]] = {}
         self._guids: Optional[Dict[str, int]] = None
 
     # ---- what users call
@@ -42,7 +42,9 @@ class Model:
         return len(self._names)
 
     def __iter__(self) -> Iterator[Instance]:
-        return (Instance(self, place) for place in range(len(self._names)))
+        classes = self._classes
+        for place, entity in enumerate(self._entities):
+            yield (classes.get(entity) or self._class_at(place))(self, place)
 
     def __getitem__(self, key: Union[int, str]) -> Instance:
         """The instance of a number, or of a GlobalId; KeyError if there is none."""
@@ -58,7 +60,7 @@ class Model:
         """The instance of a number: 767 for #767; RuntimeError if there is none."""
         if library.find(self._handle or self._open(), number, room.number_at):
             raise RuntimeError("there is no instance #%d" % number)
-        return Instance(self, room.number.value)
+        return self._at(room.number.value)
 
     def by_type(self, name: str, include_subtypes: bool = True) -> List[Instance]:
         """The instances of the entity of this name, and of its subtypes; RuntimeError if the schema has no such entity."""
@@ -72,11 +74,11 @@ class Model:
         if self._guids is None:
             self._guids = {}
             for instance in self:
-                if "GlobalId" in self._attributes(instance._place):
+                if "GlobalId" in instance._attributes:
                     self._guids.setdefault(instance.GlobalId, instance._place)
         if guid not in self._guids:
             raise RuntimeError("there is no instance with the GlobalId %s" % guid)
-        return Instance(self, self._guids[guid])
+        return self._at(self._guids[guid])
 
     def inverse(self, of: Union[int, Instance]) -> List[Instance]:
         """The instances that refer to this one, by itself or by its number."""
@@ -116,7 +118,7 @@ class Model:
         place = 0
         while call(handle, *words, place, at) == library.OK:
             place = number.value
-            found.append(Instance(self, place))
+            found.append(self._at(place))
             place += 1
         return found
 
@@ -150,23 +152,24 @@ class Model:
             entities.append(record.entity)
         return tuple(entities)
 
-    def _attributes(self, place: int) -> dict:
-        """The record and the path of each attribute of an instance, by its name."""
-        entity = self._entities[place]
-        key = entity if entity != _NO_ENTITY else self._entities_of(place)
-        found = self._places.get(key)
-        if found is None:
-            found = self._places[key] = self._named(0, key, 0) if key is entity else self._merged(key)
-        return found
+    def _at(self, place: int) -> Instance:
+        """The instance at a place."""
+        return (self._classes.get(self._entities[place]) or self._class_at(place))(self, place)
 
-    def _merged(self, entities: tuple) -> dict:
-        """The same of a complex instance, whose records have the own attributes of their entities."""
-        merged: dict = {}
+    def _class_at(self, place: int) -> Type[Instance]:
+        """The class of the instance at a place: one for each entity, and one for the entities of each kind of complex instance."""
+        entities = self._entities_of(place)
+        is_simple = self._entities[place] != _NO_ENTITY
+        key = entities[0] if is_simple else entities
+        if key not in self._classes:
+            self._classes[key] = class_of(self._entity_name(entities[0]), self._places(entities, 0 if is_simple else 1))
+        return self._classes[key]
+
+    def _places(self, entities: tuple, own: int) -> Dict[str, Tuple[int, int]]:
+        """The record and the position of each attribute, by its name; where own is 1, of the own attributes of the entity of each record."""
+        places = {}
         for record, entity in enumerate(entities):
-            merged.update(self._named(record, entity, 1))
-        return merged
-
-    def _named(self, record: int, entity: int, own: int) -> dict:
-        count = library.number(library.attribute_count, self._open(), entity, own)
-        names = (library.text(library.attribute_name, self._open(), entity, own, at) for at in range(count))
-        return {name: (record, _first_path(at)) for at, name in enumerate(names)}
+            for position in range(library.number(library.attribute_count, self._open(), entity, own)):
+                name = library.text(library.attribute_name, self._open(), entity, own, position)
+                places[name] = record, position
+        return places

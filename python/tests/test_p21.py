@@ -27,8 +27,10 @@ ENTITY Property; Name : Label; NominalValue : OPTIONAL Value; END_ENTITY;
 ENTITY Connects SUBTYPE OF (Root); RelatingElement : Element; RelatedElements : SET OF Element; END_ENTITY;
 ENTITY Red SUPERTYPE OF (Round); Shade : Label; END_ENTITY;
 ENTITY Round SUBTYPE OF (Red); Radius : Length; END_ENTITY;
+ENTITY Product; id : STRING; Notes : LIST OF STRING; END_ENTITY;
+ENTITY Nested; Levels : %s INTEGER; END_ENTITY;
 END_SCHEMA;
-"""
+""" % (b'LIST OF ' * 63)
 
 FILE = rb"""ISO-10303-21;
 HEADER;FILE_DESCRIPTION((''),'2;1');FILE_NAME('','',(''),(''),'','','');FILE_SCHEMA(('HOUSE'));ENDSEC;
@@ -49,6 +51,11 @@ DATA;
 ENDSEC;
 END-ISO-10303-21;
 """
+
+
+def of_data(instances):
+    """A file with these instances."""
+    return FILE[: FILE.index(b'#1=')] + instances + b'\n' + FILE[FILE.index(b'ENDSEC;\nEND-ISO') :]
 
 
 class Package(unittest.TestCase):
@@ -87,6 +94,29 @@ class Package(unittest.TestCase):
         self.assertRaises(KeyError, lambda: self.model[13])
         self.assertRaises(RuntimeError, self.model.by_id, 13)
         self.assertRaises(RuntimeError, self.model.by_type, 'Roof')
+
+    def test_classes(self):
+        wall, other, curtain = (self.model[name] for name in (10, 10, 11))
+        self.assertIsInstance(wall, p21.Instance)
+        self.assertEqual((type(wall).__name__, type(wall) is type(other), type(wall) is type(curtain)), ('Wall', True, False))
+        with self.assertRaises(AttributeError):
+            wall.Name = 'other'
+        product = self.schema.read_bytes(of_data(b"#5=PRODUCT('P-1',());"))[5]
+        self.assertEqual((product.id, product['id'], product[0], product.get_info()['id']), (5, 'P-1', 'P-1', 5))
+
+    def test_long_texts(self):
+        """Texts that are longer than the room for them was, among others."""
+        texts = tuple(letter * count for count in (0, 255, 256, 257, 5000) for letter in ('a', 'b'))
+        product = self.schema.read_bytes(of_data(b"#5=PRODUCT('P-1',(%s));" % ','.join("'%s'" % it for it in texts).encode()))[5]
+        self.assertEqual(product.Notes, texts)
+
+    def test_depth(self):
+        """As many open parentheses as a file may have."""
+        value = self.schema.read_bytes(of_data(b'#5=NESTED(%s1,2%s);' % (b'(' * 63, b')' * 63)))[5].Levels
+        for _ in range(62):
+            self.assertEqual(len(value), 1)
+            value = value[0]
+        self.assertEqual(value, (1, 2))
 
     def test_complex_instances(self):
         both = self.model[40]
