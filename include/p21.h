@@ -167,6 +167,9 @@ int p21_attribute(const p21_model *model, uint64_t entity, uint32_t own, const u
 /* How many instances there are. */
 int p21_count(const p21_model *model, uint64_t *count);
 
+/* How many instance names are written as parameters, in lists and typed values too. */
+int p21_reference_count(const p21_model *model, uint64_t *count);
+
 /* The place of the instance of a name: 767 for #767. */
 int p21_find(const p21_model *model, uint64_t name, uint64_t *place);
 

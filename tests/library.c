@@ -86,15 +86,17 @@ static int by_name(const void *a, const void *b) {
 }
 
 static int report(seen *it) {
-    uint64_t count = 0, entities = 0, length = 0;
+    uint64_t count = 0, entities = 0, length = 0, references = 0;
     char name[256];
     p21_count(it->model, &count);
+    if (p21_reference_count(it->model, &references) != P21_OK) it->wrong = 9;
     p21_entity_count(it->model, &entities);
     it->records = calloc(entities ? entities : 1, sizeof *it->records);
     char **lines = calloc(entities ? entities : 1, sizeof *lines);
     if (!it->records || !lines) return 5;
     for (uint64_t place = 0; place < count; place++) see_instance(it, place);
     for (uint64_t entity = 0; entity < entities; entity++) see_entity(it, entity);
+    if (references != it->references) it->wrong = 9;
     p21_schema_name(it->model, (uint8_t *)name, sizeof name, &length);
     printf("schema %.*s\ninstances %llu\ncomplex %llu\nreferences %llu\n", (int)length, name, NUMBER(count), NUMBER(it->complex), NUMBER(it->references));
     size_t told = 0;
@@ -127,7 +129,8 @@ static int is_told(const p21_schema *schema, const p21_model *model) {
     p21_record_view record;
     p21_fault fault;
     p21_count(model, &count);
-    return p21_count(NULL, &n) == P21_HANDLE && p21_count((const p21_model *)schema, &n) == P21_HANDLE && p21_find(model, 987654321987654321, &n) == P21_NONE &&
+    return p21_count(NULL, &n) == P21_HANDLE && p21_count((const p21_model *)schema, &n) == P21_HANDLE &&
+           p21_reference_count(NULL, &n) == P21_HANDLE && p21_find(model, 987654321987654321, &n) == P21_NONE &&
            p21_record(model, count, 0, &record) == P21_NONE && p21_entity_name(model, UINT64_MAX, NULL, 0, &n) == P21_NONE &&
            p21_read((const p21_schema *)model, NULL, 0, &none, &fault) == P21_HANDLE && p21_read(NULL, NULL, 0, &none, &fault) == P21_HANDLE;
 }

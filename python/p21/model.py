@@ -41,6 +41,10 @@ class Model:
     def __len__(self) -> int:
         return len(self._names)
 
+    def reference_count(self) -> int:
+        """How many references its instances have, each as often as it is written."""
+        return library.number(library.reference_count, self._open())
+
     def __iter__(self) -> Iterator[Instance]:
         classes = self._classes
         for place, entity in enumerate(self._entities):

@@ -80,7 +80,7 @@ class Package(unittest.TestCase):
             wall.Width
 
     def test_instances(self):
-        self.assertEqual((len(self.model), self.model.schema), (13, 'HOUSE'))
+        self.assertEqual((len(self.model), self.model.schema, self.model.reference_count()), (13, 'HOUSE', 8))
         self.assertEqual([it.id for it in self.model.by_type('Wall')], [10, 11])
         self.assertEqual([it.id for it in self.model.by_type('wall', include_subtypes=False)], [10])
         self.assertEqual([it.id for it in self.model.inverse(12)], [30])

@@ -2,7 +2,8 @@
 
 ghost use Rattle.std.specs.Prelude.{◌≡◌, None, Some, length, pos};
 ghost use Rattle.p21_tree.specs.Views.{plain_instance};
-ghost use Rattle.p21_join.specs.Model.{instances_of};
+ghost use Rattle.p21_counts.specs.Counts.{capped, reference_count};
+ghost use Rattle.p21_join.specs.Model.{instances_of, plain_instances};
 ghost use Rattle.p21_join.specs.Names.{IsPosition};
 ghost use Rattle.p21_query.specs.First.{IsFirst};
 ghost use Rattle.p21_query.specs.Names.{AnyHasName};
@@ -14,6 +15,7 @@ use crate::held::HeldModel;
 use crate::models::model_in;
 use crate::schema_calls::entity_at;
 use p21_check::simple_entity;
+use p21_counts::references_in;
 use p21_query::{next_naming, next_of};
 use p21_schema::EntityId;
 use p21_tree::{RawInstance, Record};
@@ -81,6 +83,29 @@ pub extern "C" fn p21_count(model: Handle, count: &mut u64) -> i32
     };
     *count = held.model.len() as u64;
     OK
+}
+
+/// How many instance names are written as parameters, at most 2^64 - 1.
+#[unsafe(no_mangle)]
+pub extern "C" fn p21_reference_count(model: Handle, count: &mut u64) -> i32
+    ensures { OnModel (pos 0) result model.held (λ m. count.new ≡ capped (reference_count (plain_instances (instances_of m.model)))) }
+{
+    let Some(held) = model_in(model) else {
+        return HANDLE;
+    };
+    *count = references_of(held.model.instances());
+    OK
+}
+
+/// How many instance names are written in some instances, at most 2^64 - 1.
+fn references_of(instances: &[RawInstance<'_>]) -> u64
+    ensures { result ≡ capped (reference_count (plain_instances instances.now)) }
+{
+    let mut sum: u64 = 0;
+    for instance in instances {
+        sum = sum.saturating_add(references_in(instance));
+    }
+    sum
 }
 
 /// The place of the instance of a name.
