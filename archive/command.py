@@ -73,6 +73,17 @@ def program() -> str:
     return os.fsdecode(ran.stdout[:-1])
 
 
+def library() -> str:
+    """The path of libp21, which lies beside p21archive, or which the launcher of a checkout tells."""
+    path = os.path.join(TOP, 'libp21.so')
+    if os.path.exists(path):
+        return path
+    ran = subprocess.run([os.path.join(TOP, 'libp21'), 'so'], stdin=subprocess.DEVNULL, stdout=subprocess.PIPE)
+    if ran.returncode:
+        raise Refused('libp21 cannot be made')
+    return os.fsdecode(ran.stdout[:-1])
+
+
 def base(folder: str) -> Base:
     """What workers need, with the schemas of a folder."""
     try:
@@ -81,7 +92,7 @@ def base(folder: str) -> Base:
         raise Refused(str(error)) from None
     if not schemas:
         raise Refused('no schema is in %s' % folder)
-    return Base(os.fsencode(TOP), os.fsencode(program()), schemas)
+    return Base(os.fsencode(TOP), os.fsencode(program()), os.fsencode(library()), schemas)
 
 
 def machines(hosts: str) -> int:

@@ -6,11 +6,16 @@ from __future__ import annotations
 import dataclasses
 import json
 import os
+import re
 from typing import Dict, List, Optional
 
 READ, FAULTY, UNTRIED = 'read', 'faulty', 'untried'
 STATUSES = (READ, FAULTY, UNTRIED)
 BATCH = 'batch.json'
+# The one answer on a file that hangs on which schema it is checked against, where the file names none.
+WRONG_SCHEMA = 'WrongSchema'
+# A fault in words: the place to look at, the line with the caret, and the sentence.
+EXPLAINED = re.compile(r'-:(\d+):(\d+): fault at \d+\n([^\n]*\n[^\n]*)\n(.*)', re.DOTALL)
 
 
 def text_of(path: bytes) -> str:
@@ -42,6 +47,11 @@ class Untried(Exception):
         """What is told of a FIFO, a device, a socket, or a folder in a file's place."""
         return cls('NoFile', 'This is no plain file.')
 
+    @classmethod
+    def no_schema_name(cls) -> Untried:
+        """What is told of a file that names no schema, and has no fault before it is asked which."""
+        return cls('NoSchemaName', 'It names no schema.')
+
 
 @dataclasses.dataclass
 class File:
@@ -70,6 +80,14 @@ class Finding:
     seconds: float = 0.0
     sentence: str = ''
     shown: str = ''
+
+
+def explain(finding: Finding, explanation: str) -> None:
+    """Puts a fault in words into a finding."""
+    explained = EXPLAINED.match(explanation)
+    if explained:
+        finding.line, finding.column = int(explained[1]), int(explained[2])
+        finding.shown, finding.sentence = (it.strip('\n') for it in explained.group(3, 4))
 
 
 @dataclasses.dataclass

@@ -9,11 +9,13 @@ from .model import Batch, File, bytes_of
 from .sources import is_packed
 
 MEGABYTE = 1 << 20
-# How much longer a file is than it is packed, about; in how many bytes read a run begins; and how much memory it takes by its file.
-PACKED, BEGIN, MEMORY = 8, MEGABYTE, 3
+# How much longer a file is than it is packed, about; in how many bytes read a worker opens one; and how much memory p21check takes by its file.
+PACKED, OPEN, MEMORY = 8, MEGABYTE // 16, 3
 LEAST_GREAT = 16 * MEGABYTE
-# The batches that each processor has, so that all end together, and the least and the most that there is to read in one.
-BATCHES, LEAST, MOST = 16, 32 * MEGABYTE, 128 * MEGABYTE
+# A file that is no longer is held whole by a worker.
+WHOLE = LEAST_GREAT
+# A batch is this part of what each processor is left with, so that all end together; and the least and the most that there is to read in one.
+PART, LEAST, MOST = 4, 4 * MEGABYTE, 128 * MEGABYTE
 
 
 def processors() -> int:
@@ -23,7 +25,7 @@ def processors() -> int:
 
 def cost(file: File) -> int:
     """What a file costs, as bytes that are read, about."""
-    return BEGIN + file.bytes * (PACKED if is_packed(bytes_of(file.name)) else 1)
+    return OPEN + file.bytes * (PACKED if is_packed(bytes_of(file.name)) else 1)
 
 
 def split(files: List[File], jobs: int) -> Tuple[List[File], List[File]]:
@@ -40,15 +42,18 @@ def split(files: List[File], jobs: int) -> Tuple[List[File], List[File]]:
 
 
 def batches(files: List[File], jobs: int) -> Iterator[Batch]:
-    """Batches of files that are read by one lane each."""
-    most = min(MOST, max(LEAST, sum(map(cost, files)) // (jobs * BATCHES)))
+    """Batches of files that are read by one lane each, ever smaller ones."""
+    left = sum(map(cost, files))
     taken: List[File] = []
-    left = most
+    room = 0
     for file in files:
-        if taken and cost(file) > left:
+        if taken and cost(file) > room:
             yield Batch(1, taken)
-            taken, left = [], most
+            taken = []
+        if not taken:
+            room = min(MOST, max(LEAST, left // (jobs * PART)))
         taken.append(file)
+        room -= cost(file)
         left -= cost(file)
     if taken:
         yield Batch(1, taken)

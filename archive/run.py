@@ -11,6 +11,7 @@ import secrets
 import sys
 from typing import Dict, Iterator, List
 
+from .library import LIBRARY, PACKAGE
 from .model import Batch, File, Finding, Findings, bytes_of
 from .plan import plan
 from .work import PROGRAM, SCHEMAS
@@ -68,16 +69,18 @@ class Plan:
 
 @dataclasses.dataclass
 class Base:
-    """What workers need: the folder of p21archive, the program, and the path of each schema by its name."""
+    """What workers need: the folder of p21archive, the program, the library, and the path of each schema by its name."""
 
     top: bytes
     program: bytes
+    library: bytes
     schemas: Dict[str, bytes]
 
     def lay(self, folder: bytes) -> None:
         """Puts links to all of it into a folder, under names that need no quoting."""
         names = {name: '%s/%d.exp' % (BASE, number) for number, name in enumerate(sorted(self.schemas))}
-        links = {SCRIPT: os.path.join(self.top, b'p21archive'), MODULES: os.path.join(self.top, b'archive'), PROGRAM: self.program}
+        links = {SCRIPT: os.path.join(self.top, b'p21archive'), MODULES: os.path.join(self.top, b'archive'), PROGRAM: self.program,
+                 LIBRARY: self.library, PACKAGE: os.path.join(self.top, b'python/p21')}
         links.update({names[name]: os.path.abspath(path) for name, path in self.schemas.items()})
         os.makedirs(os.path.join(folder, bytes_of(BASE)), exist_ok=True)
         for name, target in links.items():

@@ -1,4 +1,4 @@
-"""A worker: runs p21check over the files of a batch, and prints what it found as one line."""
+"""A worker: checks the files of a batch, by libp21 or by p21check, and prints what it found as one line."""
 
 from __future__ import annotations
 
@@ -12,9 +12,10 @@ import tempfile
 import time
 from typing import BinaryIO, Dict, Iterator, List, NamedTuple
 
-from .model import FAULTY, READ, Batch, File, Finding, Findings, Untried
-from .plan import processors
-from .schemas import read_front
+from .library import Library
+from .model import FAULTY, READ, WRONG_SCHEMA, Batch, File, Finding, Findings, Untried, explain
+from .plan import WHOLE, processors
+from .schemas import FRONTS, read_front
 from .sources import Source, sources
 
 PROGRAM, SCHEMAS = 'base/p21check', 'base/schemas.json'
@@ -24,9 +25,6 @@ BLOCK = 1 << 20
 REPORT, ERRORS = 1 << 12, 1 << 16
 COUNT = re.compile(rb'^(instances|references) (\d+)$', re.MULTILINE)
 FAULT = re.compile(rb'fault \d+ (\w+) at (\d+)')
-EXPLAINED = re.compile(rb'-:(\d+):(\d+): fault at \d+\n([^\n]*\n[^\n]*)\n(.*)', re.DOTALL)
-# The one answer on a file that hangs on which schema it is checked against, where the file names none.
-WRONG_SCHEMA = 'WrongSchema'
 
 
 class Ran(NamedTuple):
@@ -35,6 +33,13 @@ class Ran(NamedTuple):
     status: int
     report: bytes
     errors: bytes
+
+
+def rest(source: Source, front: bytes) -> bytes:
+    """The rest of a file of which the front has been read; or of one that is too long to be held whole, so much that this is seen."""
+    if len(front) < FRONTS[0]:
+        return b''
+    return source.read(-1 if source.is_plain and source.size <= WHOLE else WHOLE + 1 - len(front))
 
 
 def feed(pipe: BinaryIO, front: bytes, source: Source) -> None:
@@ -86,10 +91,7 @@ def tell(finding: Finding, ran: Ran) -> None:
     fault = FAULT.match(ran.report)
     if ran.status == 1 and fault:
         finding.status, finding.kind, finding.place = FAULTY, text(fault[1]), int(fault[2])
-        explained = EXPLAINED.match(ran.errors)
-        if explained:
-            finding.line, finding.column = int(explained[1]), int(explained[2])
-            finding.shown, finding.sentence = text(explained[3]), text(explained[4])
+        explain(finding, text(ran.errors))
     elif ran.status == 3:
         raise Untried('SchemaRefused', 'The schema is refused: %s.' % text(ran.report))
     elif ran.status < 0:
@@ -99,31 +101,43 @@ def tell(finding: Finding, ran: Ran) -> None:
 
 
 class Worker:
-    """Finds what is wrong with files, by p21check with so many lanes and these schemas, a path for each name."""
+    """Finds what is wrong with files, by so many lanes and these schemas, a path for each name: by libp21 where one lane reads a file that may be held
+    whole, else by p21check."""
 
     def __init__(self, lanes: int, schemas: Dict[str, str]):
         self.lanes = lanes
         self.schemas = schemas
+        self.library = Library() if lanes == 1 else None
 
-    def words(self, schema: str) -> List[str]:
-        """The command that checks standard input against the schema of this name; where a file names none any will do, since whatever is
-        wrong with a file before its schema is asked for hangs on none."""
+    def path(self, schema: str) -> str:
+        """The path of the schema of this name; where a file names none any will do, since whatever is wrong with a file before its schema is
+        asked for hangs on none."""
         if schema and schema not in self.schemas:
             raise Untried('NoSchema', 'No schema has the name %s.' % schema)
-        path = self.schemas[schema or min(self.schemas)]
-        return [PROGRAM, path, '-', '--explain=1', '--lanes', str(self.lanes)]
+        return self.schemas[schema or min(self.schemas)]
 
     def look(self, finding: Finding, source: Source) -> None:
         """Puts what there is to say of a file into a finding."""
         with source:
             front, finding.schema = read_front(source)
-            words = self.words(finding.schema)
+            path = self.path(finding.schema)
             begun = time.monotonic()
-            ran = run(words, front, source)
-            finding.seconds = round(time.monotonic() - begun, 4)
-            if not finding.schema and (ran.status == 3 or WRONG_SCHEMA.encode() in ran.report):
-                raise Untried('NoSchemaName', 'It names no schema.')
-            tell(finding, ran)
+            try:
+                self.check(finding, path, front, source)
+            finally:
+                finding.seconds = round(time.monotonic() - begun, 4)
+
+    def check(self, finding: Finding, path: str, front: bytes, source: Source) -> None:
+        """Checks a file of which the front has been read against the schema of a path."""
+        if self.library:
+            front += rest(source, front)
+            if len(front) <= WHOLE:
+                self.library.tell(finding, path, front)
+                return
+        ran = run([PROGRAM, path, '-', '--explain=1', '--lanes', str(self.lanes)], front, source)
+        if not finding.schema and (ran.status == 3 or WRONG_SCHEMA.encode() in ran.report):
+            raise Untried.no_schema_name()
+        tell(finding, ran)
 
     def finding(self, source: Source) -> Finding:
         """What is found of a file."""
