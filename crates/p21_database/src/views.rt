@@ -4,7 +4,7 @@ ghost use Rattle.p21_schema.specs.Place.{IsEntityOf};
 
 use crate::statements::entity_name;
 use p21_json::Terms;
-use p21_rows::Layout;
+use p21_rows::{Layout, columns_of};
 use p21_schema::{AttrId, EntityId, Schema};
 use std::alloc::{AllocError, Global};
 
@@ -27,9 +27,11 @@ pub(crate) fn create_view(
     }
     let own = layout.has_table(entity);
     let name = view_name(alloc, terms, entity, own)?;
+    let columns = columns_of(alloc, terms, entity)?;
+    let names = columns.names.as_slice();
     let mut sql = format!(in alloc; "CREATE VIEW \"{name}\" AS ")?;
     if own {
-        push_part(alloc, &mut sql, terms, layout, entity, entity)?;
+        push_part(alloc, &mut sql, terms, layout, entity, names, entity)?;
     }
     push_parts(
         alloc,
@@ -37,6 +39,7 @@ pub(crate) fn create_view(
         terms,
         layout,
         entity,
+        names,
         places.as_slice(),
         own,
     )?;
@@ -90,6 +93,7 @@ fn push_parts(
     terms: &Terms<'_>,
     layout: &Layout<'_, '_>,
     entity: EntityId,
+    names: &[String],
     places: &[usize],
     is_behind: bool,
 ) -> Result<(), AllocError>
@@ -100,7 +104,7 @@ fn push_parts(
             sql.push_str(" UNION ALL ")?;
         }
         if let Some(table) = terms.schema().entity_at(places[position]) {
-            push_part(alloc, sql, terms, layout, entity, table)?;
+            push_part(alloc, sql, terms, layout, entity, names, table)?;
         }
     }
     Ok(())
@@ -114,13 +118,15 @@ fn push_part(
     terms: &Terms<'_>,
     layout: &Layout<'_, '_>,
     entity: EntityId,
+    names: &[String],
     table: EntityId,
 ) -> Result<(), AllocError>
     requires entity { IsEntityOf terms.now entity }
     requires table { IsEntityOf terms.now table }
 {
     sql.push_str("SELECT \"id\"")?;
-    push_columns(alloc, sql, terms.schema(), layout, entity, table)?;
+    let columns = layout.columns(table);
+    push_columns(alloc, sql, terms.schema(), entity, names, table, columns)?;
     let name = entity_name(alloc, terms, table)?;
     let from = format!(in alloc; " FROM \"{name}\"")?;
     sql.push_str(from.as_str())?;
@@ -132,20 +138,19 @@ fn push_part(
     Ok(())
 }
 
-/// Adds the columns of a table that are of the attributes of a supertype, called as in that one's own table.
+/// Adds the columns of a table that are of the attributes of a supertype, under these names.
 fn push_columns(
     alloc: Global,
     sql: &mut String,
     schema: &Schema,
-    layout: &Layout<'_, '_>,
     entity: EntityId,
+    names: &[String],
     table: EntityId,
+    columns: &[String],
 ) -> Result<(), AllocError>
     requires entity { IsEntityOf schema.now entity }
     requires table { IsEntityOf schema.now table }
 {
-    let names = layout.columns(entity);
-    let columns = layout.columns(table);
     for position in 0..schema.row_count(entity).min(names.len()) {
         let attribute = schema.row(entity, position);
         let column = column_of(schema, columns, table, attribute);

@@ -16,7 +16,7 @@ pub struct Layout<'t, 's> {
     terms: &'t Terms<'s>,
     /// How each entity is used, in the order of the schema.
     uses: Vec<Use>,
-    /// The columns that a table of each has.
+    /// The columns of the table of each; none of one that has no table.
     columns: Vec<TableColumns>,
 }
 
@@ -36,7 +36,7 @@ impl<'t, 's> Layout<'t, 's> {
         let uses = uses_of(alloc, terms.schema(), instances)?;
         let mut columns = Vec::with_capacity(alloc, uses.len())?;
         for place in 0..uses.len() {
-            columns.push(columns_at(alloc, terms, place)?)?;
+            columns.push(columns_at(alloc, terms, place, uses[place])?)?;
         }
         Ok(Layout {
             terms,
@@ -63,11 +63,10 @@ impl<'t, 's> Layout<'t, 's> {
 
     /// Whether an entity has a table.
     pub fn has_table(&self, entity: EntityId) -> bool {
-        let found = self.use_of(entity);
-        found.simple || found.complex
+        self.use_of(entity).has_table()
     }
 
-    /// The names of the columns that a table of an entity has behind `id`.
+    /// The names of the columns that the table of an entity has behind `id`; none where it has no table.
     pub fn columns(&self, entity: EntityId) -> &[String] {
         match self.columns.get(entity.place()) {
             Some(found) => found.names.as_slice(),
@@ -76,19 +75,24 @@ impl<'t, 's> Layout<'t, 's> {
     }
 }
 
-/// The columns of the entity at a place of the schema.
-fn columns_at(alloc: Global, terms: &Terms<'_>, place: usize) -> Result<TableColumns, AllocError> {
+/// The columns of the table of the entity at a place of the schema, which is used so; none where it has no table.
+fn columns_at(
+    alloc: Global,
+    terms: &Terms<'_>,
+    place: usize,
+    used: Use,
+) -> Result<TableColumns, AllocError> {
     match terms.schema().entity_at(place) {
-        Some(entity) => columns_of(alloc, terms, entity),
-        None => Ok(TableColumns {
+        Some(entity) if used.has_table() => columns_of(alloc, terms, entity),
+        _ => Ok(TableColumns {
             names: Vec::new(alloc),
         }),
     }
 }
 
 /// The columns of an entity: each is called as its attribute; as `entity.attribute`, by the entity that declares it, where the name is that
-/// of a column before it, or `id`.
-fn columns_of(
+/// of a column before it, or `id`. That takes the square of how many they are. Memory alone can fail.
+pub fn columns_of(
     alloc: Global,
     terms: &Terms<'_>,
     entity: EntityId,

@@ -12,7 +12,7 @@ mod runner;
 mod uses;
 
 pub use cell::Cell;
-pub use layout::{Layout, TableColumns};
+pub use layout::{Layout, TableColumns, columns_of};
 pub use metadata::About;
 pub use p21_export::How;
 pub use p21_run::{InputError, Listener, Outcome, Sink, Source};

@@ -13,6 +13,13 @@ pub struct Use {
     pub complex: bool,
 }
 
+impl Use {
+    /// Whether the entity has a table: there are records of it.
+    pub fn has_table(self) -> bool {
+        self.simple || self.complex
+    }
+}
+
 /// No instance is of it.
 const UNUSED: Use = Use {
     simple: false,
