@@ -14,6 +14,10 @@ use Rattle.p21_json.specs.Where.{Where, IsLogicalAt}
 use Rattle.p21_rows.specs.declared.cell.Cell.{Cell}
 use Rattle.p21_rows.specs.declared.cell.Cell.TheVariants.{Null, Integer, Real, Text}
 
+-- a number of 64 bits, as the signed one of the same bits
+abbrev pub number_cell : ℕ → Cell
+number_cell n = Integer (cast_signed w64 n)
+
 -- a text that is such
 abbrev pub IsText : (List ℕ → Type 0) → Cell → Type 0
 IsText P Null = ⊥
@@ -53,7 +57,7 @@ IsCell s w (int v) c = IsIntegerCell v c
 IsCell s w (real v) c = IsRealCell v c
 IsCell s w (str v) c = IsText (λ text. (found : List Item) × ItemsOf v found × (text ≡ text_of_items found)) c
 IsCell s w (enumeration v) c = IsItemCell s w v c
-IsCell s w (reference n) c = c ≡ Integer (cast_signed w64 n)
+IsCell s w (reference n) c = c ≡ number_cell n
 IsCell s w (binary v) c = IsText (IsTextOf s (value_parts w (binary v))) c
 IsCell s w (items ts) c = IsText (IsTextOf s (value_parts w (items ts))) c
 IsCell s w (typed k t) c = IsText (IsTextOf s (value_parts w (typed k t))) c

@@ -6,7 +6,7 @@ ghost use Rattle.p21_json.specs.Characters.{text_of_items};
 ghost use Rattle.p21_json.specs.Parts.{value_parts};
 ghost use Rattle.p21_json.specs.Values.{IsTextOf};
 ghost use Rattle.p21_json.specs.Where.{Where, IsLogicalAt};
-ghost use Rattle.p21_rows.specs.Cells.{IsCell, IsIntegerCell, IsItemCell, IsRealCell, IsText};
+ghost use Rattle.p21_rows.specs.Cells.{IsCell, IsIntegerCell, IsItemCell, IsRealCell, IsText, number_cell};
 ghost use Rattle.p21_text.specs.Items.{IsBody, Item, ItemsOf};
 ghost use Rattle.p21_tree.specs.Bodies.{HasBodies};
 ghost use Rattle.p21_tree.specs.Plain.{plain};
@@ -41,11 +41,18 @@ pub(crate) fn cell_of(
         Param::Real(spelled) => real(alloc, spelled),
         Param::Str(body) => string(alloc, body),
         Param::Enumeration(spelled) => item(alloc, spelled, logical),
-        Param::Ref(number) => Ok(Cell::Integer(number.cast_signed())),
+        Param::Ref(name) => Ok(number(*name)),
         Param::Binary(_) => json(alloc, terms, param, logical),
         Param::Items(_) => json(alloc, terms, param, logical),
         Param::Typed(_, _) => json(alloc, terms, param, logical),
     }
+}
+
+/// A number of 64 bits, as the signed one of the same bits.
+pub(crate) fn number(bits: u64) -> Cell
+    ensures { result ≡ number_cell bits }
+{
+    Cell::Integer(bits.cast_signed())
 }
 
 /// An integer; as a real where it takes more than 64 bits.

@@ -1,71 +1,117 @@
 //! The rows of instances.
 
-use crate::cell::{Cell, text};
+ghost use Rattle.std.specs.Prelude.{◌≡◌, ◌<◌, ◌++◌, ◌∷◌, IfOk, OnOk, map, string_bytes};
+ghost use Rattle.p21_schema.specs.Place.{IsEntityOf, entity_name};
+ghost use Rattle.p21_tree.specs.Views.{plain_instance, plain_record};
+ghost use Rattle.p21_rows.specs.Rows.{AreInstanceRows, AreNames, AreRecordRows, IsInstanceRow, RowsOfEach, TakesSome};
+ghost use Rattle.p21_rows.specs.declared.rows.Table.TheVariants.{Instances};
+
+use crate::cell::{Cell, number};
 use crate::layout::Layout;
 use crate::records::record_cells;
 use crate::references::insert_references;
 use crate::rows::{Rows, Table};
 use p21_json::Terms;
 use p21_run::InputError;
+use p21_schema::{EntityId, Schema};
 use p21_tree::{RawInstance, Record};
 use std::alloc::{AllocError, Global};
 
 /// Gives the rows of instances, in order.
 pub(crate) fn insert_instances<D: Rows>(
     alloc: Global,
+    terms: &Terms<'_>,
     layout: &Layout<'_, '_>,
     instances: &[RawInstance<'_>],
     rows: &mut D,
-) -> Result<(), InputError> {
+) -> Result<(), InputError>
+    ensures { OnOk result (TakesSome (D.taken rows.old) (D.taken rows.new) (RowsOfEach (AreInstanceRows terms.now) (map plain_instance instances.now))) }
+{
     for instance in instances {
-        let cells = instance_cells(alloc, layout.terms(), instance)?;
-        rows.insert(Table::Instances, cells)?;
-        insert_records(alloc, layout, instance, rows)?;
+        insert_instance(alloc, terms, layout, instance, rows)?;
     }
     Ok(())
 }
 
-/// The row of an instance: its name, its entity, and its place.
-fn instance_cells(
+/// Gives the row of an instance, and those of its records.
+fn insert_instance<D: Rows>(
     alloc: Global,
     terms: &Terms<'_>,
+    layout: &Layout<'_, '_>,
     instance: &RawInstance<'_>,
-) -> Result<Vec<Cell>, AllocError> {
-    let entity = entity_names(alloc, terms, instance.records.as_slice())?;
+    rows: &mut D,
+) -> Result<(), InputError>
+    ensures { OnOk result (TakesSome (D.taken rows.old) (D.taken rows.new) (AreInstanceRows terms.now (plain_instance instance.now))) }
+{
+    let records = instance.records.as_slice();
+    let names = entity_names(alloc, terms, records)?;
+    let cells = instance_cells(alloc, instance, names)?;
+    rows.insert(Table::Instances, cells)?;
+    insert_records(alloc, terms, layout, instance, records, rows)
+}
+
+/// The row of an instance of entities of these names: its name, these, and its place.
+fn instance_cells(
+    alloc: Global,
+    instance: &RawInstance<'_>,
+    names: String,
+) -> Result<Vec<Cell>, AllocError>
+    ensures { AreNames (plain_instance instance.now).records (string_bytes names) → IfOk result (λ cells. IsInstanceRow (plain_instance instance.now) (record { table = Instances; cells = cells.items })) }
+{
     let mut cells = Vec::with_capacity(alloc, 3)?;
-    cells.push(Cell::Integer(instance.name.cast_signed()))?;
-    cells.push(Cell::Text(entity.into_bytes()))?;
-    cells.push(Cell::Integer(instance.at.cast_signed()))?;
+    cells.push(number(instance.name))?;
+    cells.push(Cell::Text(names.into_bytes()))?;
+    cells.push(number(instance.at))?;
     Ok(cells)
 }
 
-/// The name of the entity of a record; of several records those of each, with `+` between them.
+/// The names of the entities of records, with `+` between them.
 fn entity_names(
     alloc: Global,
     terms: &Terms<'_>,
     records: &[Record<'_>],
-) -> Result<String, AllocError> {
+) -> Result<String, InputError>
+    ensures { IfOk result (λ text. AreNames (map plain_record records.now) (string_bytes text)) }
+{
     let mut names = String::new(alloc);
-    for record in records {
-        if !names.is_empty() {
-            names.push('+')?;
-        }
-        if let Some(entity) = terms.schema().entity(record.keyword) {
-            names.push_str(terms.entity(entity))?;
-        }
+    for position in 0..records.len() {
+        let entity = entity_of(terms.schema(), &records[position])?;
+        push_name(&mut names, position, terms.entity(entity))?;
     }
     Ok(names)
 }
 
-/// Gives the rows of the records of an instance, and of their references.
+/// Adds the name at a place: behind a `+` where it is not the first.
+fn push_name(names: &mut String, position: usize, name: &str) -> Result<(), AllocError>
+    ensures first { position ≡ 0 → OnOk result (string_bytes names.new ≡ string_bytes names.old ++ name.now) }
+    ensures next { 0 < position → OnOk result (string_bytes names.new ≡ string_bytes names.old ++ 43 ∷ name.now) }
+{
+    if position > 0 {
+        names.push('+')?;
+    }
+    names.push_str(name)
+}
+
+/// The entity of a record. A file that was checked has no record of another keyword.
+fn entity_of(schema: &Schema, record: &Record<'_>) -> Result<EntityId, InputError>
+    ensures { IfOk result (λ e. IsEntityOf schema.now e × (entity_name schema.now e ≡ record.now.keyword.now)) }
+{
+    schema.entity(record.keyword).ok_or(InputError::Device)
+}
+
+/// Gives the rows of records of an instance, in order.
 fn insert_records<D: Rows>(
     alloc: Global,
+    terms: &Terms<'_>,
     layout: &Layout<'_, '_>,
     instance: &RawInstance<'_>,
+    records: &[Record<'_>],
     rows: &mut D,
-) -> Result<(), InputError> {
-    for record in instance.records.as_slice() {
-        insert_record(alloc, layout, instance, record, rows)?;
+) -> Result<(), InputError>
+    ensures { OnOk result (TakesSome (D.taken rows.old) (D.taken rows.new) (RowsOfEach (AreRecordRows terms.now (plain_instance instance.now)) (map plain_record records.now))) }
+{
+    for record in records {
+        insert_record(alloc, terms, layout, instance, record, rows)?;
     }
     Ok(())
 }
@@ -73,27 +119,20 @@ fn insert_records<D: Rows>(
 /// Gives the row of a record, and those of its references.
 fn insert_record<D: Rows>(
     alloc: Global,
+    terms: &Terms<'_>,
     layout: &Layout<'_, '_>,
     instance: &RawInstance<'_>,
     record: &Record<'_>,
     rows: &mut D,
-) -> Result<(), InputError> {
-    let terms = layout.terms();
-    // A file that was checked has no other keyword.
-    let Some(entity) = terms.schema().entity(record.keyword) else {
-        return Err(InputError::Device);
-    };
+) -> Result<(), InputError>
+    ensures { OnOk result (TakesSome (D.taken rows.old) (D.taken rows.new) (AreRecordRows terms.now (plain_instance instance.now) (plain_record record.now))) }
+{
+    let entity = entity_of(terms.schema(), record)?;
     let params = record.params.as_slice();
-    let cells = record_cells(alloc, terms, instance, entity, params)?;
-    let columns = layout.columns(entity);
+    let columns = given(layout.columns(entity), instance.complex, params.len());
+    let cells = record_cells(alloc, terms, instance, entity, record)?;
     rows.insert(Table::Entity(entity), cells)?;
-    insert_references(
-        alloc,
-        rows,
-        instance.name,
-        given(columns, instance.complex, params.len()),
-        params,
-    )
+    insert_references(alloc, rows, instance.name, columns, params)
 }
 
 /// The columns that a record gives, by so many parameters: all, or in a complex instance the last.

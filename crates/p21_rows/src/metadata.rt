@@ -1,8 +1,10 @@
 //! What is known of a model as a whole.
 
+ghost use Rattle.std.specs.Prelude.{OnOk};
 ghost use Rattle.p21_tree.specs.Bodies.{AllHaveBodies};
+ghost use Rattle.p21_rows.specs.Rows.{AreMetadata, TakesSome};
 
-use crate::cell::{Cell, cell_of, text};
+use crate::cell::{Cell, cell_of, number, text};
 use crate::rows::{Rows, Table};
 use p21_counts::references_in;
 use p21_json::Terms;
@@ -28,7 +30,9 @@ pub(crate) fn insert_metadata<D: Rows>(
     preface: &Preface<'_>,
     instances: &[RawInstance<'_>],
     rows: &mut D,
-) -> Result<(), InputError> {
+) -> Result<(), InputError>
+    ensures { OnOk result (TakesSome (D.taken rows.old) (D.taken rows.new) AreMetadata) }
+{
     insert_text(alloc, rows, "program", about.program.as_bytes())?;
     insert_text(alloc, rows, "file", about.file.as_bytes())?;
     insert_text(alloc, rows, "schema", terms.schema().name())?;
@@ -58,7 +62,9 @@ fn insert_header<D: Rows>(
     terms: &Terms<'_>,
     preface: &Preface<'_>,
     rows: &mut D,
-) -> Result<(), InputError> {
+) -> Result<(), InputError>
+    ensures { OnOk result (TakesSome (D.taken rows.old) (D.taken rows.new) AreMetadata) }
+{
     let [description, name, schema, ..] = preface.entities.as_slice() else {
         return Err(InputError::Device);
     };
@@ -93,7 +99,9 @@ fn insert_entity<D: Rows>(
     rows: &mut D,
     keys: &[&str],
     entity: &HeaderEntity<'_>,
-) -> Result<(), InputError> {
+) -> Result<(), InputError>
+    ensures { OnOk result (TakesSome (D.taken rows.old) (D.taken rows.new) AreMetadata) }
+{
     let params = entity.params.as_slice();
     insert_params(alloc, terms, rows, keys, params)
 }
@@ -107,6 +115,7 @@ fn insert_params<D: Rows>(
     params: &[Param<'_>],
 ) -> Result<(), InputError>
     requires { AllHaveBodies params.now }
+    ensures { OnOk result (TakesSome (D.taken rows.old) (D.taken rows.new) AreMetadata) }
 {
     for position in 0..keys.len().min(params.len()) {
         let value = cell_of(alloc, terms, &params[position], false)?;
@@ -121,7 +130,9 @@ fn insert_text<D: Rows>(
     rows: &mut D,
     key: &str,
     value: &[u8],
-) -> Result<(), InputError> {
+) -> Result<(), InputError>
+    ensures { OnOk result (TakesSome (D.taken rows.old) (D.taken rows.new) AreMetadata) }
+{
     let value = text(alloc, value)?;
     insert_value(alloc, rows, key, value)
 }
@@ -132,8 +143,10 @@ fn insert_count<D: Rows>(
     rows: &mut D,
     key: &str,
     count: u64,
-) -> Result<(), InputError> {
-    insert_value(alloc, rows, key, Cell::Integer(count.cast_signed()))
+) -> Result<(), InputError>
+    ensures { OnOk result (TakesSome (D.taken rows.old) (D.taken rows.new) AreMetadata) }
+{
+    insert_value(alloc, rows, key, number(count))
 }
 
 /// Gives a value.
@@ -142,7 +155,9 @@ fn insert_value<D: Rows>(
     rows: &mut D,
     key: &str,
     value: Cell,
-) -> Result<(), InputError> {
+) -> Result<(), InputError>
+    ensures { OnOk result (TakesSome (D.taken rows.old) (D.taken rows.new) AreMetadata) }
+{
     let cells = pair(alloc, key, value)?;
     rows.insert(Table::Metadata, cells)
 }

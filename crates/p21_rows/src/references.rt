@@ -1,6 +1,11 @@
 //! The references of records.
 
-use crate::cell::{Cell, text};
+ghost use Rattle.std.specs.Prelude.{◌≡◌, ◌++◌, ◌∷◌, [], IfOk, OnOk, List, map};
+ghost use Rattle.p21_tree.specs.Plain.{plain, plain_all};
+ghost use Rattle.p21_rows.specs.Rows.{AreReferenceRows, AreReferencesOf, IsReferenceRow, RowsOfEach, TakesSome, all_targets, targets as targets_of};
+ghost use Rattle.p21_rows.specs.declared.rows.Table.TheVariants.{References};
+
+use crate::cell::{Cell, number, text};
 use crate::rows::{Rows, Table};
 use p21_run::InputError;
 use p21_tree::Param;
@@ -13,7 +18,9 @@ pub(crate) fn insert_references<D: Rows>(
     source: u64,
     columns: &[String],
     params: &[Param<'_>],
-) -> Result<(), InputError> {
+) -> Result<(), InputError>
+    ensures { OnOk result (TakesSome (D.taken rows.old) (D.taken rows.new) (RowsOfEach (AreReferencesOf source) (map plain params.now))) }
+{
     for position in 0..params.len() {
         let mut targets = Vec::new(alloc);
         push_targets(&mut targets, &params[position])?;
@@ -38,7 +45,9 @@ fn insert_targets<D: Rows>(
     source: u64,
     column: &str,
     targets: &[u64],
-) -> Result<(), InputError> {
+) -> Result<(), InputError>
+    ensures { OnOk result (TakesSome (D.taken rows.old) (D.taken rows.new) (AreReferenceRows source column.now 0 targets.now)) }
+{
     for position in 0..targets.len() {
         let target = targets[position];
         let cells = reference_cells(alloc, source, column, position, target)?;
@@ -54,21 +63,25 @@ fn reference_cells(
     column: &str,
     position: usize,
     target: u64,
-) -> Result<Vec<Cell>, AllocError> {
+) -> Result<Vec<Cell>, AllocError>
+    ensures { IfOk result (λ cells. IsReferenceRow source column.now position target (record { table = References; cells = cells.items })) }
+{
     let mut cells = Vec::with_capacity(alloc, 4)?;
-    cells.push(Cell::Integer(source.cast_signed()))?;
+    cells.push(number(source))?;
     cells.push(text(alloc, column.as_bytes())?)?;
-    cells.push(Cell::Integer((position as u64).cast_signed()))?;
-    cells.push(Cell::Integer(target.cast_signed()))?;
+    cells.push(number(position as u64))?;
+    cells.push(number(target))?;
     Ok(cells)
 }
 
 /// Adds the instance names that are written in a parameter, in order.
 #[cycle(targets)]
-fn push_targets(targets: &mut Vec<u64>, param: &Param<'_>) -> Result<(), AllocError> {
+fn push_targets(targets: &mut Vec<u64>, param: &Param<'_>) -> Result<(), AllocError>
+    ensures { OnOk result (targets.new.items ≡ targets.old.items ++ targets_of (plain param.now)) }
+{
     match param {
-        Param::Ref(number) => {
-            targets.push(*number)?;
+        Param::Ref(name) => {
+            targets.push(*name)?;
             Ok(())
         }
         Param::Items(items) => push_all_targets(targets, items),
@@ -79,7 +92,9 @@ fn push_targets(targets: &mut Vec<u64>, param: &Param<'_>) -> Result<(), AllocEr
 
 /// Adds those of each of some parameters.
 #[cycle(targets)]
-fn push_all_targets(targets: &mut Vec<u64>, params: &[Param<'_>]) -> Result<(), AllocError> {
+fn push_all_targets(targets: &mut Vec<u64>, params: &[Param<'_>]) -> Result<(), AllocError>
+    ensures { OnOk result (targets.new.items ≡ targets.old.items ++ all_targets (plain_all params.now)) }
+{
     for param in params {
         push_targets(targets, param)?;
     }

@@ -1,17 +1,20 @@
 //! A run over a schema and a file.
 
-ghost use Rattle.std.specs.Prelude.{◌≡◌, ◌⊎◌, ℕ, List, Some, Ok, Err, IfOk, OnOk, true, false};
+ghost use Rattle.std.specs.Prelude.{◌≡◌, ◌≤◌, ◌⊎◌, ℕ, List, Some, Ok, Err, IfOk, OnOk, length, map, true, false};
 ghost use Rattle.std.specs.Io.KnownBytes.{Appends};
 ghost use Rattle.p21_express.specs.Answer.{HasNoReading};
 ghost use Rattle.p21_express.specs.Plain.{plain_schema};
 ghost use Rattle.p21_express.specs.WellFormed.{IsWellFormed};
+ghost use Rattle.p21_tree.specs.Views.{plain_instance};
 ghost use Rattle.p21_spelling.specs.Spelled.{AreSpelled};
 ghost use Rattle.p21_schema.specs.Rules.{with_rules};
 ghost use Rattle.p21_reader.specs.Answer.{plain_answer};
 ghost use Rattle.p21_reader.specs.Reading.{IsReading};
+ghost use Rattle.p21_run.specs.Due.{most_file_bytes};
 ghost use Rattle.p21_run.specs.declared.outcome.Outcome.TheVariants.{Complete, Faulty, SchemaRefused, Device as Failed};
 ghost use Rattle.p21_run.specs.declared.input.InputError.TheVariants.{Device};
 ghost use Rattle.p21_export.specs.Export.{OfDeclared, TellsFault};
+ghost use Rattle.p21_rows.specs.Rows.{AreModelRows, GivesRows, TakesSome};
 
 use crate::instances::insert_instances;
 use crate::layout::Layout;
@@ -57,8 +60,11 @@ pub fn export_rows<
     told: &mut T,
     listener: &mut L,
 ) -> Outcome
+    ensures given { (schema_text file : List ℕ) → S.remaining schema_in.old ≡ Some schema_text → F.remaining file_in.old ≡ Some file → result ≡ Complete → OfDeclared how.now.rules schema_text (λ s. GivesRows s file (D.taken rows.old) (D.taken rows.new)) }
     ensures told { (schema_text file : List ℕ) → S.remaining schema_in.old ≡ Some schema_text → F.remaining file_in.old ≡ Some file → result ≡ Faulty → OfDeclared how.now.rules schema_text (λ s. TellsFault s file (T.taken told.old) (T.taken told.new)) }
     ensures kept { result ≡ Faulty ⊎ result ≡ SchemaRefused → rows.new ≡ rows.old }
+    ensures untold { result ≡ Complete → told.new ≡ told.old }
+    ensures file_bounded { result ≡ Complete ⊎ result ≡ Faulty → (file : List ℕ) → F.remaining file_in.old ≡ Some file → length file ≤ most_file_bytes }
     ensures unread { (schema_text : List ℕ) → S.remaining schema_in.old ≡ Some schema_text → HasNoReading schema_text → file_in.new ≡ file_in.old }
     ensures schema_failed { S.failed schema_in.old ≡ false → S.failed schema_in.new ≡ true → (result ≡ Failed) × (file_in.new ≡ file_in.old) × (rows.new ≡ rows.old) }
     ensures file_failed { F.failed file_in.old ≡ false → F.failed file_in.new ≡ true → (result ≡ Failed) × (rows.new ≡ rows.old) }
@@ -91,8 +97,11 @@ fn exported<
     told: &mut T,
     listener: &mut L,
 ) -> Result<Outcome, InputError>
+    ensures given { (schema_text file : List ℕ) → S.remaining schema_in.old ≡ Some schema_text → F.remaining file_in.old ≡ Some file → result ≡ Ok Complete → OfDeclared how.now.rules schema_text (λ s. GivesRows s file (D.taken rows.old) (D.taken rows.new)) }
     ensures told { (schema_text file : List ℕ) → S.remaining schema_in.old ≡ Some schema_text → F.remaining file_in.old ≡ Some file → result ≡ Ok Faulty → OfDeclared how.now.rules schema_text (λ s. TellsFault s file (T.taken told.old) (T.taken told.new)) }
     ensures kept { result ≡ Ok Faulty ⊎ result ≡ Ok SchemaRefused → rows.new ≡ rows.old }
+    ensures untold { result ≡ Ok Complete → told.new ≡ told.old }
+    ensures file_bounded { IfOk result (λ outcome. outcome ≡ Complete ⊎ outcome ≡ Faulty → (file : List ℕ) → F.remaining file_in.old ≡ Some file → length file ≤ most_file_bytes) }
     ensures unread { (schema_text : List ℕ) → S.remaining schema_in.old ≡ Some schema_text → HasNoReading schema_text → file_in.new ≡ file_in.old }
     ensures schema_failed { S.failed schema_in.old ≡ false → S.failed schema_in.new ≡ true → (result ≡ Err Device) × (file_in.new ≡ file_in.old) × (rows.new ≡ rows.old) }
     ensures file_failed { F.failed file_in.old ≡ false → F.failed file_in.new ≡ true → (result ≡ Err Device) × (rows.new ≡ rows.old) }
@@ -162,8 +171,12 @@ fn export_against<
     listener: &mut L,
 ) -> Result<Outcome, InputError>
     requires { IsWellFormed (plain_schema declarations) }
+    ensures given { (file : List ℕ) → F.remaining file_in.old ≡ Some file → result ≡ Ok Complete → GivesRows (with_rules (plain_schema declarations) how.now.rules) file (D.taken rows.old) (D.taken rows.new) }
     ensures told { (file : List ℕ) → F.remaining file_in.old ≡ Some file → result ≡ Ok Faulty → TellsFault (with_rules (plain_schema declarations) how.now.rules) file (T.taken told.old) (T.taken told.new) }
+    ensures ends { IfOk result (λ outcome. outcome ≡ Complete ⊎ outcome ≡ Faulty) }
     ensures kept { result ≡ Ok Faulty ⊎ result ≡ Ok SchemaRefused → rows.new ≡ rows.old }
+    ensures untold { result ≡ Ok Complete → told.new ≡ told.old }
+    ensures file_bounded { IfOk result (λ _. (file : List ℕ) → F.remaining file_in.old ≡ Some file → length file ≤ most_file_bytes) }
     ensures file_failed { F.failed file_in.old ≡ false → F.failed file_in.new ≡ true → (result ≡ Err Device) × (rows.new ≡ rows.old) }
 {
     let spelled = spell_names(alloc, text, &declarations)?;
@@ -199,8 +212,11 @@ fn export_file<R: Threads + Wait + Sync, G: Gate + Sync, D: Rows, T: Sink, L: Li
     listener: &mut L,
 ) -> Result<Outcome, InputError>
     requires { AreSpelled schema.now spelled.now }
+    ensures given { result ≡ Ok Complete → GivesRows schema.now file.now (D.taken rows.old) (D.taken rows.new) }
     ensures told { result ≡ Ok Faulty → TellsFault schema.now file.now (T.taken told.old) (T.taken told.new) }
+    ensures ends { IfOk result (λ outcome. outcome ≡ Complete ⊎ outcome ≡ Faulty) }
     ensures kept { result ≡ Ok Faulty ⊎ result ≡ Ok SchemaRefused → rows.new ≡ rows.old }
+    ensures untold { result ≡ Ok Complete → told.new ≡ told.old }
 {
     match read_lanes(rt, alloc, schema, how.gate, file, how.lanes, how.capacity) {
         Ok(reading) => {
@@ -229,8 +245,11 @@ fn export_reading<D: Rows, T: Sink, L: Listener>(
 ) -> Result<Outcome, InputError>
     requires spelled { AreSpelled schema.now spelled.now }
     requires read { IsReading schema.now file.now (plain_answer reading.now.answer) }
+    ensures given { result ≡ Ok Complete → GivesRows schema.now file.now (D.taken rows.old) (D.taken rows.new) }
     ensures told { result ≡ Ok Faulty → TellsFault schema.now file.now (T.taken told.old) (T.taken told.new) }
+    ensures ends { IfOk result (λ outcome. outcome ≡ Complete ⊎ outcome ≡ Faulty) }
     ensures kept { result ≡ Ok Faulty ⊎ result ≡ Ok SchemaRefused → rows.new ≡ rows.old }
+    ensures untold { result ≡ Ok Complete → told.new ≡ told.old }
 {
     match &reading.answer {
         Ok(model) => {
@@ -259,13 +278,14 @@ fn insert_model<D: Rows>(
     rows: &mut D,
 ) -> Result<(), InputError>
     requires { AreSpelled schema.now spelled.now }
+    ensures { OnOk result (TakesSome (D.taken rows.old) (D.taken rows.new) (AreModelRows schema.now (map plain_instance instances.now))) }
 {
     let terms = Terms::new(alloc, schema, spelled)?;
     let preface = preface_of(alloc, file)?;
     let layout = Layout::new(alloc, &terms, instances)?;
     rows.begin(&layout)?;
     insert_metadata(alloc, &terms, about, &preface, instances, rows)?;
-    insert_instances(alloc, &layout, instances, rows)?;
+    insert_instances(alloc, &terms, &layout, instances, rows)?;
     rows.end()
 }
 
