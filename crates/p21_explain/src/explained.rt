@@ -81,17 +81,27 @@ pub fn explain_fault(
 {
     let mut said = Said::new(alloc);
     let at = in_text(subject.file, fault.at);
-    let looked_at = say_fault(&mut said, subject, fault.kind, at)?.min(subject.file.len());
+    let looked_at = say_fault(&mut said, subject, fault.kind, at)?;
+    printed(alloc, subject, fault.at, looked_at, kind, &said, format)
+}
+
+/// What is said of a fault: by the place that the report gives, the place to look at, and the name of its kind.
+pub(crate) fn printed(
+    alloc: Global,
+    subject: Subject<'_>,
+    reported: u64,
+    looked_at: usize,
+    kind: &[u8],
+    said: &Said,
+    format: Format,
+) -> Result<String, AllocError>
+    ensures { IfOk result (λ text. IsPrinted (string_bytes text)) }
+{
+    let (path, file) = (subject.path, subject.file);
+    let at = looked_at.min(file.len());
     match format {
-        Format::Text => paragraph(
-            alloc,
-            subject.path,
-            subject.file,
-            looked_at,
-            fault.at,
-            &said,
-        ),
-        Format::Json => object(alloc, subject.path, subject.file, looked_at, kind, &said),
+        Format::Text => paragraph(alloc, path, file, at, reported, said),
+        Format::Json => object(alloc, path, file, at, kind, said),
     }
 }
 

@@ -360,7 +360,11 @@ fn say_attributes(
 }
 
 /// Adds what an instance is, as far as one of its records says: `#4711 is an IfcWall`.
-fn say_record(said: &mut Said, instance: &Instance<'_>, rec: u64) -> Result<(), AllocError> {
+pub(crate) fn say_record(
+    said: &mut Said,
+    instance: &Instance<'_>,
+    rec: u64,
+) -> Result<(), AllocError> {
     say_subject(said, instance)?;
     let Some(keyword) = instance.keyword(rec) else {
         return Ok(());

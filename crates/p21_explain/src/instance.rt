@@ -1,7 +1,9 @@
 //! The tokens of an instance, and where each stands.
 
+use crate::attributes::attribute_in;
 use crate::explained::Subject;
 use crate::walk::Walk;
+use p21_schema::AttrId;
 use p21_text::Token;
 use p21_tree::Piece;
 use std::alloc::{AllocError, Global};
@@ -116,6 +118,30 @@ impl<'a> Instance<'a> {
             .iter()
             .filter(|it| matches!(it.spot, Spot::Parameter { rec: of, .. } if of == rec))
             .count() as u64
+    }
+
+    /// The record and the number of the parameter for an attribute.
+    pub(crate) fn parameter_for(&self, id: AttrId) -> Option<(u64, u64)> {
+        for placed in &self.tokens {
+            if let Spot::Parameter { rec, attr } = placed.spot {
+                if attribute_in(self, rec, attr).is_some_and(|it| it.id.place() == id.place()) {
+                    return Some((rec, attr));
+                }
+            }
+        }
+        None
+    }
+
+    /// The bytes of a parameter.
+    pub(crate) fn parameter(&self, rec: u64, attr: u64) -> &'a [u8] {
+        let from = self.place_of(Spot::Parameter { rec, attr });
+        let mut tokens = self.tokens.iter();
+        let behind = tokens.find(|it| it.start > from && !it.spot.is_in(rec, attr));
+        let to = behind.map_or(from, |it| it.start);
+        self.bytes
+            .get(from..to)
+            .unwrap_or(b"".as_slice())
+            .trim_ascii_end()
     }
 
     /// The place of this token in a parameter; of the instance where it is not there.

@@ -56,8 +56,21 @@ pub fn explain_device<'a>(
 {
     let mut said = Said::new(alloc);
     said.say((path, ": ", words))?;
+    in_a_line(alloc, path, b"Device", &said, format)
+}
+
+/// What is said of a file as a whole.
+pub(crate) fn in_a_line(
+    alloc: Global,
+    path: &str,
+    kind: &[u8],
+    said: &Said,
+    format: Format,
+) -> Result<String, AllocError>
+    ensures { IfOk result (λ text. IsPrinted (string_bytes text)) }
+{
     if format == Format::Json {
-        return object(alloc, path, b"", 0, b"Device", &said);
+        return object(alloc, path, b"", 0, kind, said);
     }
     let mut text = new_text(alloc);
     push_line(&mut text, said.bytes())?;

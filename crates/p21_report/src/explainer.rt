@@ -2,10 +2,14 @@
 
 use crate::progress::{Progress, Stage};
 use p21_explain::{
-    Format, Subject, explain_device, explain_fault, explain_schema_fault, spell_names, summary,
+    Format, Spellings, Subject, explain_device, explain_fault, explain_not_unique,
+    explain_passed_over, explain_schema_fault, spell_names, summary,
 };
 use p21_express::SchemaError;
 use p21_render::{fault_line, schema_fault_line};
+use p21_rule_run::RuleListener;
+use p21_rule_text::Rules;
+use p21_rules::NotUnique;
 use p21_run::{Listener, Outcome};
 use p21_schema::Schema;
 use p21_tree::Fault;
@@ -131,6 +135,38 @@ impl<'a, C: Clock, P: Write> Explainer<'a, C, P> {
         Ok(())
     }
 
+    /// Adds the first instances that are not unique, and the rules that were not checked.
+    fn add_ruled(
+        &mut self,
+        schema: &Schema,
+        rules: &Rules,
+        file: &[u8],
+        faults: &[NotUnique],
+    ) -> Result<(), AllocError> {
+        let spellings = spell_names(self.alloc, &self.text, schema.declared())?;
+        let subject = Subject {
+            schema,
+            spellings: &spellings,
+            path: self.names.file,
+            file,
+        };
+        for fault in faults.iter().take(self.most) {
+            let told = explain_not_unique(self.alloc, subject, rules, fault, self.format)?;
+            say(&mut self.said, told)?;
+        }
+        self.add_passed_over(&spellings, rules)
+    }
+
+    /// Adds the rules that were not checked.
+    fn add_passed_over(&mut self, spellings: &Spellings, rules: &Rules) -> Result<(), AllocError> {
+        for rule in &rules.passed_over {
+            let (path, text) = (self.names.schema, self.text.as_slice());
+            let told = explain_passed_over(self.alloc, path, text, spellings, rule, self.format)?;
+            say(&mut self.said, told)?;
+        }
+        Ok(())
+    }
+
     /// Adds the fault of a schema.
     fn add_refused(&mut self, text: &[u8], error: &SchemaError) -> Result<(), AllocError> {
         let line = schema_fault_line(self.alloc, *error)?;
@@ -180,6 +216,14 @@ impl<C: Clock, P: Write> Listener for Explainer<'_, C, P> {
     /// The program ends right behind its run, and the system takes back what it holds.
     fn let_go<T: Drop>(&mut self, read: T) {
         forget(read);
+    }
+}
+
+impl<C: Clock, P: Write> RuleListener for Explainer<'_, C, P> {
+    fn hear_ruled(&mut self, schema: &Schema, rules: &Rules, file: &[u8], faults: &[NotUnique]) {
+        if self.most > 0 {
+            let _ = self.add_ruled(schema, rules, file, faults);
+        }
     }
 }
 

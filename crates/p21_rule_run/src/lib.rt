@@ -2,7 +2,9 @@
 #![tactic(auto)]
 
 mod fault_text;
+mod listener;
 mod runner;
 
 pub use fault_text::render_not_unique;
+pub use listener::RuleListener;
 pub use runner::{How, run_rules};

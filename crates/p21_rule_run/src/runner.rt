@@ -15,6 +15,7 @@ ghost use Rattle.p21_schema.specs.Rules.{with_rules};
 ghost use Rattle.p21_tree.specs.Views.{plain_instance};
 
 use crate::fault_text::render_not_unique;
+use crate::listener::RuleListener;
 use p21_crew::Gate;
 use p21_desk::LaneCount;
 use p21_express::{Declarations, SchemaError, read_declarations};
@@ -25,8 +26,8 @@ use p21_render::{counts_with_key, fault_line, model_text, render_faults, schema_
 use p21_rule_text::{Rules, read_rules};
 use p21_rules::{NotUnique, all_not_unique};
 use p21_run::{
-    FILE_BOUNDS, InputError, Listener, Outcome, OutputError, SCHEMA_BOUNDS, Sink, Source,
-    WRITE_CALLS, read_bounded, write_bounded,
+    FILE_BOUNDS, InputError, Outcome, OutputError, SCHEMA_BOUNDS, Sink, Source, WRITE_CALLS,
+    read_bounded, write_bounded,
 };
 use p21_schema::{Rules as SchemaRules, Schema};
 use p21_tree::RawInstance;
@@ -57,7 +58,7 @@ pub fn run_rules<
     S: Source,
     F: Source,
     K: Sink,
-    L: Listener,
+    L: RuleListener,
 >(
     rt: &R,
     alloc: Global,
@@ -90,7 +91,7 @@ struct Report {
 }
 
 /// What is to be written of a schema and a file.
-fn report_of<R: Threads + Wait + Sync, G: Gate + Sync, S: Source, F: Source, L: Listener>(
+fn report_of<R: Threads + Wait + Sync, G: Gate + Sync, S: Source, F: Source, L: RuleListener>(
     rt: &R,
     alloc: Global,
     how: &How<'_, G>,
@@ -122,7 +123,7 @@ fn report_of_refusal(alloc: Global, error: SchemaError) -> Result<Report, InputE
 }
 
 /// What is to be written of a file against the declarations of a schema's text.
-fn report_against<R: Threads + Wait + Sync, G: Gate + Sync, F: Source, L: Listener>(
+fn report_against<R: Threads + Wait + Sync, G: Gate + Sync, F: Source, L: RuleListener>(
     rt: &R,
     alloc: Global,
     how: &How<'_, G>,
@@ -150,7 +151,7 @@ fn report_against<R: Threads + Wait + Sync, G: Gate + Sync, F: Source, L: Listen
 }
 
 /// What is to be written of a file.
-fn report_of_file<R: Threads + Wait + Sync, G: Gate + Sync, L: Listener>(
+fn report_of_file<R: Threads + Wait + Sync, G: Gate + Sync, L: RuleListener>(
     rt: &R,
     alloc: Global,
     how: &How<'_, G>,
@@ -170,7 +171,7 @@ fn report_of_file<R: Threads + Wait + Sync, G: Gate + Sync, L: Listener>(
 }
 
 /// What is to be written of a file with all its faults.
-fn full_report_of_file<R: Threads + Wait + Sync, G: Gate + Sync, L: Listener>(
+fn full_report_of_file<R: Threads + Wait + Sync, G: Gate + Sync, L: RuleListener>(
     rt: &R,
     alloc: Global,
     how: &How<'_, G>,
@@ -194,7 +195,7 @@ fn full_report_of_file<R: Threads + Wait + Sync, G: Gate + Sync, L: Listener>(
 }
 
 /// What is to be written of a reading with all faults.
-fn report_of_all<L: Listener>(
+fn report_of_all<L: RuleListener>(
     alloc: Global,
     schema: &Schema,
     rules: &Rules,
@@ -207,7 +208,15 @@ fn report_of_all<L: Listener>(
     ensures { IfOk result (λ report. IsFullyRuled schema.now rules.now file.now report.outcome report.text.items) }
 {
     match &all.answer {
-        Ok(model) => report_of_model(alloc, schema, rules, true, model.instances()),
+        Ok(model) => report_of_model(
+            alloc,
+            schema,
+            rules,
+            true,
+            file,
+            model.instances(),
+            listener,
+        ),
         Err(faults) => {
             listener.hear(schema, file, faults.as_slice());
             let text = render_faults(alloc, faults.as_slice())?;
@@ -217,7 +226,7 @@ fn report_of_all<L: Listener>(
 }
 
 /// What is to be written of a file with its first fault alone.
-fn first_report_of_file<R: Threads + Wait + Sync, G: Gate + Sync, L: Listener>(
+fn first_report_of_file<R: Threads + Wait + Sync, G: Gate + Sync, L: RuleListener>(
     rt: &R,
     alloc: Global,
     how: &How<'_, G>,
@@ -241,7 +250,7 @@ fn first_report_of_file<R: Threads + Wait + Sync, G: Gate + Sync, L: Listener>(
 }
 
 /// What is to be written of a reading.
-fn report_of_reading<L: Listener>(
+fn report_of_reading<L: RuleListener>(
     alloc: Global,
     schema: &Schema,
     rules: &Rules,
@@ -254,7 +263,15 @@ fn report_of_reading<L: Listener>(
     ensures { IfOk result (λ report. IsFirstRuled schema.now rules.now file.now report.outcome report.text.items) }
 {
     match &reading.answer {
-        Ok(model) => report_of_model(alloc, schema, rules, false, model.instances()),
+        Ok(model) => report_of_model(
+            alloc,
+            schema,
+            rules,
+            false,
+            file,
+            model.instances(),
+            listener,
+        ),
         Err(fault) => {
             listener.hear(schema, file, slice::from_ref(fault));
             let text = fault_line(alloc, fault)?;
@@ -274,22 +291,26 @@ fn faulty(text: Vec<u8>) -> Report
 }
 
 /// What is to be written of a model.
-fn report_of_model(
+fn report_of_model<L: RuleListener>(
     alloc: Global,
     schema: &Schema,
     rules: &Rules,
     all: bool,
+    file: &[u8],
     instances: &[RawInstance<'_>],
+    listener: &mut L,
 ) -> Result<Report, InputError>
     requires { AreRulesOf schema.now rules.now.unique.items }
     ensures { IfOk result (λ report. IsOfModel all schema.now rules.now (map plain_instance instances.now) report.outcome report.text.items) }
 {
     let found = all_not_unique(alloc, schema, &rules.unique, instances)?;
     let faults = found.as_slice();
+    let reported = told(faults, all);
+    listener.hear_ruled(schema, rules, file, reported);
     if faults.is_empty() {
         return report_of_unique(alloc, schema, instances);
     }
-    let text = render_not_unique(alloc, &rules.labels, told(faults, all))?;
+    let text = render_not_unique(alloc, &rules.labels, reported)?;
     Ok(faulty(text))
 }
 
