@@ -53,7 +53,7 @@ same_key m p q e = ap (λ (l : List ℕ). lookup (λ k. pointwise nat_eq l k.ite
 
 -- ---- what was seen
 
-seen_other : (before : List Instance) (i : Instance) (n k : ℕ) → (k ≡ n → ⊥) → seen_below before i n k ≡ seen_below before i (n + 1) k
+pub seen_other : (before : List Instance) (i : Instance) (n k : ℕ) → (k ≡ n → ⊥) → seen_below before i n k ≡ seen_below before i (n + 1) k
 seen_other before i n k differ =
     ⊎_elim
     (λ (t : nat_lt k n ≡ true).
@@ -66,10 +66,10 @@ seen_other before i n k differ =
     ap (λ b. cond b (before ++ i ∷ []) before) (f ∙ sym further))
     (cases_Bool (nat_lt k n))
 
-seen_not : (before : List Instance) (i : Instance) (n : ℕ) → seen_below before i n n ≡ before
+pub seen_not : (before : List Instance) (i : Instance) (n : ℕ) → seen_below before i n n ≡ before
 seen_not before i n = ap (λ b. cond b (before ++ i ∷ []) before) (le-ltb n n (omega arith))
 
-seen_now : (before : List Instance) (i : Instance) (n k : ℕ) → k < n → seen_below before i n k ≡ before ++ i ∷ []
+pub seen_now : (before : List Instance) (i : Instance) (n k : ℕ) → k < n → seen_below before i n k ≡ before ++ i ∷ []
 seen_now before i n k less = ap (λ b. cond b (before ++ i ∷ []) before) (lt-ltb k n less)
 
 -- ---- the values of the instance

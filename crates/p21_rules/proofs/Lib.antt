@@ -3,3 +3,5 @@ pub mod ParameterLemmas
 pub mod ValueLemmas
 pub mod FirstLemmas
 pub mod PushLemmas
+pub mod CounterLemmas
+pub mod InverseLemmas

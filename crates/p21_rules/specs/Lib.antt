@@ -5,3 +5,6 @@ pub mod Code
 pub mod Parameter
 pub mod NotUnique
 pub mod Firsts
+pub mod Mentions
+pub mod InverseCount
+pub mod Counters

@@ -1,12 +1,16 @@
-//! The rules that a schema states beyond types, over the instances of a file: UNIQUE.
+//! The rules that a schema states beyond types, over the instances of a file: UNIQUE, and the bounds of INVERSE attributes.
 #![tactic(auto)]
 
 mod attributes;
 mod code;
+mod counters;
 mod entities;
 mod firsts;
+mod inverse;
+mod mentions;
 mod rule;
 mod unique;
 
-pub use rule::UniqueRule;
+pub use inverse::{InverseCount, all_inverse_counts};
+pub use rule::{InverseRule, UniqueRule};
 pub use unique::{NotUnique, all_not_unique};
