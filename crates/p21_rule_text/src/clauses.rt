@@ -31,6 +31,16 @@ impl Word<'_> {
     pub(crate) fn place(&self, len: usize) -> u64 {
         len.saturating_sub(self.left.saturating_add(self.text.len())) as u64
     }
+
+    /// What stands in a text between it and a later word, which are not words.
+    pub(crate) fn gap<'g>(&self, later: &Word, text: &'g [u8]) -> &'g [u8] {
+        let begin = text.len().saturating_sub(self.left);
+        let end = later.place(text.len()) as usize;
+        match text.get(begin..end) {
+            Some(gap) => gap,
+            None => &[],
+        }
+    }
 }
 
 /// Of which kind clauses of an entity are.

@@ -1,7 +1,8 @@
-//! The rules UNIQUE of a schema's text.
+//! The rules UNIQUE and the INVERSE attributes of a schema's text.
 #![tactic(auto)]
 
 mod clauses;
+mod inverse;
 mod resolve;
 mod rules;
 

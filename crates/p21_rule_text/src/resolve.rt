@@ -116,7 +116,7 @@ fn derives(declared: &EntityDecl, name: &[u8]) -> bool {
 }
 
 /// Whether the entity or an ancestor declares an attribute of this name in INVERSE.
-fn is_inverse(
+pub(crate) fn is_inverse(
     schema: &Schema,
     clauses: &[Clause<'_>],
     entity: EntityId,

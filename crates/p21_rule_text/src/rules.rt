@@ -1,56 +1,98 @@
 //! The rules of a schema's text.
 
-ghost use Rattle.std.specs.Prelude.{◌<◌, length, IfOk, IfSome, OnOk};
+ghost use Rattle.std.specs.Prelude.{◌≡◌, ◌<◌, length, IfOk, IfSome, OnOk};
 ghost use Rattle.p21_schema.specs.Place.{IsEntityOf};
+ghost use Rattle.p21_rules.specs.InverseCount.{AreInverseRulesOf};
 ghost use Rattle.p21_rules.specs.NotUnique.{AreRulesOf};
 ghost use Rattle.p21_rule_text.specs.Clauses.{AreAttributesOf, AreClausesOf};
 
 use crate::clauses::{Clause, Section, Word, clauses};
+use crate::inverse::{Inverse, read_inverse};
 use crate::resolve::{Found, resolve};
 use itoa::Buffer;
 use p21_express::SchemaError;
-use p21_rules::UniqueRule;
+use p21_rules::{InverseRule, UniqueRule};
 use p21_schema::{AttrId, EntityId, Schema};
 use std::alloc::{AllocError, Global};
 
-/// The rules UNIQUE of a schema's text.
+/// The rules UNIQUE and the INVERSE attributes of a schema's text.
 #[derive(Debug, Drop)]
 pub struct Rules {
-    /// The rules that can be looked at, in the order of the text.
+    /// The rules UNIQUE that can be looked at, in the order of the text.
     pub unique: Vec<UniqueRule>,
     /// The label of each, in upper case, or its number within its entity.
     pub labels: Vec<Vec<u8>>,
-    /// The others, which name a derived or inverse attribute.
+    /// The bounds of INVERSE attributes that can be looked at, in the order of the text, without those that every count is within.
+    pub inverse: Vec<InverseRule>,
+    /// The name of each such attribute, in upper case.
+    pub inverse_names: Vec<Vec<u8>>,
+    /// The others.
     pub passed_over: Vec<PassedOver>,
 }
 
-/// A rule that names a derived or inverse attribute.
+/// A rule UNIQUE that names a derived or inverse attribute; an INVERSE attribute FOR such a one; or one whose bounds are no numbers.
 #[derive(Debug, Drop)]
 pub struct PassedOver {
     pub entity: EntityId,
-    /// Its label, in upper case, or its number within the entity.
+    /// The label of the rule, in upper case, or its number within the entity; or the name of the INVERSE attribute.
     pub label: Vec<u8>,
-    /// The name of the attribute, in upper case.
+    /// The name of the derived or inverse attribute, in upper case; empty where bounds are no numbers.
     pub attribute: Vec<u8>,
 }
 
-/// The rules of the text from which a schema was read. A rule that cannot be read is refused as `Syntax` at its first word that does not fit,
-/// or at its semicolon; and the name of what is no attribute of the entity as `UnknownName`.
+/// The rules of the text from which a schema was read. A rule UNIQUE or an INVERSE attribute that cannot be read is refused as `Syntax` at its
+/// first word that does not fit, or at its semicolon; and the name of what is no such entity or attribute as `UnknownName`.
 pub fn read_rules(alloc: Global, text: &[u8], schema: &Schema) -> Result<Rules, SchemaError>
-    ensures { IfOk result (λ rules. AreRulesOf schema.now rules.unique.items) }
+    ensures unique { IfOk result (λ rules. AreRulesOf schema.now rules.unique.items) }
+    ensures inverse { IfOk result (λ rules. AreInverseRulesOf schema.now rules.inverse.items) }
 {
     let clauses = clauses(alloc, text, schema)?;
     let mut rules = Rules {
         unique: Vec::new(alloc),
         labels: Vec::new(alloc),
+        inverse: Vec::new(alloc),
+        inverse_names: Vec::new(alloc),
         passed_over: Vec::new(alloc),
     };
     for clause in &clauses {
         if clause.section == Section::Unique {
             push_rule(alloc, &mut rules, schema, &clauses, clause, text.len())?;
+        } else {
+            push_inverse(alloc, &mut rules, schema, &clauses, clause, text)?;
         }
     }
     Ok(rules)
+}
+
+/// Adds the bounds of a clause of INVERSE.
+fn push_inverse(
+    alloc: Global,
+    rules: &mut Rules,
+    schema: &Schema,
+    clauses: &[Clause<'_>],
+    clause: &Clause<'_>,
+    text: &[u8],
+) -> Result<(), SchemaError>
+    requires entity { IsEntityOf schema.now clause.now.entity }
+    requires clauses { AreClausesOf schema.now clauses.now }
+    requires rules { AreInverseRulesOf schema.now rules.old.inverse.items }
+    ensures unique { OnOk result (rules.new.unique ≡ rules.old.unique) }
+    ensures inverse { OnOk result (AreInverseRulesOf schema.now rules.new.inverse.items) }
+{
+    let (name, read) = read_inverse(alloc, schema, clauses, clause, text)?;
+    match read {
+        Inverse::Rule(rule) => {
+            rules.inverse.push(rule)?;
+            rules.inverse_names.push(name)?;
+        }
+        Inverse::PassedOver(attribute) => rules.passed_over.push(PassedOver {
+            entity: clause.entity,
+            label: name,
+            attribute,
+        })?,
+        Inverse::Any => {}
+    }
+    Ok(())
 }
 
 /// Adds the rule of a clause.
@@ -65,7 +107,8 @@ fn push_rule(
     requires entity { IsEntityOf schema.now clause.now.entity }
     requires clauses { AreClausesOf schema.now clauses.now }
     requires rules { AreRulesOf schema.now rules.old.unique.items }
-    ensures { OnOk result (AreRulesOf schema.now rules.new.unique.items) }
+    ensures unique { OnOk result (AreRulesOf schema.now rules.new.unique.items) }
+    ensures inverse { OnOk result (rules.new.inverse ≡ rules.old.inverse) }
 {
     let entity = clause.entity;
     let (label, words) = label_of(alloc, clause)?;
@@ -133,16 +176,20 @@ fn named_attributes(
 
 /// The name of an attribute in a rule.
 #[derive(Clone, Copy)]
-struct Name<'t> {
+pub(crate) struct Name<'t> {
     /// The entity behind SELF.
-    of: Option<&'t [u8]>,
-    word: Word<'t>,
+    pub(crate) of: Option<&'t [u8]>,
+    pub(crate) word: Word<'t>,
     /// How many words it has.
-    len: usize,
+    pub(crate) len: usize,
 }
 
 /// The name at the front of some words of a clause.
-fn name_at<'t>(words: &[Word<'t>], clause: &Clause<'t>, len: usize) -> Result<Name<'t>, SchemaError>
+pub(crate) fn name_at<'t>(
+    words: &[Word<'t>],
+    clause: &Clause<'t>,
+    len: usize,
+) -> Result<Name<'t>, SchemaError>
     ensures { IfOk result (λ name. 0 < name.len) }
 {
     match words {
@@ -181,7 +228,7 @@ fn behind_comma<'w, 't>(
 }
 
 /// A name in upper case.
-fn upper_case(alloc: Global, name: &[u8]) -> Result<Vec<u8>, AllocError> {
+pub(crate) fn upper_case(alloc: Global, name: &[u8]) -> Result<Vec<u8>, AllocError> {
     name.iter()
         .map(|byte| byte.to_ascii_uppercase())
         .collect(alloc)
