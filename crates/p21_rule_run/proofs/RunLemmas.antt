@@ -9,11 +9,11 @@ use Rattle.p21_schema.specs.Rules.{with_rules}
 use Rattle.p21_schema.specs.declared.rules.Rules.{Rules as SchemaRules}
 use Rattle.p21_tree.specs.Sentence.{Instance}
 use Rattle.p21_render.specs.ReadingText.{IsModelText}
-use Rattle.p21_rules.specs.declared.unique.NotUnique.{NotUnique}
-use Rattle.p21_rules.specs.NotUnique.{AreFaults, AreRulesOf}
 use Rattle.p21_rule_text.specs.declared.rules.Rules.{Rules}
 use Rattle.p21_run.specs.declared.outcome.Outcome.{Outcome}
 use Rattle.p21_run.specs.declared.outcome.Outcome.TheVariants as outcome
+use Rattle.p21_rule_run.specs.declared.rule_fault.RuleFault.{RuleFault}
+use Rattle.p21_rule_run.specs.RuleFault.{AreRuleFaults, AreRulesIn}
 use Rattle.p21_rule_run.specs.Ruled.{IsDue, IsDueOf, IsOfModel, IsRuled, Writes}
 use Rattle.p21_rule_run.specs.Ruled as ruled
 
@@ -35,14 +35,14 @@ is_none xs empty e t = none_of xs (eqb-true (length xs) 0 (sym e ∙ t))
 pub is_some : {X : Type 0} (xs : List X) (empty : Bool) → empty ≡ (length xs == 0) → empty ≡ false → xs ≢ []
 is_some xs empty e f none = false≢true (sym f ∙ e ∙ ap (λ l. length l == 0) none)
 
-pub of_unique : (all : Bool) (s : Schema) (rules : Rules) (is : List Instance) (fs : List NotUnique) (o : Outcome) (text : List ℕ) → AreFaults s rules.unique.items is fs → fs ≡ [] → o ≡ outcome.Complete → IsModelText s is text → IsOfModel all s rules is o text
-of_unique all s rules is fs o text found none complete model = subst (λ (x : Outcome). IsOfModel all s rules is x text) (sym complete) (ruled.unique (subst (AreFaults s rules.unique.items is) none found) model)
+pub of_kept : (all : Bool) (s : Schema) (rules : Rules) (is : List Instance) (fs : List RuleFault) (o : Outcome) (text : List ℕ) → AreRuleFaults s rules is fs → fs ≡ [] → o ≡ outcome.Complete → IsModelText s is text → IsOfModel all s rules is o text
+of_kept all s rules is fs o text found none complete model = subst (λ (x : Outcome). IsOfModel all s rules is x text) (sym complete) (ruled.kept (subst (AreRuleFaults s rules is) none found) model)
 
 -- a fact of what is there is one of what it is
 pub of_some : {X : Type 0} (a : Option X) (x : X) (P : X → Type 0) → IfSome a P → a ≡ Some x → P x
 of_some a x P holds is = subst (λ o. IfSome o P) is holds
 
-pub due_of : (all : Bool) (s : Schema) (file : List ℕ) (rules : Rules) (o : Outcome) (text : List ℕ) → AreRulesOf s rules.unique.items → IsRuled all s rules file o text → IsDueOf all s file o text
+pub due_of : (all : Bool) (s : Schema) (file : List ℕ) (rules : Rules) (o : Outcome) (text : List ℕ) → AreRulesIn s rules → IsRuled all s rules file o text → IsDueOf all s file o text
 due_of all s file rules outcome.SchemaRefused text are ruled = tt
 due_of all s file rules outcome.Complete text are ruled = record { rules = rules; are_rules = are; ruled = ruled }
 due_of all s file rules outcome.Faulty text are ruled = record { rules = rules; are_rules = are; ruled = ruled }

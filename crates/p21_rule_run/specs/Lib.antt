@@ -1,2 +1,3 @@
+pub mod RuleFault
 pub mod FaultLine
 pub mod Ruled

@@ -1,4 +1,4 @@
--- The report of a file against a schema and the rules UNIQUE that are looked at.
+-- The report of a file against a schema and the rules that are looked at.
 use Rattle.std.specs.Prelude.{◌≡◌, ◌≢◌, ℕ, Bool, true, false, List, [], Option, Ok, Err, map, take}
 use Rattle.std.specs.Io.KnownBytes.{Appends}
 use Rattle.p21_express.specs.Reading as express
@@ -11,26 +11,30 @@ use Rattle.p21_reader.specs.AllFaults.{IsReadingWithAll}
 use Rattle.p21_reader.specs.Reading.{IsReading}
 use Rattle.p21_render.specs.FaultLine.{fault_lines, fault_text}
 use Rattle.p21_render.specs.ReadingText.{IsModelText}
-use Rattle.p21_rules.specs.declared.unique.NotUnique.{NotUnique}
-use Rattle.p21_rules.specs.NotUnique.{AreFaults, AreRulesOf}
 use Rattle.p21_rule_text.specs.declared.rules.Rules.{Rules}
 use Rattle.p21_run.specs.declared.outcome.Outcome.{Outcome}
 use Rattle.p21_run.specs.declared.outcome.Outcome.TheVariants as outcome
-use Rattle.p21_rule_run.specs.FaultLine.{not_unique_lines}
+use Rattle.p21_rule_run.specs.FaultLine.{rule_fault_lines}
+use Rattle.p21_rule_run.specs.RuleFault.{AreRuleFaults, AreRulesIn}
+use Rattle.p21_rule_run.specs.declared.rule_fault.RuleFault.{RuleFault}
 
--- the labels of rules, in their order
+-- the labels of the rules UNIQUE, in their order
 abbrev pub labels_of : Rules → List (List ℕ)
 labels_of rules = map (λ label. label.items) rules.labels.items
 
+-- the names of the INVERSE attributes, in their order
+abbrev pub names_of : Rules → List (List ℕ)
+names_of rules = map (λ name. name.items) rules.inverse_names.items
+
 -- the faults that a report tells: all, or the first alone
-abbrev pub told : (all : Bool) → List NotUnique → List NotUnique
+abbrev pub told : (all : Bool) → List RuleFault → List RuleFault
 told true fs = fs
 told false fs = take 1 fs
 
--- The report of a model: its counts where all instances are unique, and else the lines of those that are not.
+-- The report of a model: its counts where it keeps all rules, and else the lines of its faults.
 pub data IsOfModel (all : Bool) (s : Schema) (rules : Rules) (is : List Instance) : Outcome → List ℕ → Type 0 where
-  unique : {text : List ℕ} → AreFaults s rules.unique.items is [] → IsModelText s is text → IsOfModel all s rules is outcome.Complete text
-  not_unique : {fs : List NotUnique} {text : List ℕ} → AreFaults s rules.unique.items is fs → fs ≢ [] → text ≡ not_unique_lines (labels_of rules) (told all fs) → IsOfModel all s rules is outcome.Faulty text
+  kept : {text : List ℕ} → AreRuleFaults s rules is [] → IsModelText s is text → IsOfModel all s rules is outcome.Complete text
+  broken : {fs : List RuleFault} {text : List ℕ} → AreRuleFaults s rules is fs → fs ≢ [] → text ≡ rule_fault_lines (labels_of rules) (names_of rules) (told all fs) → IsOfModel all s rules is outcome.Faulty text
 
 -- The report of a file: the line of the fault of its reading, or the report of its model.
 pub data IsFirstRuled (s : Schema) (rules : Rules) (file : List ℕ) : Outcome → List ℕ → Type 0 where
@@ -50,7 +54,7 @@ IsRuled false s rules file o text = IsFirstRuled s rules file o text
 -- The report of a file by some rules of the schema.
 pub record IsReportBy (all : Bool) (s : Schema) (file : List ℕ) (o : Outcome) (text : List ℕ) : Type 0 where
   pub rules : Rules
-  pub are_rules : AreRulesOf s rules.unique.items
+  pub are_rules : AreRulesIn s rules
   pub ruled : IsRuled all s rules file o text
 
 -- The text that is due with an outcome: the report of the file against the schema; nothing is said of the line of one that is refused.

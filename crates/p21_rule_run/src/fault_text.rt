@@ -1,39 +1,59 @@
-//! The report of breaches of rules.
+//! The report of faults by rules.
 
 ghost use Rattle.std.specs.Prelude.{◌≡◌, ◌++◌, [], IfOk, OnOk, decimal, get_or, map};
-ghost use Rattle.p21_rule_run.specs.FaultLine.{not_unique_lines, not_unique_text};
+ghost use Rattle.p21_rule_run.specs.FaultLine.{inverse_count_text, not_unique_text, rule_fault_lines, rule_fault_text};
 
+use crate::rule_fault::RuleFault;
 use itoa::Buffer;
-use p21_rules::NotUnique;
+use p21_rules::{InverseCount, NotUnique};
 use std::alloc::{AllocError, Global};
 
-/// The lines of instances that are not unique, in their order, by the labels of the rules. Memory alone can fail.
-pub fn render_not_unique(
+/// The lines of faults by rules, in their order, by the labels of the rules UNIQUE and the names of the INVERSE attributes. Memory alone can
+/// fail.
+pub fn render_rule_faults(
     alloc: Global,
     labels: &[Vec<u8>],
-    faults: &[NotUnique],
+    names: &[Vec<u8>],
+    faults: &[RuleFault],
 ) -> Result<Vec<u8>, AllocError>
-    ensures { IfOk result (λ text. text.items ≡ not_unique_lines (map (λ label. label.items) labels.now) faults.now) }
+    ensures { IfOk result (λ text. text.items ≡ rule_fault_lines (map (λ label. label.items) labels.now) (map (λ name. name.items) names.now) faults.now) }
 {
     let mut text = Vec::new(alloc);
     for fault in faults {
-        push_fault(&mut text, label_of(labels, fault.rule), fault)?;
+        push_fault(&mut text, labels, names, fault)?;
     }
     Ok(text)
 }
 
-/// The label of the rule of this number.
-fn label_of(labels: &[Vec<u8>], rule: usize) -> &[u8]
-    ensures { result.now ≡ get_or (map (λ label. label.items) labels.now) rule [] }
+/// Adds the line of a fault.
+fn push_fault(
+    text: &mut Vec<u8>,
+    labels: &[Vec<u8>],
+    names: &[Vec<u8>],
+    fault: &RuleFault,
+) -> Result<(), AllocError>
+    ensures { OnOk result (text.new.items ≡ text.old.items ++ rule_fault_text (map (λ label. label.items) labels.now) (map (λ name. name.items) names.now) fault.now) }
 {
-    match labels.get(rule) {
-        Some(label) => label,
+    match fault {
+        RuleFault::NotUnique(fault) => push_not_unique(text, name_of(labels, fault.rule), fault),
+        RuleFault::InverseCount(fault) => {
+            push_inverse_count(text, name_of(names, fault.rule), fault)
+        }
+    }
+}
+
+/// The label or the name of this number.
+fn name_of(names: &[Vec<u8>], number: usize) -> &[u8]
+    ensures { result.now ≡ get_or (map (λ name. name.items) names.now) number [] }
+{
+    match names.get(number) {
+        Some(name) => name,
         None => &[],
     }
 }
 
 /// Adds the line of an instance that is not unique.
-fn push_fault(text: &mut Vec<u8>, label: &[u8], fault: &NotUnique) -> Result<(), AllocError>
+fn push_not_unique(text: &mut Vec<u8>, label: &[u8], fault: &NotUnique) -> Result<(), AllocError>
     ensures { OnOk result (text.new.items ≡ text.old.items ++ not_unique_text label.now fault.now) }
 {
     text.extend_from_slice(b"fault 16 NotUnique at ")?;
@@ -42,6 +62,24 @@ fn push_fault(text: &mut Vec<u8>, label: &[u8], fault: &NotUnique) -> Result<(),
     text.extend_from_slice(label)?;
     text.extend_from_slice(b" name #")?;
     push_number(text, fault.earlier)?;
+    text.push(b'\n')?;
+    Ok(())
+}
+
+/// Adds the line of an instance to which too few or too many refer.
+fn push_inverse_count(
+    text: &mut Vec<u8>,
+    name: &[u8],
+    fault: &InverseCount,
+) -> Result<(), AllocError>
+    ensures { OnOk result (text.new.items ≡ text.old.items ++ inverse_count_text name.now fault.now) }
+{
+    text.extend_from_slice(b"fault 17 InverseCount at ")?;
+    push_number(text, fault.at)?;
+    text.extend_from_slice(b" inverse ")?;
+    text.extend_from_slice(name)?;
+    text.extend_from_slice(b" count ")?;
+    push_number(text, fault.count)?;
     text.push(b'\n')?;
     Ok(())
 }

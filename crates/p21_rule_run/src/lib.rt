@@ -1,10 +1,12 @@
-//! A run that checks a file against its schema, and then against the rules UNIQUE of the schema.
+//! A run that checks a file against its schema, and then by the rules of the schema.
 #![tactic(auto)]
 
 mod fault_text;
 mod listener;
+mod rule_fault;
 mod runner;
 
-pub use fault_text::render_not_unique;
+pub use fault_text::render_rule_faults;
 pub use listener::RuleListener;
+pub use rule_fault::RuleFault;
 pub use runner::{How, run_rules};

@@ -8,14 +8,15 @@ ghost use Rattle.p21_reader.specs.AllFaults.{IsReadingWithAll};
 ghost use Rattle.p21_reader.specs.Answer.{plain_answer};
 ghost use Rattle.p21_reader.specs.Reading.{IsReading};
 ghost use Rattle.p21_render.specs.ReadingText.{IsModelText};
-ghost use Rattle.p21_rules.specs.NotUnique.{AreRulesOf};
+ghost use Rattle.p21_rule_run.specs.RuleFault.{AreRulesIn};
 ghost use Rattle.p21_rule_run.specs.Ruled.{told, IsDue, IsDueOf, IsFirstRuled, IsFullyRuled, IsOfModel, IsRuled, Writes};
 ghost use Rattle.p21_run.specs.declared.outcome.Outcome.TheVariants.{Complete, Faulty, SchemaRefused};
 ghost use Rattle.p21_schema.specs.Rules.{with_rules};
 ghost use Rattle.p21_tree.specs.Views.{plain_instance};
 
-use crate::fault_text::render_not_unique;
+use crate::fault_text::render_rule_faults;
 use crate::listener::RuleListener;
+use crate::rule_fault::{RuleFault, rule_faults};
 use p21_crew::Gate;
 use p21_desk::LaneCount;
 use p21_express::{Declarations, SchemaError, read_declarations};
@@ -24,7 +25,6 @@ use p21_lanes::Capacity;
 use p21_reader::{AllFaults, ReadError, Reading, read_all_faults, read_lanes};
 use p21_render::{counts_with_key, fault_line, model_text, render_faults, schema_fault_line};
 use p21_rule_text::{Rules, read_rules};
-use p21_rules::{NotUnique, all_not_unique};
 use p21_run::{
     FILE_BOUNDS, InputError, Outcome, OutputError, SCHEMA_BOUNDS, Sink, Source, WRITE_CALLS,
     read_bounded, write_bounded,
@@ -48,7 +48,7 @@ pub struct How<'g, G> {
     pub key: HashKey,
 }
 
-/// Reads a schema and its rules UNIQUE and then a file, checks the file against the schema and, where it has no fault, against the rules, and
+/// Reads a schema and its rules UNIQUE and INVERSE attributes and then a file, checks the file against the schema and, where it has no fault, against the rules, and
 /// writes the report: that of the file's model, or the line of its first fault, or of all of them, or the line of the schema's.
 ///
 /// Bounds, lanes and the listener are those of `p21_run::run_heard`. The file is not read where the schema or its rules are refused.
@@ -160,7 +160,7 @@ fn report_of_file<R: Threads + Wait + Sync, G: Gate + Sync, L: RuleListener>(
     file: &[u8],
     listener: &mut L,
 ) -> Result<Report, InputError>
-    requires { AreRulesOf schema.now rules.now.unique.items }
+    requires { AreRulesIn schema.now rules.now }
     ensures { IfOk result (λ report. IsRuled how.now.all schema.now rules.now file.now report.outcome report.text.items) }
 {
     if how.all {
@@ -180,7 +180,7 @@ fn full_report_of_file<R: Threads + Wait + Sync, G: Gate + Sync, L: RuleListener
     file: &[u8],
     listener: &mut L,
 ) -> Result<Report, InputError>
-    requires { AreRulesOf schema.now rules.now.unique.items }
+    requires { AreRulesIn schema.now rules.now }
     ensures { IfOk result (λ report. IsFullyRuled schema.now rules.now file.now report.outcome report.text.items) }
 {
     match read_all_faults(rt, alloc, schema, how.gate, file, how.lanes, how.capacity) {
@@ -203,7 +203,7 @@ fn report_of_all<L: RuleListener>(
     all: &AllFaults<'_>,
     listener: &mut L,
 ) -> Result<Report, InputError>
-    requires rules { AreRulesOf schema.now rules.now.unique.items }
+    requires rules { AreRulesIn schema.now rules.now }
     requires read { IsReadingWithAll schema.now file.now (plain_all all.now.answer) }
     ensures { IfOk result (λ report. IsFullyRuled schema.now rules.now file.now report.outcome report.text.items) }
 {
@@ -235,7 +235,7 @@ fn first_report_of_file<R: Threads + Wait + Sync, G: Gate + Sync, L: RuleListene
     file: &[u8],
     listener: &mut L,
 ) -> Result<Report, InputError>
-    requires { AreRulesOf schema.now rules.now.unique.items }
+    requires { AreRulesIn schema.now rules.now }
     ensures { IfOk result (λ report. IsFirstRuled schema.now rules.now file.now report.outcome report.text.items) }
 {
     match read_lanes(rt, alloc, schema, how.gate, file, how.lanes, how.capacity) {
@@ -258,7 +258,7 @@ fn report_of_reading<L: RuleListener>(
     reading: &Reading<'_>,
     listener: &mut L,
 ) -> Result<Report, InputError>
-    requires rules { AreRulesOf schema.now rules.now.unique.items }
+    requires rules { AreRulesIn schema.now rules.now }
     requires read { IsReading schema.now file.now (plain_answer reading.now.answer) }
     ensures { IfOk result (λ report. IsFirstRuled schema.now rules.now file.now report.outcome report.text.items) }
 {
@@ -300,22 +300,22 @@ fn report_of_model<L: RuleListener>(
     instances: &[RawInstance<'_>],
     listener: &mut L,
 ) -> Result<Report, InputError>
-    requires { AreRulesOf schema.now rules.now.unique.items }
+    requires { AreRulesIn schema.now rules.now }
     ensures { IfOk result (λ report. IsOfModel all schema.now rules.now (map plain_instance instances.now) report.outcome report.text.items) }
 {
-    let found = all_not_unique(alloc, schema, &rules.unique, instances)?;
+    let found = rule_faults(alloc, schema, rules, instances)?;
     let faults = found.as_slice();
     let reported = told(faults, all);
     listener.hear_ruled(schema, rules, file, reported);
     if faults.is_empty() {
-        return report_of_unique(alloc, schema, instances);
+        return report_without_faults(alloc, schema, instances);
     }
-    let text = render_not_unique(alloc, &rules.labels, reported)?;
+    let text = render_rule_faults(alloc, &rules.labels, &rules.inverse_names, reported)?;
     Ok(faulty(text))
 }
 
 /// The faults that a report tells.
-fn told(faults: &[NotUnique], all: bool) -> &[NotUnique]
+fn told(faults: &[RuleFault], all: bool) -> &[RuleFault]
     ensures { result.now ≡ told all faults.entry.now }
 {
     if all {
@@ -325,8 +325,8 @@ fn told(faults: &[NotUnique], all: bool) -> &[NotUnique]
     first
 }
 
-/// What is to be written of a model whose instances are unique.
-fn report_of_unique(
+/// What is to be written of a model that keeps all rules.
+fn report_without_faults(
     alloc: Global,
     schema: &Schema,
     instances: &[RawInstance<'_>],

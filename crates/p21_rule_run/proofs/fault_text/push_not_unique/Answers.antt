@@ -1,10 +1,7 @@
-use Rattle.std.proofs.Common.{◌≡◌, ℕ, List, [], ◌∷◌, ◌++◌, append_assoc}
+use Rattle.std.proofs.Common.{[], ◌∷◌}
 use Rattle.std.specs.Prelude.{codes, decimal}
-use Rattle.p21_rule_run.proofs.fault_text.push_fault.Goals as goal
-
--- seven texts behind another
-all_behind : (old a b c d e f g u v w x y z new : List ℕ) → u ≡ old ++ a → v ≡ u ++ b → w ≡ v ++ c → x ≡ w ++ d → y ≡ x ++ e → z ≡ y ++ f → new ≡ z ++ g → new ≡ old ++ (a ++ (b ++ (c ++ (d ++ (e ++ (f ++ g))))))
-all_behind old a b c d e f g u v w x y z new p q r s k l m = rw (m, l, k, s, r, q, p) (simp append_assoc)
+use Rattle.p21_rule_run.proofs.TextLemmas.{all_behind}
+use Rattle.p21_rule_run.proofs.fault_text.push_not_unique.Goals as goal
 
 pub returns : goal.returns
 returns c =
