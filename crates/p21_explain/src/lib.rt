@@ -30,4 +30,4 @@ pub use groups::summary;
 pub use p21_spelling::{Spellings, spell_names};
 pub use place::{Place, place_of};
 pub use refused::{explain_device, explain_schema_fault};
-pub use rules::{explain_not_unique, explain_passed_over};
+pub use rules::{explain_inverse_count, explain_not_unique, explain_passed_over};

@@ -1,4 +1,4 @@
-//! Instances that are not unique, and rules that were not checked.
+//! Instances that break a rule, and rules that were not checked.
 
 ghost use Rattle.std.specs.Prelude.{IfOk};
 ghost use Rattle.std.specs.String.{string_bytes};
@@ -11,7 +11,7 @@ use crate::references::say_named;
 use crate::refused::in_a_line;
 use crate::said::{Front, Said};
 use p21_rule_text::{PassedOver, Rules};
-use p21_rules::NotUnique;
+use p21_rules::{InverseCount, InverseRule, NotUnique};
 use p21_schema::AttrId;
 use p21_spelling::{Spellings, next_word};
 use std::alloc::{AllocError, Global};
@@ -54,6 +54,75 @@ fn say_not_unique(
         ".",
     ))?;
     Ok(instance.at.saturating_add(at))
+}
+
+/// An instance to which too few or too many others refer, explained as `explain_fault` explains a fault.
+pub fn explain_inverse_count(
+    alloc: Global,
+    subject: Subject<'_>,
+    schema_text: &[u8],
+    rules: &Rules,
+    fault: &InverseCount,
+    format: Format,
+) -> Result<String, AllocError>
+    ensures { IfOk result (λ text. IsPrinted (string_bytes text)) }
+{
+    let mut said = Said::new(alloc);
+    let at = match instance_at(alloc, subject, fault.at)? {
+        Some(instance) => say_inverse_count(&mut said, &instance, schema_text, rules, fault)?,
+        None => in_text(subject.file, fault.at),
+    };
+    printed(alloc, subject, fault.at, at, b"InverseCount", &said, format)
+}
+
+/// Adds how many refer to an instance, and how many may; answers the place to look at.
+fn say_inverse_count(
+    said: &mut Said,
+    instance: &Instance<'_>,
+    schema_text: &[u8],
+    rules: &Rules,
+    fault: &InverseCount,
+) -> Result<usize, AllocError> {
+    let Some(rule) = rules.inverse.get(fault.rule) else {
+        return Ok(instance.at);
+    };
+    let spellings = instance.subject.spellings;
+    say_record(said, instance, 0)?;
+    said.say("; ")?;
+    let from = said.len();
+    say_referring(said, rule, fault.count)?;
+    said.say(spelling(&spellings.attributes, rule.attribute.place()))?;
+    said.say((" of ", spelling(&spellings.entities, rule.source.place())))?;
+    said.found = said.since(from);
+    let name = spelling(&rules.inverse_names, fault.rule);
+    said.say((", and ", spelled(schema_text, name), " of "))?;
+    said.say((
+        spelling(&spellings.entities, rule.entity.place()),
+        " asks for ",
+    ))?;
+    say_bounds(said, rule)?;
+    Ok(instance.at)
+}
+
+/// Adds how many refer to an instance, in front of the attribute by which they do.
+fn say_referring(said: &mut Said, rule: &InverseRule, count: u64) -> Result<(), AllocError> {
+    let refer = match (rule.is_bag, count) {
+        (true, 1) => " reference to it is in ",
+        (true, _) => " references to it are in ",
+        (false, 1) => " instance refers to it by ",
+        (false, _) => " instances refer to it by ",
+    };
+    said.say((count, refer))
+}
+
+/// Adds what the bounds of a rule ask for.
+fn say_bounds(said: &mut Said, rule: &InverseRule) -> Result<(), AllocError> {
+    match rule.high {
+        None => said.say(("at least ", rule.low, ".")),
+        Some(high) if high == rule.low => said.say(("exactly ", high, ".")),
+        Some(high) if rule.low == 0 => said.say(("at most ", high, ".")),
+        Some(high) => said.say((rule.low, " to ", high, ".")),
+    }
 }
 
 /// Adds what an instance is, and its values of some attributes: `#1 is a Part; its Id 'a' and Name 'b' are those`; answers the place of the
@@ -108,11 +177,15 @@ pub fn explain_passed_over(
     let mut said = Said::new(alloc);
     said.say((path, ": rule ", rule.label.as_slice(), " of "))?;
     said.say(spelling(&spellings.entities, rule.entity.place()))?;
-    said.say((
-        " was not checked: its attribute ",
-        spelled(text, &rule.attribute),
-    ))?;
-    said.say(" is derived or inverse.")?;
+    if rule.attribute.is_empty() {
+        said.say(" was not checked: its bounds are not numbers.")?;
+    } else {
+        said.say((
+            " was not checked: its attribute ",
+            spelled(text, &rule.attribute),
+        ))?;
+        said.say(" is derived or inverse.")?;
+    }
     in_a_line(alloc, path, b"NotChecked", &said, format)
 }
 

@@ -2,14 +2,13 @@
 
 use crate::progress::{Progress, Stage};
 use p21_explain::{
-    Format, Spellings, Subject, explain_device, explain_fault, explain_not_unique,
-    explain_passed_over, explain_schema_fault, spell_names, summary,
+    Format, Spellings, Subject, explain_device, explain_fault, explain_inverse_count,
+    explain_not_unique, explain_passed_over, explain_schema_fault, spell_names, summary,
 };
 use p21_express::SchemaError;
 use p21_render::{fault_line, schema_fault_line};
-use p21_rule_run::RuleListener;
+use p21_rule_run::{RuleFault, RuleListener};
 use p21_rule_text::Rules;
-use p21_rules::NotUnique;
 use p21_run::{Listener, Outcome};
 use p21_schema::Schema;
 use p21_tree::Fault;
@@ -135,13 +134,29 @@ impl<'a, C: Clock, P: Write> Explainer<'a, C, P> {
         Ok(())
     }
 
-    /// Adds the first instances that are not unique, and the rules that were not checked.
+    /// A fault by a rule, explained.
+    fn explained(
+        &self,
+        subject: Subject<'_>,
+        rules: &Rules,
+        fault: &RuleFault,
+    ) -> Result<String, AllocError> {
+        let (alloc, format) = (self.alloc, self.format);
+        match fault {
+            RuleFault::NotUnique(fault) => explain_not_unique(alloc, subject, rules, fault, format),
+            RuleFault::InverseCount(fault) => {
+                explain_inverse_count(alloc, subject, &self.text, rules, fault, format)
+            }
+        }
+    }
+
+    /// Adds the first faults by the rules, and the rules that were not checked.
     fn add_ruled(
         &mut self,
         schema: &Schema,
         rules: &Rules,
         file: &[u8],
-        faults: &[NotUnique],
+        faults: &[RuleFault],
     ) -> Result<(), AllocError> {
         let spellings = spell_names(self.alloc, &self.text, schema.declared())?;
         let subject = Subject {
@@ -151,7 +166,7 @@ impl<'a, C: Clock, P: Write> Explainer<'a, C, P> {
             file,
         };
         for fault in faults.iter().take(self.most) {
-            let told = explain_not_unique(self.alloc, subject, rules, fault, self.format)?;
+            let told = self.explained(subject, rules, fault)?;
             say(&mut self.said, told)?;
         }
         self.add_passed_over(&spellings, rules)
@@ -220,7 +235,7 @@ impl<C: Clock, P: Write> Listener for Explainer<'_, C, P> {
 }
 
 impl<C: Clock, P: Write> RuleListener for Explainer<'_, C, P> {
-    fn hear_ruled(&mut self, schema: &Schema, rules: &Rules, file: &[u8], faults: &[NotUnique]) {
+    fn hear_ruled(&mut self, schema: &Schema, rules: &Rules, file: &[u8], faults: &[RuleFault]) {
         if self.most > 0 {
             let _ = self.add_ruled(schema, rules, file, faults);
         }
