@@ -1,17 +1,18 @@
 -- More records of keywords, counted.
-use Rattle.std.proofs.Common.{◌≡◌, ℕ, zero, suc, ◌+◌, ◌-◌, ◌^◌, true, false, cond, List, [], ◌∷◌, ◌++◌, Some, None, min, map, get_or, nat_eq, refl, sym, ap, subst, ◌∙◌, arith, Bor, Option, ⊎_elim, ◌<◌, add-zero}
+use Rattle.std.proofs.Common.{◌≡◌, ℕ, zero, suc, ◌+◌, ◌-◌, ◌^◌, true, false, cond, List, [], ◌∷◌, ◌++◌, Some, None, min, map, get_or, nat_eq, slice_get, refl, sym, ap, subst, ◌∙◌, arith, Bor, Option, ⊎_elim, ◌<◌, add-zero}
 use Rattle.std.specs.List.{AllByRecursion, IsDistinct}
 use Rattle.std.specs.Map.{lookup}
 use Rattle.std.specs.Cmp.{IsEquivalence, on_equiv}
 use Rattle.std.proofs.lemmas.List.Elements.{recursion_from_All}
 use Rattle.std.proofs.lemmas.Map.Entries.{hash_map_get_place}
 use Rattle.std.proofs.lemmas.Option.{slice_get-get_or}
-use Rattle.indexmap.specs.IndexMap.{IndexMap, IsUnique, get}
+use Rattle.indexmap.specs.IndexMap.{IndexMap, IsUnique, get, with_value_at}
+use Rattle.indexmap.proofs.CallerLemmas.{updates-with_value_at}
 use Rattle.std.specs.Option.{option_map_or}
 use Rattle.std.specs.Cmp.Lexicographic.{bytes_decides, nat_list_eq_equiv, pointwise}
 use Rattle.std.proofs.lemmas.Bool.{cases_Bool}
 use Rattle.p21_counts.specs.Counts.{capped, keyword_count}
-use Rattle.p21_counts.specs.Tally.{CountsOf, IsRaised, kept, key_eq}
+use Rattle.p21_counts.specs.Tally.{CountsOf, IsRaised, StandsAt, kept, key_eq}
 
 pub kept_value : (n v : ℕ) → kept n ≡ Some v → v ≡ capped n
 kept_value zero v e = cc
@@ -164,3 +165,18 @@ pub raised_none : (o : Option ℕ) (count : ℕ) → None ≡ o → count < 2 ^ 
 raised_none o count e h =
     let same : count ≡ capped (0 + count) = omega arith in
     subst (λ o. count ≡ capped (option_map_or (λ x. x) o 0 + count)) e same
+
+-- the map with the count of the keyword at a place raised
+pub raised_at : {S : Type 0} (m : IndexMap (Bor (List ℕ)) ℕ S) (place known next : ℕ) (k w : Bor (List ℕ)) → IsUnique key_eq m → slice_get m.entries place ≡ Some (k, known) → next ≡ min (known + 1) (2 ^ 64 - 1) → StandsAt m w.now place
+    → IsRaised m w 1 (with_value_at m place next)
+raised_at m place known next k w unique there e stands = λ q.
+    let n = with_value_at m place next in
+    let same : k.now ≡ w.now = ap (word_of k) (sym there ∙ stands.1) ∙ stands.2 in
+    let found : get key_eq m w ≡ Some known = ap (λ l. get key_eq m (record { ref_ptr = (0, 0); now = l })) (sym same) ∙ hash_map_get_place key_equiv m place k known unique there in
+    (updates-with_value_at m place next key_equiv unique k known there).0 q
+    ∙ ap (λ l. cond (pointwise nat_eq l q.now) (Some next) (get key_eq m q)) same
+    ∙ ap (λ u. cond (key_eq w q) (Some u) (get key_eq m q)) (raised_some (get key_eq m w) known 1 next (sym found) e)
+  where
+    word_of : Bor (List ℕ) → Option (Bor (List ℕ) × ℕ) → List ℕ
+    word_of k None = k.now
+    word_of k (Some e) = e.0.now

@@ -1,5 +1,5 @@
 -- What the code keeps of the records that it has counted.
-use Rattle.std.specs.Prelude.{◌≡◌, ℕ, ◌+◌, zero, suc, Bool, List, [], ◌∷◌, ◌++◌, Option, None, Some, nat_eq, if◌then◌else◌, codes}
+use Rattle.std.specs.Prelude.{◌≡◌, ℕ, ◌+◌, zero, suc, Bool, List, [], ◌∷◌, ◌++◌, Option, None, Some, nat_eq, if◌then◌else◌, codes, slice_get}
 use Rattle.std.specs.Borrow.{Bor}
 use Rattle.indexmap.specs.IndexMap.{IndexMap, get}
 use Rattle.std.specs.Option.{option_map_or}
@@ -30,6 +30,10 @@ CountsOf m ks = (k : Bor (List ℕ)) → get key_eq m k ≡ kept (keyword_count 
 -- the map n is m, where the count of the keyword w has become c more than what m has of it, at most 2 ^ 64 - 1
 abbrev pub IsRaised : {S : Type 0} → IndexMap (Bor (List ℕ)) ℕ S → Bor (List ℕ) → ℕ → IndexMap (Bor (List ℕ)) ℕ S → Type 0
 IsRaised m w c n = (q : Bor (List ℕ)) → get key_eq n q ≡ (if key_eq w q then Some (capped (option_map_or (λ x. x) (get key_eq m w) 0 + c)) else get key_eq m q)
+
+-- the keyword w stands at a place of the map
+abbrev pub StandsAt : {S : Type 0} → IndexMap (Bor (List ℕ)) ℕ S → List ℕ → ℕ → Type 0
+StandsAt m w place = (e : Bor (List ℕ) × ℕ) × (slice_get m.entries place ≡ Some e) × (e.0.now ≡ w)
 
 -- what is counted of these instances
 pub record IsTallyOf (t : Tally) (is : List Instance) : Type 0 where

@@ -7,4 +7,4 @@ mod tally;
 
 pub use count_text::{counts, counts_with_key, tally_text};
 pub use references::references_in;
-pub use tally::{Keywords, Tally, add_keywords, count_keyword, count_records, no_keywords};
+pub use tally::{Keywords, Tally, add_keywords, count_keyword_at, count_records, no_keywords};

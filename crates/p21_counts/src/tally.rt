@@ -1,7 +1,9 @@
 //! Counting instances and the records of each keyword.
 
-ghost use Rattle.std.specs.Prelude.{◌≡◌, ℕ, List, ◌++◌, [], ◌∷◌, IfOk, OnOk, map};
-ghost use Rattle.p21_counts.specs.Tally.{CountsOf, IsRaised, IsTallyOf};
+ghost use Rattle.std.specs.Prelude.{◌≡◌, ◌<◌, ℕ, List, ◌++◌, [], ◌∷◌, IfOk, IsTrue, OnOk, map};
+ghost use Rattle.std.specs.Borrow.{Bor};
+ghost use Rattle.indexmap.specs.IndexMap.{index_map_len};
+ghost use Rattle.p21_counts.specs.Tally.{CountsOf, IsRaised, IsTallyOf, StandsAt};
 ghost use Rattle.p21_tree.specs.Sentence.{Instance};
 ghost use Rattle.p21_tree.specs.Views.{plain_instance};
 
@@ -58,8 +60,44 @@ pub fn no_keywords<'a>(alloc: Global, key: HashKey) -> Keywords<'a>
     IndexMap::with_hasher(alloc, key.keywords())
 }
 
+/// Counts one more record of a keyword. What stands at a place among the keywords is looked at first, so that the keyword is not hashed
+/// where it stands there. The answer is where it stands. Memory alone can fail.
+pub fn count_keyword_at<'a>(
+    keywords: &mut Keywords<'a>,
+    keyword: &'a [u8],
+    place: usize,
+) -> Result<usize, AllocError>
+    ensures { (ks : List (List ℕ)) → CountsOf keywords.old ks → OnOk result (CountsOf keywords.new (ks ++ keyword.now ∷ [])) }
+{
+    if stands_at(keywords, keyword, place) {
+        raise_at(keywords, place);
+        return Ok(place);
+    }
+    count_keyword(keywords, keyword)?;
+    Ok(keywords.get_index_of(&keyword).unwrap_or(place))
+}
+
+/// Whether a keyword stands at a place.
+fn stands_at(keywords: &Keywords<'_>, keyword: &[u8], place: usize) -> bool
+    ensures { IsTrue result → StandsAt keywords.now keyword.now place }
+{
+    match keywords.get_index(place) {
+        Some((known, _)) => *known == keyword,
+        None => false,
+    }
+}
+
+/// Counts one more record of the keyword that stands at a place.
+fn raise_at(keywords: &mut Keywords<'_>, place: usize)
+    requires { place < index_map_len keywords.old }
+    ensures { (w : Bor (List ℕ)) → StandsAt keywords.old w.now place → IsRaised keywords.old w 1 keywords.new }
+{
+    let (_, count) = keywords.pair_mut(place);
+    *count = count.saturating_add(1);
+}
+
 /// Counts one more record of a keyword. Memory alone can fail.
-pub fn count_keyword<'a>(keywords: &mut Keywords<'a>, keyword: &'a [u8]) -> Result<(), AllocError>
+fn count_keyword<'a>(keywords: &mut Keywords<'a>, keyword: &'a [u8]) -> Result<(), AllocError>
     ensures { (ks : List (List ℕ)) → CountsOf keywords.old ks → OnOk result (CountsOf keywords.new (ks ++ keyword.now ∷ [])) }
 {
     add_count(keywords, keyword, 1)

@@ -1,7 +1,9 @@
 //! Counting the instances of an outline.
 
-ghost use Rattle.std.specs.Prelude.{◌++◌, ℕ, List, All, IfOk, OnOk, map};
+ghost use Rattle.std.specs.Prelude.{◌++◌, ◌∷◌, ℕ, List, [], All, IfOk, OnOk, map};
 ghost use Rattle.std.specs.Fork.{slice_chunk};
+ghost use Rattle.p21_schema.specs.Ancestry.{entity_id};
+ghost use Rattle.p21_schema.specs.Place.{IsEntityOf, entity_name};
 ghost use Rattle.p21_tree.specs.Views.{plain_instance};
 ghost use Rattle.p21_check.specs.EntitySet.{keywords as instance_keywords};
 ghost use Rattle.p21_counts.specs.Counts.{keywords_of};
@@ -12,7 +14,7 @@ ghost use Rattle.p21_outline.specs.Outline.{outlined_instances};
 
 use crate::columns::{Held, Row, entity_at};
 use crate::outline::Outline;
-use p21_counts::{Keywords, Tally, add_keywords, count_keyword, count_records, no_keywords};
+use p21_counts::{Keywords, Tally, add_keywords, count_keyword_at, count_records, no_keywords};
 use p21_schema::Schema;
 use p21_tree::RawInstance;
 use rayon::current_num_threads;
@@ -110,15 +112,17 @@ fn keywords_of_rows<'a>(
     ensures { IfOk result (λ keywords. CountsOf keywords (keywords_of (plain_instances (map (row_instance wholes.now) rows.now)))) }
 {
     let mut keywords = no_keywords(alloc, schema.hash_key());
+    let mut places = vec![in alloc; 0usize; schema.declared().entities.len()]?;
     for row in rows {
-        count_row(&mut keywords, schema, wholes, row)?;
+        count_row(&mut keywords, places.as_mut_slice(), schema, wholes, row)?;
     }
     Ok(keywords)
 }
 
-/// Counts the keywords of the instance of one more row.
+/// Counts the keywords of the instance of one more row. The places are those of the entities' names among the keywords.
 fn count_row<'a>(
     keywords: &mut Keywords<'a>,
+    places: &mut [usize],
     schema: &'a Schema,
     wholes: &[RawInstance<'a>],
     row: &Row<'_>,
@@ -127,7 +131,28 @@ fn count_row<'a>(
     ensures { (ks : List (List ℕ)) → CountsOf keywords.old ks → OnOk result (CountsOf keywords.new (ks ++ instance_keywords (plain_instance (row_instance wholes.now row.now)))) }
 {
     match row.held {
-        Held::Simple(place) => count_keyword(keywords, schema.name_of(entity_at(schema, place))),
+        Held::Simple(entity) => count_simple(keywords, places, schema, entity),
         Held::Whole(place) => count_records(keywords, wholes[place as usize].records.as_slice()),
     }
+}
+
+/// Counts the keyword of one more simple instance, by the place of its entity among those of the schema. Its name is looked for first
+/// where it was counted last.
+fn count_simple<'a>(
+    keywords: &mut Keywords<'a>,
+    places: &mut [usize],
+    schema: &'a Schema,
+    entity: u32,
+) -> Result<(), AllocError>
+    requires { IsEntityOf schema.now (entity_id entity) }
+    ensures { (ks : List (List ℕ)) → CountsOf keywords.old ks → OnOk result (CountsOf keywords.new (ks ++ entity_name schema.now (entity_id entity) ∷ [])) }
+{
+    let name = schema.name_of(entity_at(schema, entity));
+    match places.get_mut(entity as usize) {
+        Some(place) => *place = count_keyword_at(keywords, name, *place)?,
+        None => {
+            count_keyword_at(keywords, name, 0)?;
+        }
+    }
+    Ok(())
 }
