@@ -1,12 +1,13 @@
 //! The outline of one instance.
 
-ghost use Rattle.std.specs.Prelude.{◌≡◌, None, Some, IfOk};
+ghost use Rattle.std.specs.Prelude.{◌≡◌, [], None, Some, IfOk, OnOk};
 ghost use Rattle.p21_counts.specs.Counts.{capped, record_references};
 ghost use Rattle.p21_check.specs.EntityOf.{IsSimpleEntity};
 ghost use Rattle.p21_check.specs.LocalFault.{IsLocalFault};
 ghost use Rattle.p21_check.specs.Referred.{AreReferencesOf};
 ghost use Rattle.p21_tree.specs.Views.{plain_instance};
-ghost use Rattle.p21_outline.specs.Kept.{kept_instance, IsKept};
+ghost use Rattle.p21_outline.specs.Kept.{kept_instance};
+ghost use Rattle.p21_outline.specs.declared.kept.Kept.TheVariants.{Whole};
 
 use crate::kept::Kept;
 use p21_check::{References, push_references};
@@ -51,57 +52,65 @@ impl<'a> InstanceOutline<'a> {
         ensures outlined { IfOk result (λ one. outlined one ≡ instance.entry) }
         ensures fits { IfOk result (λ one. IsOutline schema.now one) }
     {
-        let (name, at) = (instance.name, instance.at);
-        let written = references_in(&instance);
-        let kept = kept_of(alloc, schema, entity, written, instance)?;
+        match entity {
+            Some(own) => InstanceOutline::of_simple(alloc, schema, own, &instance),
+            None => Ok(InstanceOutline::of_whole(instance)),
+        }
+    }
+
+    /// The outline of a simple instance of this entity.
+    fn of_simple(
+        alloc: Global,
+        schema: &Schema,
+        own: EntityId,
+        instance: &RawInstance<'a>,
+    ) -> Result<InstanceOutline<'a>, AllocError>
+        requires own { IsSimpleEntity schema.now (plain_instance instance.now) (Some own) }
+        requires local { IsLocalFault schema.now (plain_instance instance.now) None }
+        ensures outlined { IfOk result (λ one. outlined one ≡ instance.now) }
+        ensures fits { IfOk result (λ one. IsOutline schema.now one) }
+    {
+        let written = references_in(instance);
+        let mut references = SmallVec::new(alloc);
+        push_written(schema, own, written, instance, &mut references)?;
         Ok(InstanceOutline {
-            name,
-            at,
+            name: instance.name,
+            at: instance.at,
             written,
-            kept,
+            kept: Kept::Simple(own, references, Snapshot::of(instance)),
         })
+    }
+
+    /// The outline of an instance that is kept whole.
+    fn of_whole(instance: RawInstance<'a>) -> InstanceOutline<'a>
+        ensures { result.kept ≡ Whole instance.entry }
+    {
+        InstanceOutline {
+            name: instance.name,
+            at: instance.at,
+            written: references_in(&instance),
+            kept: Kept::Whole(instance),
+        }
     }
 }
 
-/// What is kept of an instance, which is let go unless it is complex. So many instance names are written in it.
-fn kept_of<'a>(
-    alloc: Global,
-    schema: &Schema,
-    entity: Option<EntityId>,
-    written: u64,
-    instance: RawInstance<'a>,
-) -> Result<Kept<'a>, AllocError>
-    requires entity { IsSimpleEntity schema.now (plain_instance instance) entity }
-    requires local { IsLocalFault schema.now (plain_instance instance) None }
-    requires counted { written ≡ capped (record_references (plain_instance instance).records) }
-    ensures instance { IfOk result (λ kept. kept_instance kept ≡ instance.entry) }
-    ensures fits { IfOk result (λ kept. IsKept schema.now kept) }
-{
-    let Some(own) = entity else {
-        return Ok(Kept::Whole(instance));
-    };
-    let references = references_of(alloc, schema, own, written, &instance)?;
-    Ok(Kept::Simple(own, references, Snapshot::of(&instance)))
-}
-
-/// The references of a simple instance of this entity, in which so many instance names are written. Where there are none, as in points and
-/// directions, the schema is not asked.
-fn references_of(
-    alloc: Global,
+/// Adds the references of a simple instance of this entity, in which so many instance names are written, to none. Where no name is written,
+/// as in points and directions, the schema is not asked.
+fn push_written(
     schema: &Schema,
     own: EntityId,
     written: u64,
     instance: &RawInstance<'_>,
-) -> Result<References, AllocError>
+    into: &mut References,
+) -> Result<(), AllocError>
     requires own { IsSimpleEntity schema.now (plain_instance instance.now) (Some own) }
     requires local { IsLocalFault schema.now (plain_instance instance.now) None }
     requires counted { written ≡ capped (record_references (plain_instance instance.now).records) }
-    ensures { IfOk result (λ references. AreReferencesOf schema.now (plain_instance instance.now) references.items) }
+    requires empty { into.old.items ≡ [] }
+    ensures { OnOk result (AreReferencesOf schema.now (plain_instance instance.now) into.new.items) }
 {
-    let mut references = SmallVec::new(alloc);
     if written == 0 {
-        return Ok(references);
+        return Ok(());
     }
-    push_references(schema, own, instance, &mut references)?;
-    Ok(references)
+    push_references(schema, own, instance, into)
 }
