@@ -14,7 +14,7 @@ ghost use Rattle.p21_checker.specs.declared.checked.Checked.{Checked};
 
 use crate::again::reference_faults;
 use crate::checked::Checked;
-use crate::checking::{Checking, check_pieces};
+use crate::checking::check_pieces;
 use crate::counts::Counts;
 use crate::gathering::Gathering;
 use p21_crew::{Gate, Returned};
@@ -137,10 +137,9 @@ pub fn check_all_faults<'a, G: Gate + Sync, R: Threads + Wait + Sync>(
         Err(stop) => return FaultCheck::stopped(alloc, stop),
     };
     let at = preface.data_at as usize;
-    let work = Checking { schema };
     let pieces = Pieces::new(file, at);
     let gathering = Gathering::new(alloc, schema.hash_key());
-    let run = check_pieces(rt, alloc, &work, gate, pieces, gathering, lanes, capacity)?;
+    let run = check_pieces(rt, alloc, schema, gate, pieces, gathering, lanes, capacity)?;
     gate.close();
     let answer = conclude(rt, alloc, schema, file, at, run.tail as usize, run.gatherer)?;
     Ok(FaultCheck {

@@ -10,6 +10,7 @@ ghost use Rattle.p21_checker.specs.declared.checked.Checked.{Checked};
 
 use crate::checked::{Checked, FaultyInstance};
 use crate::gathering::Gathering;
+use crossbeam_utils::CachePadded;
 use p21_check::check_local_entity;
 use p21_crew::{Gate, Run, Work, run_crew};
 use p21_desk::LaneCount;
@@ -24,8 +25,8 @@ use std::thread::Threads;
 
 /// The work of checking pieces by themselves against a schema.
 #[derive(Clone, Copy)]
-pub(crate) struct Checking<'s> {
-    pub(crate) schema: &'s Schema,
+struct Checking<'s> {
+    schema: &'s Schema,
 }
 
 impl<'a> Work<Piece<'a>> for Checking<'_> {
@@ -66,11 +67,11 @@ impl<'a> Work<Piece<'a>> for Checking<'_> {
     }
 }
 
-/// The run of a crew that checks pieces. An error is want of memory, or of a thread.
+/// The run of a crew that checks pieces against a schema. An error is want of memory, or of a thread.
 pub(crate) fn check_pieces<'a, G: Gate + Sync, R: Threads + Wait + Sync>(
     rt: &R,
     alloc: Global,
-    checking: &Checking<'_>,
+    schema: &Schema,
     gate: &G,
     pieces: Pieces<'a>,
     gathering: Gathering<'a>,
@@ -80,10 +81,12 @@ pub(crate) fn check_pieces<'a, G: Gate + Sync, R: Threads + Wait + Sync>(
     requires { IsGathered gathering [] }
     ensures { IfOk result (λ run. (ps : List Piece) × (cs : List Checked)
         × AreGiven pieces.entry ps run.tail
-        × IsRun (IsStated checking.now.schema.now) lanes ps cs run.dealt.items run.receipts.items run.returned.items
+        × IsRun (IsStated schema.now) lanes ps cs run.dealt.items run.receipts.items run.returned.items
         × IsGathered run.gatherer cs) }
 {
+    // The workers read it for each piece, while this thread writes what stands beside it.
+    let checking = CachePadded::new(Checking { schema });
     run_crew(
-        rt, alloc, checking, gate, pieces, gathering, lanes, capacity,
+        rt, alloc, &*checking, gate, pieces, gathering, lanes, capacity,
     )
 }
