@@ -84,7 +84,8 @@ fn entity_count(schema: &Schema) -> usize
 }
 
 /// Adds the references of a simple instance of this entity, which has no fault by itself, behind others. Each stands for one that the
-/// schema asks for, by a declaration that counts; their order, and how often one is there, mean nothing. Memory alone can fail.
+/// schema asks for, by a declaration that counts; their order, and how often one is there, mean nothing. Memory alone can fail,
+/// as does a reference for an entity or a SELECT whose number is 2^32 or more.
 pub fn push_references(
     schema: &Schema,
     own: EntityId,

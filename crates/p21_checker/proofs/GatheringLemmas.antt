@@ -136,12 +136,6 @@ pub some_behind : (found : List Fault) (f : Fault) → found ++ f ∷ [] ≢ []
 some_behind [] f e = cc
 some_behind (g ∷ found) f e = cc
 
--- some fault, and none of the grammar
-pub faulty_gathered : (vs : List Value) (is : List Instance) (names : InstanceNames) (found : List Fault) (ended : Bool) → ended ≡ false → found ≢ [] → GathersFaults vs is names found ended → HaveFaults vs names found
-faulty_gathered vs is names found true e some h = absurd (cc)
-faulty_gathered vs is names [] false e some h = absurd (some refl)
-faulty_gathered vs is names (f ∷ found) false e some h = h
-
 pub sound_gathered : (vs : List Value) (is : List Instance) (names : InstanceNames) (found : List Fault) (ended : Bool) → ended ≡ false → found ≡ [] → GathersFaults vs is names found ended → HaveInstances vs is
 sound_gathered vs is names found true e none h = absurd (cc)
 sound_gathered vs is names [] false e none h = h

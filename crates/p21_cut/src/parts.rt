@@ -7,6 +7,7 @@ use memchr::memchr3;
 use p21_text::{Token, next_token, one_string, separators_len};
 
 /// The place behind the piece that begins with the `#` at `start`.
+#[inline(always)]
 pub(crate) fn piece_end(file: &[u8], start: usize) -> usize
     requires within { start < length file.now }
     requires begins { slice_index file.now start ≡ 35 }

@@ -2,7 +2,6 @@
 use Rattle.std.proofs.Common.{◌≡◌, ◌≢◌, ◌-◌, inl, inr, ℕ, zero, suc, ◌+◌, ◌*◌, ◌/◌, ◌%◌, ◌<◌, ◌≤◌, Option, Some, None, true, List, [], ◌∷◌, ◌++◌, length, get_or, set, replicate, refl, sym, ap, subst, ◌∙◌, arith}
 use Rattle.std.specs.Prelude.{nat_eq, position, slice_get}
 use Rattle.std.specs.Cmp.{nat_eq_equiv}
-use Rattle.std.specs.Option.{SomeIff}
 use Rattle.std.proofs.lemmas.Bool.{cases_Bool, cases_lt}
 use Rattle.std.proofs.lemmas.Bool.Decides.{nat_tests}
 use Rattle.std.proofs.lemmas.List.{get_or-map, get_or-replicate, get_or-set_other, get_or-set_same, get_or_past, length-map, length-replicate}
@@ -63,16 +62,6 @@ all_zero within = elim (cases_lt within 16) [
   | inr past ↦ get_or_past zeros within 0 (omega (arith, past, length-replicate 16 zero))
 ]
 
-pub block_added : (t u : InstancePlaces) (number : ℕ) → get nat_eq t.blocks number ≡ None → Updates nat_eq t.blocks u.blocks number (Some zeros) → KeepsPlaces t u
-block_added t u number none updates name = elim (cases_Bool (nat_eq number (name / 16))) [
-  | inl same ↦
-      let block : number ≡ name / 16 = same_number number (name / 16) same in
-      let new : get nat_eq u.blocks (name / 16) ≡ Some zeros = subst (λ b. get nat_eq u.blocks b ≡ Some zeros) block updates.1 in
-      let old : get nat_eq t.blocks (name / 16) ≡ None = subst (λ b. get nat_eq t.blocks b ≡ None) block none in
-      ap (λ b. place_in b (name % 16)) new ∙ (ap place_by (all_zero (name % 16)) ∙ sym (ap (λ b. place_in b (name % 16)) old))
-  | inr different ↦ ap (λ b. place_in b (name % 16)) (updates.2 (name / 16) different)
-]
-
 -- what a block has for a name
 pub place_by_block : (t : InstancePlaces) (name : ℕ) (numbers : List ℕ) → get nat_eq t.blocks (name / 16) ≡ Some numbers → place_of t name ≡ place_by (get_or numbers (name % 16) 0)
 place_by_block t name numbers was = ap (λ b. place_in b (name % 16)) was
@@ -117,8 +106,3 @@ pub something_else : (number : ℕ) → number ≢ 0 → (place : ℕ) × (place
 something_else zero some = absurd (some refl)
 something_else (suc place) some = (place, refl)
 
-pub one_less : (number : ℕ) (r : Option ℕ) → SomeIff r (1 ≤ number) (number - 1) → r ≡ place_by number
-one_less zero None h = refl
-one_less zero (Some place) h = absurd (let l = h.0 in omega (arith, l))
-one_less (suc place) None h = absurd (h (omega arith))
-one_less (suc place) (Some other) h = let e = h.1 in ap Some (omega (arith, e))

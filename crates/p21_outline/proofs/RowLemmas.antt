@@ -38,13 +38,6 @@ rows_grown ws more (row ∷ rows) h =
 pub lone : {X : Type 0} (P : X → Type 0) (x : X) → P x → All P (x ∷ [])
 lone P x h = All-cons P x [] h (λ k d inside. absurd (omega arith))
 
--- each place among those that are whole is one
-pub within_more : (n m : ℕ) (rows : List Row) (row : Row) → n ≤ m → All (λ r. IsWithin n r.held) rows → IsWithin m row.held → All (λ r. IsWithin m r.held) (rows ++ row ∷ [])
-within_more n m rows row less h one =
-    All-append (λ (r : Row). IsWithin m r.held) rows (row ∷ [])
-    (λ k d inside. within_grown n m (get_or rows k d).held less (h k d inside))
-    (lone (λ (r : Row). IsWithin m r.held) row one)
-
 held_grown : (s : Schema) (ws more : List RawInstance) (gone : RawInstance) (h : Held) → IsHeld s ws gone h → IsHeld s (ws ++ more) gone h
 held_grown s ws more gone (held.Simple e) h = h
 held_grown s ws more gone (held.Whole k) h =

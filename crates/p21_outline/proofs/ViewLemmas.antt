@@ -23,9 +23,6 @@ use Rattle.p21_outline.proofs.NameLemmas.{some_named}
 pub row_within : (c : Columns) (k : ℕ) → k < length (instances_in c) → k < length c.rows.items
 row_within c k less = let long = length-map c.rows.items (row_instance c.wholes.items) in omega arith
 
-pub instance_within : (c : Columns) (k : ℕ) → k < length c.rows.items → k < length (instances_in c)
-instance_within c k less = let long = length-map c.rows.items (row_instance c.wholes.items) in omega arith
-
 -- the row at a place, what it holds, and what that is by a schema
 pub record RowAt (s : Schema) (c : Columns) (k : ℕ) (row : Row) : Type 0 where
   pub less : k < length c.rows.items

@@ -20,6 +20,7 @@ use p21_text::{Lexed, Token};
 use std::alloc::Global;
 
 /// Reads an instance whose name stands before a place, and gives it with the place behind it.
+#[inline(always)]
 pub fn instance<'a>(
     alloc: Global,
     nest: &mut Nest<'a>,
