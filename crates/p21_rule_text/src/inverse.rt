@@ -102,12 +102,9 @@ fn bounds_at<'w, 't>(
         return Ok((Some(one), words));
     }
     match rest {
-        [open, colon, close, of, behind @ ..]
-            if open.is(b"[") && colon.is(b":") && close.is(b"]") && of.is(b"OF") => {
-            Ok((
-                bounds_of(is_bag, open.gap(colon, text), colon.gap(close, text)),
-                behind,
-            ))
+        [open, colon, close, behind @ ..] if open.is(b"[") && colon.is(b":") && close.is(b"]") => {
+            let bounds = bounds_of(is_bag, open.gap(colon, text), colon.gap(close, text));
+            Ok((bounds, behind_word(behind, b"OF", clause, text.len())?))
         }
         [open, behind @ ..] if open.is(b"[") => Ok((None, behind)),
         _ => {
