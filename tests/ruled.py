@@ -1,5 +1,7 @@
-"""An independent reading of the rules UNIQUE of a schema, and of the instances that break them: slow, and by other means than the program's."""
+"""An independent reading of the rules UNIQUE and the INVERSE attributes of a schema, and of the instances that break them: slow, and by other means
+than the program's."""
 
+import collections
 import re
 
 from part21 import NAME, Schema
@@ -85,10 +87,9 @@ class Reader:
         return found
 
     def value(self):
-        """A value that is compared, or that it is none."""
+        """A value, or that it is none that is compared or refers."""
         if self.tokens[self.at][1] == '(':
-            self.values()
-            return PASSED
+            return 'list', self.values()
         kind, text, _ = self.take()
         if kind == 'string':
             return 'string', characters(text[1:-1])
@@ -102,17 +103,34 @@ class Reader:
             self.take('(')
             inner = self.value()
             self.take(')')
-            return PASSED if inner is PASSED else ('typed', text, inner)
+            return 'typed', text, inner
         return PASSED
 
 
+def compared(value):
+    """A value that is compared, or that it is none."""
+    if value is PASSED or value[0] == 'list':
+        return PASSED
+    return PASSED if value[0] == 'typed' and compared(value[2]) is PASSED else value
+
+
+def names(value):
+    """The instances to which a value refers."""
+    if value is PASSED:
+        return []
+    if value[0] == 'list':
+        return [name for it in value[1] for name in names(it)]
+    return names(value[2]) if value[0] == 'typed' else [value[1]] if value[0] == 'name' else []
+
+
 class Rules:
-    """The rules UNIQUE of a schema's text: entity, label, and attributes as they are newly declared."""
+    """The rules UNIQUE of a schema's text: entity, label, and attributes as they are newly declared; and its INVERSE attributes: entity, name, whether each
+    reference counts, bounds, the entity that refers, and its attribute."""
 
     def __init__(self, text):
         self.schema = Schema(text)
         plain = re.sub(r"'[^']*'", "''", re.sub(r'--[^\n]*', '', re.sub(r'\(\*.*?\*\)', '', Schema.innermost(text), flags=re.DOTALL))).upper()
-        self.rules = []
+        self.rules, self.inverse = [], []
         for entity, _, body in re.findall(r'\bENTITY\s+(%s)([^;]*);(.*?)\bEND_ENTITY\b' % NAME, plain, re.DOTALL):
             match = re.search(r'(?:^|;)\s*UNIQUE\b((?:(?!\bWHERE\b).)*)', body, re.DOTALL)
             for number, clause in enumerate(match[1].split(';')[:-1] if match else [], 1):
@@ -120,30 +138,65 @@ class Rules:
                 attributes = [self.resolve(entity, it) for it in names.split(',')]
                 if None not in attributes:
                     self.rules.append((entity, label.strip() or str(number), attributes))
+            match = re.search(r'(?:^|;)\s*INVERSE\b((?:(?!\bUNIQUE\b|\bWHERE\b).)*)', body, re.DOTALL)
+            self.inverse += [self.bounds(entity, clause) for clause in (match[1].split(';')[:-1] if match else [])]
+        self.inverse = [it for it in self.inverse if it]
+
+    def bounds(self, entity, clause):
+        """The bounds of an INVERSE attribute, or none where they are no numbers or it is FOR no explicit attribute."""
+        name, declared = clause.split(':', 1)
+        kind, low, high, source, attribute = re.fullmatch(r'\s*(?:(SET|BAG)\s*(?:\[([^:]*):([^]]*)\])?\s*OF\s)?\s*(%s)\s+FOR\s+(.*)' % NAME, declared, re.DOTALL).groups()
+        low, high = (low.strip(), high.strip()) if low else ('0', '?') if kind else ('1', '1')
+        attribute = [it.strip() for it in attribute.split('.')]
+        found = self.resolve(source, attribute[0]) if len(attribute) == 1 else self.resolve(source, 'SELF\\%s.%s' % tuple(attribute))
+        if not found or not low.isdigit() or not (high == '?' or high.isdigit()):
+            return None
+        return entity, re.findall(NAME, name)[-1], kind == 'BAG', int(low), float('inf') if high == '?' else int(high), source, found
 
     def resolve(self, entity, text):
         names = re.findall(NAME, text)
         owners = [names[1]] if names[0] == 'SELF' else self.schema.ancestors(entity)
         return next(((owner, names[-1]) for owner in self.schema.own for it in self.schema.own[owner] if owner in owners and it[0] == names[-1]), None)
 
-    def values(self, instance, rule):
-        """The values of the rule's attributes in an instance, or that it is passed over."""
+    def is_of(self, instance, entity):
+        return any(entity in self.schema.ancestors(keyword) for keyword, _ in instance[3])
+
+    def parameters(self, instance):
+        """The values of an instance by their attributes."""
         _, _, complex_, records = instance
-        entity, _, attributes = rule
-        if not any(entity in self.schema.ancestors(keyword) for keyword, _ in records):
-            return PASSED
         found = {}
         for keyword, values in records:
             row = [(keyword, it[0]) for it in self.schema.own[keyword]] if complex_ else [(it[0], it[1]) for it in self.schema.row(keyword)]
             for attribute, value in zip(row, values):
                 found.setdefault(attribute, value)
-        values = [found.get(it, PASSED) for it in attributes]
+        return found
+
+    def values(self, instance, rule):
+        """The values of the rule's attributes in an instance, or that it is passed over."""
+        entity, _, attributes = rule
+        if not self.is_of(instance, entity):
+            return PASSED
+        found = self.parameters(instance)
+        values = [compared(found.get(it, PASSED)) for it in attributes]
         return PASSED if PASSED in values else tuple(values)
+
+    def counts(self, instances):
+        """How many refer to each instance, by the number of the INVERSE attribute and the instance's name."""
+        counts = collections.Counter()
+        for instance in instances:
+            found = self.parameters(instance)
+            for number, (_, _, is_bag, _, _, source, attribute) in enumerate(self.inverse):
+                if self.is_of(instance, source):
+                    referred = names(found.get(attribute, PASSED))
+                    counts.update((number, name) for name in (referred if is_bag else set(referred)))
+        return counts
 
     def faults(self, text):
         """The lines of the report of a file without other faults."""
         first, lines = {}, []
-        for instance in Reader(text).instances():
+        instances = list(Reader(text).instances())
+        counts = self.counts(instances)
+        for instance in instances:
             for number, rule in enumerate(self.rules):
                 values = self.values(instance, rule)
                 if values is PASSED:
@@ -152,4 +205,8 @@ class Rules:
                     lines.append('fault 16 NotUnique at %d rule %s name #%d' % (instance[1], rule[1], first[number, values]))
                 else:
                     first[number, values] = instance[0]
+            for number, (entity, name, _, low, high, _, _) in enumerate(self.inverse):
+                count = counts[number, instance[0]]
+                if self.is_of(instance, entity) and not low <= count <= high:
+                    lines.append('fault 17 InverseCount at %d inverse %s count %d' % (instance[1], name, count))
         return lines
