@@ -15,7 +15,7 @@ LEAST_GREAT = 16 * MEGABYTE
 # A file that is no longer is held whole by a worker.
 WHOLE = LEAST_GREAT
 # A batch is this part of what each processor is left with, so that all end together; and the least and the most that there is to read in one.
-PART, LEAST, MOST = 4, 4 * MEGABYTE, 128 * MEGABYTE
+PART, LEAST, MOST = 2, 4 * MEGABYTE, 128 * MEGABYTE
 
 
 def processors() -> int:

@@ -56,7 +56,7 @@ def _call(library, name, *types):
 _TEXT, _ROOM = (ctypes.c_char_p, _SIZE), (_PLACE, _SIZE)
 # What is the same in many calls is made into an argument once: a handle, a number, a size. A call takes the first of its arguments by its
 # types, and those behind them as they were made.
-pointer, u64, _size = _PLACE.from_param, _U64.from_param, _SIZE.from_param
+pointer, u32, u64, _size = _PLACE.from_param, _U32.from_param, _U64.from_param, _SIZE.from_param
 schema_read = _call(_slow, "p21_schema_read", *_TEXT, _U64, _PLACE, _PLACE)
 read = _call(_slow, "p21_read", _PLACE, _PLACE, _SIZE, _PLACE, _PLACE)
 explain = _call(_slow, "p21_explain", _PLACE, _PLACE, _SIZE, *_TEXT, _PLACE, *_ROOM, _PLACE)
@@ -73,8 +73,8 @@ find = _call(_quick, "p21_find", _PLACE, _U64, _PLACE)
 instance = _call(_quick, "p21_instance", _PLACE, _U64, _PLACE)
 instances = _call(_slow, "p21_instances", _PLACE, _U64, *_ROOM, *_ROOM, _PLACE)
 record = _call(_quick, "p21_record", _PLACE, _U64, _U64, _PLACE)
-next_of = _call(_slow, "p21_next_of", _PLACE, _U64, _U32, _U64, _PLACE)
-next_naming = _call(_slow, "p21_next_naming", _PLACE, _U64, _U64, _PLACE)
+next_of = _call(_slow, "p21_next_of", _PLACE)
+next_naming = _call(_slow, "p21_next_naming", _PLACE)
 value = _call(_quick, "p21_value", _PLACE, _U64)
 
 _clear = _slow.p21_clear

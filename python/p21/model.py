@@ -71,7 +71,7 @@ class Model:
         entity = self._entity(name)
         if entity is None:
             raise RuntimeError("the schema has no entity %s" % name)
-        return self._all(library.next_of, entity, int(include_subtypes))
+        return self._all(library.next_of, library.u64(entity), library.u32(int(include_subtypes)))
 
     def by_guid(self, guid: str) -> Instance:
         """The instance with this GlobalId; RuntimeError if there is none."""
@@ -86,7 +86,7 @@ class Model:
 
     def inverse(self, of: Union[int, Instance]) -> List[Instance]:
         """The instances that refer to this one, by itself or by its number."""
-        return self._all(library.next_naming, int(of.id if isinstance(of, Instance) else of))
+        return self._all(library.next_naming, library.u64(int(of.id if isinstance(of, Instance) else of)))
 
     get_inverse = inverse
 
@@ -118,12 +118,12 @@ class Model:
         raise OutOfMemory("a value") if code == library.MEMORY else LookupError("there is no such value")
 
     def _all(self, call, *words) -> List[Instance]:
-        found, handle, at, number = [], self._open(), room.number_at, room.number
-        place = 0
-        while call(handle, *words, place, at) == library.OK:
-            place = number.value
-            found.append(self._at(place))
-            place += 1
+        """The instances to whose places a call leads, each of which it writes over the one to begin at."""
+        found, place = [], ctypes.c_uint64()
+        arguments = (self._open(), *words, place, ctypes.byref(place))
+        while call(*arguments) == library.OK:
+            found.append(self._at(place.value))
+            place.value += 1
         return found
 
     def _entity(self, name: str) -> Optional[int]:
