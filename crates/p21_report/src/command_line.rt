@@ -22,7 +22,8 @@ use std::time::Clock;
 
 /// The program `p21check [OPTIONS] SCHEMA FILE`: reads the schema, checks the file against it by `--lanes` worker threads (4) of this
 /// `--capacity` (256), and writes the report to `output`; with `--all` that of every fault. With `--distinct` a SET or a LIST OF UNIQUE
-/// that names one instance twice is a fault; with `--rules` so is an instance that is not unique by a rule UNIQUE of the schema. With `--explain` at most so many faults (20) are then explained on `errors`, and a device
+/// that names one instance twice is a fault; with `--rules` so is an instance that breaks a rule UNIQUE or
+/// an INVERSE attribute of the schema. With `--explain` at most so many faults (20) are then explained on `errors`, and a device
 /// that failed, where there is memory; with `--format json` as objects.
 ///
 /// `words` are the arguments of the command line, the program's own name first; FILE `-` is `input`, and `rt` opens the others,

@@ -18,7 +18,7 @@ pub(crate) struct Wanted<'a> {
     pub(crate) file: &'a str,
     /// Whether every fault is reported, or only the first.
     pub(crate) all: bool,
-    /// Whether the rules UNIQUE of the schema are checked too.
+    /// Whether the rules UNIQUE and the INVERSE attributes of the schema are checked too.
     pub(crate) ruled: bool,
     pub(crate) options: Options,
 }
@@ -199,7 +199,7 @@ fn all<'a>(alloc: Global) -> Arg<'a> {
 
 fn rules<'a>(alloc: Global) -> Arg<'a> {
     flag(alloc, "rules").help(
-        "also report instances that are not unique by a rule UNIQUE of the schema",
+        "also report instances that break a rule UNIQUE or an INVERSE attribute of the schema",
     )
 }
 
