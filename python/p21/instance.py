@@ -118,6 +118,7 @@ class Instance:
 
     __slots__ = ("_model", "_place")
     _attributes: Dict[str, Callable[["Instance"], Value]] = {}
+    _readers: Tuple[Callable[["Instance"], Value], ...] = ()
 
     def __init__(self, model, place: int):
         self._model, self._place = model, place
@@ -141,8 +142,8 @@ class Instance:
 
     def __getitem__(self, key: Union[int, str]) -> Value:
         """An attribute by its place, or by its name."""
-        name = key if isinstance(key, str) else self.attribute_name(key)
-        return self._attributes[name](self)
+        read = self._attributes[key] if isinstance(key, str) else self._readers[key]
+        return read(self)
 
     def __len__(self) -> int:
         """How many attributes it has."""
@@ -177,4 +178,4 @@ def class_of(name: str, places: Dict[str, Tuple[int, int]]) -> Type[Instance]:
     """The class of the instances of an entity, by the record and the position of each attribute."""
     attributes = {it: _reader(*place) for it, place in places.items()}
     named = {it: property(read) for it, read in attributes.items() if not hasattr(Instance, it)}
-    return type(name, (Instance,), {"__slots__": (), "_attributes": attributes, **named})
+    return type(name, (Instance,), {"__slots__": (), "_attributes": attributes, "_readers": tuple(attributes.values()), **named})
