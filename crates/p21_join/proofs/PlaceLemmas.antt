@@ -105,4 +105,3 @@ nothing_for_zero number e = ap place_by e
 pub something_else : (number : ℕ) → number ≢ 0 → (place : ℕ) × (place_by number ≡ Some place)
 something_else zero some = absurd (some refl)
 something_else (suc place) some = (place, refl)
-
