@@ -70,7 +70,7 @@ pub(crate) fn launch<
     ensures results { IfOk result (λ flight. (taken flight.results ≡ []) × (took_end flight.results ≡ false)) }
     ensures work { IfOk result (λ flight. flight.worker.promise.work.value ≡ work.now) }
 {
-    let rest = Rest::new(alloc)?;
+    let rest = Rest::new(alloc, dealer.patience())?;
     let waker = rest.waker()?;
     let dealer = dealer.waker()?;
     let (pieces_in, pieces_out) = lane(alloc, capacity)?;

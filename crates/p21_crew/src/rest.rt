@@ -5,14 +5,25 @@ use std::alloc::{AllocError, Global};
 use std::hint;
 use std::sync::Wait;
 
-/// How often a thread that has nothing to do looks again, two pauses of the processor apart, before it sleeps. To be woken costs both
-/// sides more than many looks.
-const LOOKS: u32 = 512;
+/// How often a thread that has nothing to do looks again before it sleeps, two pauses of the processor apart.
+#[derive(Clone, Copy)]
+pub(crate) struct Patience {
+    looks: u32,
+}
+
+impl Patience {
+    /// That of a thread with a processor of its own: for longer than a list is read, since to be woken costs both sides more than many looks.
+    pub(crate) const LONG: Patience = Patience { looks: 2048 };
+
+    /// That of a thread whose processor others of the crew may want.
+    pub(crate) const SHORT: Patience = Patience { looks: 32 };
+}
 
 /// Where a thread waits that has nothing to do: it looks again for some microseconds, and then sleeps until it is woken. It never yields
 /// its processor: where other programs want it, it would come back only after their whole turn, and whoever sleeps is woken sooner.
 #[derive(Drop)]
 pub(crate) struct Rest {
+    patience: Patience,
     /// How often it looked in vain.
     looks: u32,
     parker: Parker,
@@ -26,11 +37,17 @@ pub(crate) struct Waker {
 
 impl Rest {
     /// A place to rest at. An error means that memory was refused.
-    pub(crate) fn new(alloc: Global) -> Result<Rest, AllocError> {
+    pub(crate) fn new(alloc: Global, patience: Patience) -> Result<Rest, AllocError> {
         Ok(Rest {
+            patience,
             looks: 0,
             parker: Parker::new(alloc)?,
         })
+    }
+
+    /// How often whoever rests here looks again.
+    pub(crate) fn patience(&self) -> Patience {
+        self.patience
     }
 
     /// What wakes whoever rests here.
@@ -42,14 +59,19 @@ impl Rest {
 
     /// Whether it has looked so often in vain that it sleeps where nothing is done this time either.
     pub(crate) fn is_long(&self) -> bool {
-        self.looks >= LOOKS
+        self.looks >= self.patience.looks
+    }
+
+    /// Something was done.
+    pub(crate) fn interrupt(&mut self) {
+        self.looks = 0;
     }
 
     /// Rests where nothing was done: the longer so, the longer.
     pub(crate) fn rest_unless<R: Wait>(&mut self, rt: &R, busy: bool) {
         if busy {
-            self.looks = 0;
-        } else if self.looks < LOOKS {
+            self.interrupt();
+        } else if self.looks < self.patience.looks {
             hint::spin_loop();
             hint::spin_loop();
             self.looks += 1;

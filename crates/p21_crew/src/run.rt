@@ -10,7 +10,7 @@ use crate::flight::{Flight, launch};
 use crate::gate::Gate;
 use crate::gathers::Gathers;
 use crate::landing::land_all;
-use crate::rest::Rest;
+use crate::rest::{Patience, Rest};
 use crate::returned::Returned;
 use crate::work::Work;
 use p21_desk::{Desk, LaneCount};
@@ -111,7 +111,8 @@ fn run_in<
     let together = most_together(capacity);
     let batch = Vec::with_capacity(alloc, together)?;
     let desk = Desk::new(alloc, lanes, capacity)?;
-    let mut rest = Rest::new(alloc)?;
+    let at_first = lanes_at_first(rt);
+    let mut rest = Rest::new(alloc, patience(rt, lanes.get().min(at_first)))?;
     let flights = launch_all(
         scope, rt, alloc, work, gate, lanes, capacity, together, &rest,
     )?;
@@ -125,7 +126,7 @@ fn run_in<
         tail: None,
         gatherer,
     };
-    let dealt = dealer.run(rt, &mut rest, lanes_at_first(rt));
+    let dealt = dealer.run(rt, &mut rest, at_first);
     let Dealer {
         flights,
         desk,
@@ -157,9 +158,18 @@ fn lanes_at_first<R: Threads>(rt: &R) -> u32 {
     }
 }
 
-/// How many pieces are dealt at once, and how many results are sent together.
+/// How long threads look again before they sleep, where the workers of so many lanes and the dealer are awake.
+fn patience<R: Threads>(rt: &R, awake: u32) -> Patience {
+    match thread::available_parallelism(rt) {
+        Ok(processors) if processors.get() > awake as usize => Patience::LONG,
+        _ => Patience::SHORT,
+    }
+}
+
+/// How many pieces are dealt at once, and how many results are sent together: half the capacity, so that a worker reads one list while the
+/// results of the other are gathered, and is seldom woken.
 fn most_together(capacity: Capacity) -> usize {
-    (capacity.get() as usize / 4).max(1)
+    (capacity.get() as usize / 2).max(1)
 }
 
 /// Starts the workers of all lanes. Where one is refused, those that were started are landed.

@@ -49,7 +49,7 @@ pub(crate) fn work_lane<P: Drop, O: Drop, K: Drop, W: Work<P, Out = O, Kept = K>
                 gate.enter(lane, work.number(&piece));
                 let answer = read_piece(alloc, work, &mut kept, has_memory, piece);
                 has_memory = matches!(answer, Returned::Value(_));
-                rest.rest_unless(rt, true);
+                rest.interrupt();
                 outbox.put(rt, answer)
             }
             Taken::Nothing => {
