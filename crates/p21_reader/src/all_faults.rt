@@ -24,7 +24,6 @@ use crate::pieces::Pieces;
 use crate::preface::checked_preface;
 use crate::reading::ReadError;
 use crate::stop::Stop;
-use crossbeam_utils::CachePadded;
 use p21_crew::{Gate, Returned};
 use p21_desk::LaneCount;
 use p21_join::{Model, ModelEntities};
@@ -77,13 +76,12 @@ pub fn read_all_faults<'a, G: Gate + Sync, R: Threads + Wait + Sync>(
         Err(stop) => return AllFaults::stopped(alloc, stop),
     };
     let pieces = Pieces::new(file, preface.data_at as usize);
-    // The workers read it for each piece, while this thread writes what stands beside it.
-    let work = CachePadded::new(Judging {
+    let work = Judging {
         judge: &Locally,
         schema,
-    });
+    };
     let gathering = FaultGathering::new(alloc, schema);
-    let Ok(run) = judge_pieces(rt, alloc, &*work, gate, pieces, gathering, lanes, capacity) else {
+    let Ok(run) = judge_pieces(rt, alloc, &work, gate, pieces, gathering, lanes, capacity) else {
         return Err(ReadError::Memory);
     };
     gate.close();

@@ -21,7 +21,6 @@ use crate::laws::values_give_reading;
 use crate::pieces::Pieces;
 use crate::preface::checked_preface;
 use crate::reading::{ReadError, Reading};
-use crossbeam_utils::CachePadded;
 use p21_crew::{Gate, run_crew};
 use p21_desk::LaneCount;
 use p21_join::{Model, ModelEntities};
@@ -110,10 +109,9 @@ fn read_pieces<'a, E: EntityJudge + Sync, G: Gate + Sync, R: Threads + Wait + Sy
         Err(stop) => return Reading::stopped(alloc, stop),
     };
     let pieces = Pieces::new(file, preface.data_at as usize);
-    // The workers read it for each piece, while this thread writes what stands beside it.
-    let work = CachePadded::new(Judging { judge, schema });
+    let work = Judging { judge, schema };
     let gathering = Gathering::new(alloc, schema);
-    let Ok(run) = run_crew(rt, alloc, &*work, gate, pieces, gathering, lanes, capacity) else {
+    let Ok(run) = run_crew(rt, alloc, &work, gate, pieces, gathering, lanes, capacity) else {
         return Err(ReadError::Memory);
     };
     gate.close();
