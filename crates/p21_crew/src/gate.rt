@@ -3,7 +3,7 @@
 /// What a worker passes before it reads a piece. The workers share it by reference.
 ///
 /// A gate may wait, but for no piece that can be dealt only when results of this worker are joined: it may have kept as many as it sends
-/// together, half the capacity.
+/// together, a quarter of the capacity.
 pub trait Gate {
     /// Called by the worker of a lane before it reads the piece of a number.
     fn enter(&self, lane: u32, number: u64);

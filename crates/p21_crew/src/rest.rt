@@ -12,8 +12,8 @@ pub(crate) struct Patience {
 }
 
 impl Patience {
-    /// That of a thread with a processor of its own: for longer than a list is read, since to be woken costs both sides more than many looks.
-    pub(crate) const LONG: Patience = Patience { looks: 2048 };
+    /// That of a thread with a processor of its own: to be woken costs both sides more than many looks.
+    pub(crate) const LONG: Patience = Patience { looks: 512 };
 
     /// That of a thread whose processor others of the crew may want.
     pub(crate) const SHORT: Patience = Patience { looks: 32 };

@@ -166,10 +166,9 @@ fn patience<R: Threads>(rt: &R, awake: u32) -> Patience {
     }
 }
 
-/// How many pieces are dealt at once, and how many results are sent together: half the capacity, so that a worker reads one list while the
-/// results of the other are gathered, and is seldom woken.
+/// How many pieces are dealt at once, and how many results are sent together.
 fn most_together(capacity: Capacity) -> usize {
-    (capacity.get() as usize / 2).max(1)
+    (capacity.get() as usize / 4).max(1)
 }
 
 /// Starts the workers of all lanes. Where one is refused, those that were started are landed.
