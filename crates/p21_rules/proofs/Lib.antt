@@ -1,4 +1,5 @@
 pub mod CodeLemmas
+pub mod NumberLemmas
 pub mod ParameterLemmas
 pub mod ValueLemmas
 pub mod FirstLemmas

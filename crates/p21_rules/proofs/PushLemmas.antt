@@ -3,22 +3,26 @@ use Rattle.std.proofs.Common.{◌≡◌, ℕ, Bool, true, false, List, [], ◌�
 use Rattle.p21_text.specs.Items.{Item, ItemsOf}
 use Rattle.p21_tree.specs.declared.params.Param.{Param, fold-roll-Param}
 use Rattle.p21_tree.specs.declared.params.Param.TheOpen as level
-use Rattle.p21_tree.specs.declared.params.Param.TheVariants.{Int, Str, Enumeration, Ref, rolls-Int, rolls-Str, rolls-Enumeration, rolls-Ref}
+use Rattle.p21_tree.specs.declared.params.Param.TheVariants.{Int, Real, Str, Enumeration, Ref, rolls-Int, rolls-Real, rolls-Str, rolls-Enumeration, rolls-Ref}
 use Rattle.p21_tree.specs.declared.params.Param.TheViews.{Typed, rolls-Typed}
 use Rattle.p21_tree.specs.Plain.{plain, plain_level}
 use Rattle.p21_tree.specs.Tree.{Tree}
 use Rattle.p21_tree.specs.Tree as tree
 use Rattle.p21_rules.specs.Code.{bytes_code, items_code, number_code, value_code}
-use Rattle.p21_rules.specs.Firsts.{IsPushed}
+use Rattle.p21_rules.specs.Pushed.{IsPushed, IsRealPushed}
 use Rattle.p21_rules.specs.Means.{Means}
 use Rattle.p21_rules.specs.Means as means
-use Rattle.p21_rules.specs.Value.{Value, numeral}
+use Rattle.p21_rules.specs.Number.{integer_of, real_of, IsNear}
+use Rattle.p21_rules.specs.Value.{Value}
 use Rattle.p21_rules.specs.Value as value
 
 -- ---- a parameter as a plain tree
 
 pub plain_int : {p : Param} (v : Bor (List ℕ)) → p ≡ Int v → plain p ≡ tree.int v.now
 plain_int {p} v e = ap plain e ∙ ap plain (sym (rolls-Int v)) ∙ fold-roll-Param Tree plain_level (level.Int v)
+
+pub plain_real : {p : Param} (v : Bor (List ℕ)) → p ≡ Real v → plain p ≡ tree.real v.now
+plain_real {p} v e = ap plain e ∙ ap plain (sym (rolls-Real v)) ∙ fold-roll-Param Tree plain_level (level.Real v)
 
 pub plain_str : {p : Param} (v : Bor (List ℕ)) → p ≡ Str v → plain p ≡ tree.str v.now
 plain_str {p} v e = ap plain e ∙ ap plain (sym (rolls-Str v)) ∙ fold-roll-Param Tree plain_level (level.Str v)
@@ -41,8 +45,15 @@ pushed t u v tag rest old mid new e m code first behind = (
   behind ∙ ap (λ l. l ++ rest) first ∙ append_assoc old (tag ∷ []) rest ∙ ap (λ l. old ++ l) (sym code),
 )
 
-pub integer_pushed : (t : Tree) (s old mid new : List ℕ) → t ≡ tree.int s → mid ≡ old ++ 1 ∷ [] → new ≡ mid ++ bytes_code (numeral s) → IsPushed t old new true
-integer_pushed t s old mid new e first behind = pushed t (tree.int s) (value.integer (numeral s)) 1 (bytes_code (numeral s)) old mid new e (means.integer refl) refl first behind
+pub integer_pushed : (t : Tree) (s old new : List ℕ) → t ≡ tree.int s → new ≡ old ++ value_code (integer_of s) → IsPushed t old new true
+integer_pushed t s old new e code = (integer_of s, subst (λ (x : Tree). Means x (integer_of s)) (sym e) means.integer, code)
+
+near_of : (s : List ℕ) (v : Value) → Means (tree.real s) v → IsNear s
+near_of s _ (means.real n) = n
+
+pub real_pushed : (t : Tree) (s old new : List ℕ) (done : Bool) → t ≡ tree.real s → IsRealPushed s old new done → IsPushed t old new done
+real_pushed t s old new true e (n, code) = (real_of s, subst (λ (x : Tree). Means x (real_of s)) (sym e) (means.real n), code)
+real_pushed t s old new false e far = λ v m. far (near_of s v (subst (λ (x : Tree). Means x v) e m))
 
 pub text_pushed : (t : Tree) (s : List ℕ) (xs : List Item) (old mid new : List ℕ) → t ≡ tree.str s → ItemsOf s xs → mid ≡ old ++ 2 ∷ [] → new ≡ mid ++ items_code xs → IsPushed t old new true
 text_pushed t s xs old mid new e h first behind = pushed t (tree.str s) (value.text xs) 2 (items_code xs) old mid new e (means.text h) refl first behind

@@ -9,11 +9,11 @@ use Rattle.p21_tree.specs.Sentence.{Instance}
 use Rattle.p21_schema.specs.declared.ids.AttrId.{AttrId}
 use Rattle.p21_schema.specs.Row.{attribute_at}
 use Rattle.p21_rules.specs.Code.{value_code, values_code}
-use Rattle.p21_rules.specs.Firsts.{IsPushed}
+use Rattle.p21_rules.specs.Pushed.{IsPushed}
 use Rattle.p21_rules.specs.Means.{Means}
 use Rattle.p21_rules.specs.Means as means
 use Rattle.p21_rules.specs.Parameter.{HasValue, HasValues, IsParameterIn}
-use Rattle.p21_rules.specs.Value.{Value, integer, text, typed}
+use Rattle.p21_rules.specs.Value.{Value, text, typed}
 use Rattle.p21_rules.proofs.ParameterLemmas.{parameter_once, zip_more}
 
 -- a body has one list of items at most
@@ -21,7 +21,8 @@ abbrev pub OneItems : Type 0
 OneItems = (raw : List ℕ) (xs ys : List Item) → ItemsOf raw xs → ItemsOf raw ys → xs ≡ ys
 
 pub value_once : OneItems → (t : Tree) (v w : Value) → Means t v → Means t w → v ≡ w
-value_once one _ _ _ (means.integer e) (means.integer f) = ap integer (e ∙ sym f)
+value_once one _ _ _ means.integer means.integer = refl
+value_once one _ _ _ (means.real p) (means.real q) = refl
 value_once one _ _ _ (means.text {s} {xs} p) (means.text {xs = ys} q) = ap text (one s xs ys p q)
 value_once one _ _ _ means.item means.item = refl
 value_once one _ _ _ means.instance means.instance = refl

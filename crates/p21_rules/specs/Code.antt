@@ -1,7 +1,7 @@
 -- How values are written one after the other, so that different ones differ: no value's bytes begin with those of another.
 use Rattle.std.specs.Prelude.{ℕ, ◌+◌, ◌/◌, ◌%◌, ◌^◌, nat_lt, List, [], ◌∷◌, ◌++◌, map, if◌then◌else◌}
 use Rattle.p21_text.specs.Items.{Item, scalar, page}
-use Rattle.p21_rules.specs.Value.{Value, integer, text, item, instance, typed}
+use Rattle.p21_rules.specs.Value.{Value, number, text, item, instance, typed}
 
 -- a number below 2^24 by three bytes
 abbrev pub triple : ℕ → List ℕ
@@ -29,7 +29,7 @@ abbrev pub bytes_code : List ℕ → List ℕ
 bytes_code bs = items_code (map scalar bs)
 
 abbrev pub value_code : Value → List ℕ
-value_code (integer ds) = 1 ∷ bytes_code ds
+value_code (number ds up down) = 1 ∷ (bytes_code ds ++ (number_code up ++ number_code down))
 value_code (text xs) = 2 ∷ items_code xs
 value_code (item s) = 3 ∷ bytes_code s
 value_code (instance n) = 4 ∷ number_code n

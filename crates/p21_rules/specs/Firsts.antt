@@ -4,20 +4,13 @@ use Rattle.std.specs.Cmp.Lexicographic.{pointwise}
 use Rattle.indexmap.specs.IndexMap.{IndexMap, get}
 use Rattle.p21_express.specs.Schema.{Schema}
 use Rattle.p21_express.specs.WellFormed.{Origin}
-use Rattle.p21_tree.specs.Tree.{Tree}
 use Rattle.p21_tree.specs.Sentence.{Instance}
 use Rattle.p21_rules.specs.declared.rule.UniqueRule.{UniqueRule}
 use Rattle.p21_rules.specs.declared.unique.NotUnique.{NotUnique}
-use Rattle.p21_rules.specs.Code.{key_code, value_code, values_code}
-use Rattle.p21_rules.specs.Means.{Means}
+use Rattle.p21_rules.specs.Code.{key_code, values_code}
 use Rattle.p21_rules.specs.NotUnique.{AreFaultsAt, Breaks, Keeps, IsFirstOrNone, IsUnder}
 use Rattle.p21_rules.specs.Parameter.{HasValues}
 use Rattle.p21_rules.specs.Value.{Value}
-
--- the parameter's value was added, or the parameter has none
-abbrev pub IsPushed : Tree → List ℕ → List ℕ → Bool → Type 0
-IsPushed t old new true = (v : Value) × Means t v × (new ≡ old ++ value_code v)
-IsPushed t old new false = (v : Value) → ¬ (Means t v)
 
 -- the values of the attributes were added, or the instance does not have all
 abbrev pub ArePushed : Schema → Instance → List Origin → List ℕ → List ℕ → Bool → Type 0

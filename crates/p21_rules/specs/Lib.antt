@@ -1,7 +1,9 @@
 pub mod Value
+pub mod Number
 pub mod Means
 pub mod Named
 pub mod Code
+pub mod Pushed
 pub mod Parameter
 pub mod NotUnique
 pub mod Firsts

@@ -1,17 +1,12 @@
-//! Values as bytes.
+//! Numbers and texts as bytes.
 
-ghost use Rattle.std.specs.Prelude.{◌≡◌, ◌<◌, ◌^◌, ◌++◌, IfOk, OnOk};
+ghost use Rattle.std.specs.Prelude.{◌≡◌, ◌<◌, ◌^◌, ◌++◌, List, ℕ, OnOk};
 ghost use Rattle.p21_text.specs.Items.{page};
 ghost use Rattle.p21_text.specs.Meanings.{item_of};
 ghost use Rattle.p21_text.specs.StringItems.{items_left};
-ghost use Rattle.p21_tree.specs.Bodies.{HasBodies};
-ghost use Rattle.p21_tree.specs.Plain.{plain};
 ghost use Rattle.p21_rules.specs.Code.{bytes_code, item_code, items_code, number_code, scalar_code, triple};
-ghost use Rattle.p21_rules.specs.Firsts.{IsPushed};
-ghost use Rattle.p21_rules.specs.Value.{behind_zeros, negative, numeral};
 
 use p21_text::{StrItem, StrItems, items};
-use p21_tree::Param;
 use std::alloc::AllocError;
 
 /// Adds a number by three bytes.
@@ -36,7 +31,7 @@ pub(crate) fn push_number(code: &mut Vec<u8>, number: u64) -> Result<(), AllocEr
 
 /// Adds a character by its number.
 #[tactic(auto, unfolding(crate::specs::Code::scalar_code))]
-fn push_scalar(code: &mut Vec<u8>, number: u32) -> Result<(), AllocError>
+pub(crate) fn push_scalar(code: &mut Vec<u8>, number: u32) -> Result<(), AllocError>
     requires { number < 2 ^ 24 }
     ensures { OnOk result (code.new.items ≡ code.old.items ++ scalar_code number) }
 {
@@ -69,7 +64,7 @@ fn push_page(code: &mut Vec<u8>, letter: u8, number: u8) -> Result<(), AllocErro
 }
 
 /// Adds the items of a string, and their end.
-fn push_items(code: &mut Vec<u8>, mut items: StrItems<'_>) -> Result<(), AllocError>
+pub(crate) fn push_items(code: &mut Vec<u8>, mut items: StrItems<'_>) -> Result<(), AllocError>
     ensures { OnOk result (code.new.items ≡ code.old.items ++ items_code (items_left items.entry)) }
 {
     while let Some(item) = items.next() {
@@ -80,7 +75,7 @@ fn push_items(code: &mut Vec<u8>, mut items: StrItems<'_>) -> Result<(), AllocEr
 }
 
 /// Adds bytes, and their end.
-fn push_bytes(code: &mut Vec<u8>, bytes: &[u8]) -> Result<(), AllocError>
+pub(crate) fn push_bytes(code: &mut Vec<u8>, bytes: &[u8]) -> Result<(), AllocError>
     ensures { OnOk result (code.new.items ≡ code.old.items ++ bytes_code bytes.now) }
 {
     for byte in bytes {
@@ -90,74 +85,12 @@ fn push_bytes(code: &mut Vec<u8>, bytes: &[u8]) -> Result<(), AllocError>
     Ok(())
 }
 
-/// Digits from the first that is not 0 on.
-fn behind_zeros(digits: &[u8]) -> &[u8]
-    ensures { result.now ≡ behind_zeros digits.entry.now }
+/// Adds bytes without an end, in front of others.
+pub(crate) fn push_front(code: &mut Vec<u8>, bytes: &[u8]) -> Result<(), AllocError>
+    ensures { (rest : List ℕ) → OnOk result (code.new.items ++ bytes_code rest ≡ code.old.items ++ bytes_code (bytes.now ++ rest)) }
 {
-    let mut rest = digits;
-    while !rest.is_empty() && rest[0] == b'0' {
-        rest = &rest[1..];
+    for byte in bytes {
+        push_scalar(code, u32::from(*byte))?;
     }
-    rest
-}
-
-/// Adds an integer by its sign and its digits.
-fn push_integer(code: &mut Vec<u8>, text: &[u8]) -> Result<(), AllocError>
-    ensures { OnOk result (code.new.items ≡ code.old.items ++ bytes_code (numeral text.now)) }
-{
-    let Some((first, digits)) = text.split_first() else {
-        return push_bytes(code, text);
-    };
-    if *first == b'-' {
-        return push_negative(code, behind_zeros(digits));
-    }
-    if *first == b'+' {
-        return push_bytes(code, behind_zeros(digits));
-    }
-    push_bytes(code, behind_zeros(text))
-}
-
-/// Adds `-` and digits; without digits neither.
-fn push_negative(code: &mut Vec<u8>, digits: &[u8]) -> Result<(), AllocError>
-    ensures { OnOk result (code.new.items ≡ code.old.items ++ bytes_code (negative digits.now)) }
-{
-    if !digits.is_empty() {
-        push_scalar(code, 45)?;
-    }
-    push_bytes(code, digits)
-}
-
-/// Adds the value of a parameter, and answers whether it is one that is compared. If not, what was added means nothing.
-pub(crate) fn push_value(code: &mut Vec<u8>, param: &Param<'_>) -> Result<bool, AllocError>
-    requires { HasBodies (plain param.now) }
-    ensures { IfOk result (IsPushed (plain param.now) code.old.items code.new.items) }
-{
-    match param {
-        Param::Int(text) => {
-            code.push(1)?;
-            push_integer(code, text)?;
-            Ok(true)
-        }
-        Param::Str(body) => {
-            code.push(2)?;
-            push_items(code, items(body))?;
-            Ok(true)
-        }
-        Param::Enumeration(name) => {
-            code.push(3)?;
-            push_bytes(code, name)?;
-            Ok(true)
-        }
-        Param::Ref(name) => {
-            code.push(4)?;
-            push_number(code, *name)?;
-            Ok(true)
-        }
-        Param::Typed(keyword, inner) => {
-            code.push(5)?;
-            push_bytes(code, keyword)?;
-            push_value(code, inner)
-        }
-        _ => Ok(false),
-    }
+    Ok(())
 }

@@ -8,8 +8,10 @@ mod entities;
 mod firsts;
 mod inverse;
 mod mentions;
+mod number;
 mod rule;
 mod unique;
+mod value;
 
 pub use inverse::{InverseCount, all_inverse_counts};
 pub use rule::{InverseRule, UniqueRule};

@@ -11,10 +11,11 @@ ghost use Rattle.p21_rules.specs.Named.{AreNamed};
 ghost use Rattle.p21_rules.specs.NotUnique.{AreFaults, AreRulesOf, IsRuleOf};
 
 use crate::attributes::parameter;
-use crate::code::{push_number, push_value};
+use crate::code::push_number;
 use crate::entities::{is_of, name_entities};
 use crate::firsts::{Firsts, first_of, no_firsts};
 use crate::rule::UniqueRule;
+use crate::value::push_value;
 use p21_schema::{AttrId, EntityId, Schema};
 use p21_text::items_are_unique;
 use p21_tree::RawInstance;

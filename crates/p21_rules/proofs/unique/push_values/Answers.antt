@@ -2,7 +2,7 @@ use Rattle.std.proofs.Common.{subst}
 use Rattle.p21_tree.specs.Plain.{plain}
 use Rattle.p21_tree.specs.Tree.{Tree}
 use Rattle.p21_tree.specs.Views.{plain_instance}
-use Rattle.p21_rules.specs.Firsts.{IsPushed}
+use Rattle.p21_rules.specs.Pushed.{IsPushed}
 use Rattle.p21_rules.specs.Means.{Means}
 use Rattle.p21_rules.proofs.ParameterLemmas.{parameter_once}
 use Rattle.p21_rules.proofs.ValueLemmas.{value_added, value_there}

@@ -1,6 +1,6 @@
 use Rattle.std.proofs.Common.{◌≡◌, length}
-use Rattle.p21_rules.specs.Value.{behind_zeros}
-use Rattle.p21_rules.proofs.code.behind_zeros.Given as goal
+use Rattle.p21_rules.specs.Number.{behind_zeros}
+use Rattle.p21_rules.proofs.number.behind_zeros.Given as goal
 
 abbrev pub invariant-loop-rest : goal.invariant-loop-rest
 invariant-loop-rest l = behind_zeros l.rest ≡ behind_zeros l.digits
