@@ -2,12 +2,14 @@
 than the program's."""
 
 import collections
+import decimal
 import re
 
 from part21 import NAME, Schema
 
 TOKEN = re.compile(r"""\s+|/\*.*?\*/|(?P<string>'(?:[^']|'')*')|(?P<binary>"[^"]*")|(?P<name>\#\d+)|(?P<item>\.[A-Z_][A-Z0-9_]*\.)|(?P<real>[+-]?\d+\.\d*(?:E[+-]?\d+)?)|(?P<integer>[+-]?\d+)|(?P<keyword>!?[A-Z_][A-Z0-9_-]*)|(?P<symbol>.)""", re.DOTALL)
 PASSED = object()
+FAR = 10 ** 17
 
 
 def characters(body):
@@ -43,6 +45,17 @@ def characters(body):
             items.append(ord(rest[0]))
             at += 1
     return tuple(items)
+
+
+def number(text):
+    """The value of an integer or a real, or that its exponent is too far from 0."""
+    exponent = re.search(r'E[+-]?(\d+)$', text)
+    return PASSED if exponent and int(exponent[1]) >= FAR else ('number', decimal.Decimal(text))
+
+
+def bits(body):
+    """The bits of a binary."""
+    return ''.join(format(int(it, 16), '04b') for it in body[1:])[int(body[0]):]
 
 
 class Reader:
@@ -93,8 +106,10 @@ class Reader:
         kind, text, _ = self.take()
         if kind == 'string':
             return 'string', characters(text[1:-1])
-        if kind == 'integer':
-            return 'integer', int(text)
+        if kind in ('integer', 'real'):
+            return number(text)
+        if kind == 'binary':
+            return 'binary', bits(text[1:-1])
         if kind == 'item':
             return 'item', text
         if kind == 'name':
@@ -108,10 +123,16 @@ class Reader:
 
 
 def compared(value):
-    """A value that is compared, or that it is none."""
-    if value is PASSED or value[0] == 'list':
+    """A value as it is compared, or that it is none."""
+    if value is PASSED:
         return PASSED
-    return PASSED if value[0] == 'typed' and compared(value[2]) is PASSED else value
+    if value[0] == 'list':
+        elements = tuple(compared(it) for it in value[1])
+        return PASSED if PASSED in elements else ('list', elements)
+    if value[0] == 'typed':
+        inner = compared(value[2])
+        return PASSED if inner is PASSED else ('typed', value[1], inner)
+    return value
 
 
 def names(value):

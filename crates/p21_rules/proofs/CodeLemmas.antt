@@ -3,8 +3,8 @@ use Rattle.std.proofs.Common.{◌≡◌, ◌⊎◌, ◌<◌, ◌+◌, ◌/◌, �
 use Rattle.std.specs.Prelude.{nat_lt}
 use Rattle.std.proofs.lemmas.Bool.{cases_Bool, ltb-true}
 use Rattle.p21_text.specs.Items.{Item, scalar, page}
-use Rattle.p21_rules.specs.Code.{triple, number_code, scalar_code, item_code, items_code, bytes_code, value_code, values_code, key_code}
-use Rattle.p21_rules.specs.Value.{Value, number, text, item, instance, typed}
+use Rattle.p21_rules.specs.Code.{triple, number_code, scalar_code, item_code, items_code, bytes_code, value_code, elements_code, values_code, key_code}
+use Rattle.p21_rules.specs.Value.{Value, Values, number, text, item, instance, binary, list, typed, nil, cons}
 
 triple_once : (m n : ℕ) → m / 65536 ≡ n / 65536 → m / 256 % 256 ≡ n / 256 % 256 → m % 256 ≡ n % 256 → m ≡ n
 triple_once m n high mid low = omega arith
@@ -124,32 +124,58 @@ bytes_split xs ys a b e = let r = items_split (map scalar xs) (map scalar ys) a 
 behind_tag : (t u : ℕ) (a b : List ℕ) → t ∷ a ≡ u ∷ b → a ≡ b
 behind_tag t u a b e = cc
 
-value_split : (v w : Value) (a b : List ℕ) → value_code v ++ a ≡ value_code w ++ b → (v ≡ w) × (a ≡ b)
-value_split (number s h l) (number t i k) a b e =
-    let behind = behind_tag 1 1 ((bytes_code s ++ (number_code h ++ number_code l)) ++ a) ((bytes_code t ++ (number_code i ++ number_code k)) ++ b) e in
-    let digits = bytes_split s t ((number_code h ++ number_code l) ++ a) ((number_code i ++ number_code k) ++ b) (sym (append_assoc (bytes_code s) (number_code h ++ number_code l) a) ∙ behind ∙ append_assoc (bytes_code t) (number_code i ++ number_code k) b) in
-    let up = number_split h i (number_code l ++ a) (number_code k ++ b) (sym (append_assoc (number_code h) (number_code l) a) ∙ digits.1 ∙ append_assoc (number_code i) (number_code k) b) in
-    let down = number_split l k a b up.1 in
-    (ap (λ u. number u h l) digits.0 ∙ ap (λ u. number t u l) up.0 ∙ ap (number t i) down.0, down.1)
-value_split (text s) (text t) a b e = let r = items_split s t a b (behind_tag 2 2 (items_code s ++ a) (items_code t ++ b) e) in (ap text r.0, r.1)
-value_split (item s) (item t) a b e = let r = bytes_split s t a b (behind_tag 3 3 (bytes_code s ++ a) (bytes_code t ++ b) e) in (ap item r.0, r.1)
-value_split (instance m) (instance n) a b e = let r = number_split m n a b (behind_tag 4 4 (number_code m ++ a) (number_code n ++ b) e) in (ap instance r.0, r.1)
-value_split (typed k v) (typed l w) a b e =
-    let behind = behind_tag 5 5 ((bytes_code k ++ value_code v) ++ a) ((bytes_code l ++ value_code w) ++ b) e in
-    let first = bytes_split k l (value_code v ++ a) (value_code w ++ b) (sym (append_assoc (bytes_code k) (value_code v) a) ∙ behind ∙ append_assoc (bytes_code l) (value_code w) b) in
-    let rest = value_split v w a b first.1 in
-    (ap (λ u. typed u v) first.0 ∙ ap (typed l) rest.0, rest.1)
-value_split (number s h l) w a b e = cc
-value_split (text s) w a b e = cc
-value_split (item s) w a b e = cc
-value_split (instance m) w a b e = cc
-value_split (typed k v) w a b e = cc
+-- no value begins as the end of a list
+no_end : (v : Value) (a b : List ℕ) → value_code v ++ a ≡ 0 ∷ b → ⊥
+no_end (number s h l) a b e = let one : ◌≡◌ {A = ℕ} 1 0 = cc in omega (arith, one)
+no_end (text s) a b e = let one : ◌≡◌ {A = ℕ} 2 0 = cc in omega (arith, one)
+no_end (item s) a b e = let one : ◌≡◌ {A = ℕ} 3 0 = cc in omega (arith, one)
+no_end (instance n) a b e = let one : ◌≡◌ {A = ℕ} 4 0 = cc in omega (arith, one)
+no_end (typed k v) a b e = let one : ◌≡◌ {A = ℕ} 5 0 = cc in omega (arith, one)
+no_end (binary s) a b e = let one : ◌≡◌ {A = ℕ} 6 0 = cc in omega (arith, one)
+no_end (list vs) a b e = let one : ◌≡◌ {A = ℕ} 7 0 = cc in omega (arith, one)
+
+mutual
+  value_split : (v w : Value) (a b : List ℕ) → value_code v ++ a ≡ value_code w ++ b → (v ≡ w) × (a ≡ b)
+  value_split (number s h l) (number t i k) a b e =
+      let behind = behind_tag 1 1 ((bytes_code s ++ (number_code h ++ number_code l)) ++ a) ((bytes_code t ++ (number_code i ++ number_code k)) ++ b) e in
+      let digits = bytes_split s t ((number_code h ++ number_code l) ++ a) ((number_code i ++ number_code k) ++ b) (sym (append_assoc (bytes_code s) (number_code h ++ number_code l) a) ∙ behind ∙ append_assoc (bytes_code t) (number_code i ++ number_code k) b) in
+      let up = number_split h i (number_code l ++ a) (number_code k ++ b) (sym (append_assoc (number_code h) (number_code l) a) ∙ digits.1 ∙ append_assoc (number_code i) (number_code k) b) in
+      let down = number_split l k a b up.1 in
+      (ap (λ u. number u h l) digits.0 ∙ ap (λ u. number t u l) up.0 ∙ ap (number t i) down.0, down.1)
+  value_split (text s) (text t) a b e = let r = items_split s t a b (behind_tag 2 2 (items_code s ++ a) (items_code t ++ b) e) in (ap text r.0, r.1)
+  value_split (item s) (item t) a b e = let r = bytes_split s t a b (behind_tag 3 3 (bytes_code s ++ a) (bytes_code t ++ b) e) in (ap item r.0, r.1)
+  value_split (instance m) (instance n) a b e = let r = number_split m n a b (behind_tag 4 4 (number_code m ++ a) (number_code n ++ b) e) in (ap instance r.0, r.1)
+  value_split (binary s) (binary t) a b e = let r = bytes_split s t a b (behind_tag 6 6 (bytes_code s ++ a) (bytes_code t ++ b) e) in (ap binary r.0, r.1)
+  value_split (typed k v) (typed l w) a b e =
+      let behind = behind_tag 5 5 ((bytes_code k ++ value_code v) ++ a) ((bytes_code l ++ value_code w) ++ b) e in
+      let first = bytes_split k l (value_code v ++ a) (value_code w ++ b) (sym (append_assoc (bytes_code k) (value_code v) a) ∙ behind ∙ append_assoc (bytes_code l) (value_code w) b) in
+      let rest = value_split v w a b first.1 in
+      (ap (λ u. typed u v) first.0 ∙ ap (typed l) rest.0, rest.1)
+  value_split (list vs) (list ws) a b e = let r = elements_split vs ws a b (behind_tag 7 7 (elements_code vs ++ a) (elements_code ws ++ b) e) in (ap list r.0, r.1)
+  value_split (number s h l) w a b e = cc
+  value_split (text s) w a b e = cc
+  value_split (item s) w a b e = cc
+  value_split (instance m) w a b e = cc
+  value_split (binary s) w a b e = cc
+  value_split (list vs) w a b e = cc
+  value_split (typed k v) w a b e = cc
+
+  elements_split : (vs ws : Values) (a b : List ℕ) → elements_code vs ++ a ≡ elements_code ws ++ b → (vs ≡ ws) × (a ≡ b)
+  elements_split nil nil a b e = let rest : a ≡ b = cc in (refl, rest)
+  elements_split nil (cons w ws) a b e = absurd (no_end w (elements_code ws ++ b) a (sym (append_assoc (value_code w) (elements_code ws) b) ∙ sym e))
+  elements_split (cons v vs) nil a b e = absurd (no_end v (elements_code vs ++ a) b (sym (append_assoc (value_code v) (elements_code vs) a) ∙ e))
+  elements_split (cons v vs) (cons w ws) a b e =
+      let first = value_split v w (elements_code vs ++ a) (elements_code ws ++ b) (sym (append_assoc (value_code v) (elements_code vs) a) ∙ e ∙ append_assoc (value_code w) (elements_code ws) b) in
+      let rest = elements_split vs ws a b first.1 in
+      (ap (λ u. cons u vs) first.0 ∙ ap (cons w) rest.0, rest.1)
 
 some : (v : Value) (a : List ℕ) → value_code v ++ a ≡ [] → ⊥
 some (number s h l) a e = cc
 some (text s) a e = cc
 some (item s) a e = cc
 some (instance n) a e = cc
+some (binary s) a e = cc
+some (list vs) a e = cc
 some (typed k v) a e = cc
 
 values_once : (vs ws : List Value) → values_code vs ≡ values_code ws → vs ≡ ws

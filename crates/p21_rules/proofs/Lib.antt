@@ -1,8 +1,10 @@
 pub mod CodeLemmas
 pub mod NumberLemmas
+pub mod BitsLemmas
 pub mod ParameterLemmas
 pub mod ValueLemmas
 pub mod FirstLemmas
+pub mod Sizes
 pub mod PushLemmas
 pub mod CounterLemmas
 pub mod InverseLemmas

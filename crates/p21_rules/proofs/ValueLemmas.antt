@@ -4,29 +4,36 @@ use Rattle.std.proofs.lemmas.List.{take_more, map-append, append-nil}
 use Rattle.p21_text.specs.Items.{Item, ItemsOf}
 use Rattle.p21_express.specs.Schema.{Schema}
 use Rattle.p21_express.specs.WellFormed.{IsWellFormed, Origin}
-use Rattle.p21_tree.specs.Tree.{Tree}
+use Rattle.p21_tree.specs.Tree.{Tree, Trees}
 use Rattle.p21_tree.specs.Sentence.{Instance}
 use Rattle.p21_schema.specs.declared.ids.AttrId.{AttrId}
 use Rattle.p21_schema.specs.Row.{attribute_at}
 use Rattle.p21_rules.specs.Code.{value_code, values_code}
 use Rattle.p21_rules.specs.Pushed.{IsPushed}
-use Rattle.p21_rules.specs.Means.{Means}
+use Rattle.p21_rules.specs.Means.{Means, MeanEach}
 use Rattle.p21_rules.specs.Means as means
 use Rattle.p21_rules.specs.Parameter.{HasValue, HasValues, IsParameterIn}
-use Rattle.p21_rules.specs.Value.{Value, text, typed}
+use Rattle.p21_rules.specs.Value.{Value, Values, text, list, typed, cons}
 use Rattle.p21_rules.proofs.ParameterLemmas.{parameter_once, zip_more}
 
 -- a body has one list of items at most
 abbrev pub OneItems : Type 0
 OneItems = (raw : List ℕ) (xs ys : List Item) → ItemsOf raw xs → ItemsOf raw ys → xs ≡ ys
 
-pub value_once : OneItems → (t : Tree) (v w : Value) → Means t v → Means t w → v ≡ w
-value_once one _ _ _ means.integer means.integer = refl
-value_once one _ _ _ (means.real p) (means.real q) = refl
-value_once one _ _ _ (means.text {s} {xs} p) (means.text {xs = ys} q) = ap text (one s xs ys p q)
-value_once one _ _ _ means.item means.item = refl
-value_once one _ _ _ means.instance means.instance = refl
-value_once one _ _ _ (means.typed {k} {t} {v} p) (means.typed {v = w} q) = ap (typed k) (value_once one t v w p q)
+mutual
+  pub value_once : OneItems → (t : Tree) (v w : Value) → Means t v → Means t w → v ≡ w
+  value_once one _ _ _ means.integer means.integer = refl
+  value_once one _ _ _ (means.real p) (means.real q) = refl
+  value_once one _ _ _ (means.text {s} {xs} p) (means.text {xs = ys} q) = ap text (one s xs ys p q)
+  value_once one _ _ _ means.item means.item = refl
+  value_once one _ _ _ means.instance means.instance = refl
+  value_once one _ _ _ means.binary means.binary = refl
+  value_once one _ _ _ (means.list {ts} {vs} p) (means.list {vs = ws} q) = ap list (each_once one ts vs ws p q)
+  value_once one _ _ _ (means.typed {k} {t} {v} p) (means.typed {v = w} q) = ap (typed k) (value_once one t v w p q)
+
+  each_once : OneItems → (ts : Trees) (vs ws : Values) → MeanEach ts vs → MeanEach ts ws → vs ≡ ws
+  each_once one _ _ _ means.none means.none = refl
+  each_once one _ _ _ (means.more {t} {ts} {v} {vs} p ps) (means.more {v = w} {vs = ws} q qs) = ap (λ u. cons u vs) (value_once one t v w p q) ∙ ap (cons w) (each_once one ts vs ws ps qs)
 
 module _ (one : OneItems) (s : Schema) (w : IsWellFormed s) (i : Instance) where
   value_of_once : (o : Origin) (v u : Value) → HasValue s i o v → HasValue s i o u → v ≡ u

@@ -1,7 +1,7 @@
 -- How values are written one after the other, so that different ones differ: no value's bytes begin with those of another.
 use Rattle.std.specs.Prelude.{ℕ, ◌+◌, ◌/◌, ◌%◌, ◌^◌, nat_lt, List, [], ◌∷◌, ◌++◌, map, if◌then◌else◌}
 use Rattle.p21_text.specs.Items.{Item, scalar, page}
-use Rattle.p21_rules.specs.Value.{Value, number, text, item, instance, typed}
+use Rattle.p21_rules.specs.Value.{Value, Values, number, text, item, instance, binary, list, typed, nil, cons}
 
 -- a number below 2^24 by three bytes
 abbrev pub triple : ℕ → List ℕ
@@ -28,12 +28,20 @@ items_code (x ∷ xs) = item_code x ++ items_code xs
 abbrev pub bytes_code : List ℕ → List ℕ
 bytes_code bs = items_code (map scalar bs)
 
-abbrev pub value_code : Value → List ℕ
-value_code (number ds up down) = 1 ∷ (bytes_code ds ++ (number_code up ++ number_code down))
-value_code (text xs) = 2 ∷ items_code xs
-value_code (item s) = 3 ∷ bytes_code s
-value_code (instance n) = 4 ∷ number_code n
-value_code (typed k v) = 5 ∷ (bytes_code k ++ value_code v)
+abbrev mutual
+  pub value_code : Value → List ℕ
+  value_code (number ds up down) = 1 ∷ (bytes_code ds ++ (number_code up ++ number_code down))
+  value_code (text xs) = 2 ∷ items_code xs
+  value_code (item s) = 3 ∷ bytes_code s
+  value_code (instance n) = 4 ∷ number_code n
+  value_code (typed k v) = 5 ∷ (bytes_code k ++ value_code v)
+  value_code (binary bs) = 6 ∷ bytes_code bs
+  value_code (list vs) = 7 ∷ elements_code vs
+
+  -- the values of the elements of a list, and their end
+  pub elements_code : Values → List ℕ
+  elements_code nil = 0 ∷ []
+  elements_code (cons v vs) = value_code v ++ elements_code vs
 
 abbrev pub values_code : List Value → List ℕ
 values_code [] = []

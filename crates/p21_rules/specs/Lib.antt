@@ -1,5 +1,6 @@
 pub mod Value
 pub mod Number
+pub mod Bits
 pub mod Means
 pub mod Named
 pub mod Code

@@ -2,6 +2,7 @@
 #![tactic(auto)]
 
 mod attributes;
+mod binary;
 mod code;
 mod counters;
 mod entities;

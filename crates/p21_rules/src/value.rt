@@ -5,6 +5,7 @@ ghost use Rattle.p21_tree.specs.Bodies.{HasBodies};
 ghost use Rattle.p21_tree.specs.Plain.{plain};
 ghost use Rattle.p21_rules.specs.Pushed.{IsPushed};
 
+use crate::binary::push_binary;
 use crate::code::{push_bytes, push_items, push_number};
 use crate::number::{push_integer, push_real};
 use p21_text::items;
@@ -32,9 +33,23 @@ pub(crate) fn push_value(code: &mut Vec<u8>, param: &Param<'_>) -> Result<bool, 
             push_bytes(code, name)?;
             Ok(true)
         }
+        Param::Binary(body) => {
+            push_binary(code, body)?;
+            Ok(true)
+        }
         Param::Ref(name) => {
             code.push(4)?;
             push_number(code, *name)?;
+            Ok(true)
+        }
+        Param::Items(elements) => {
+            code.push(7)?;
+            for element in elements {
+                if !push_value(code, element)? {
+                    return Ok(false);
+                }
+            }
+            code.push(0)?;
             Ok(true)
         }
         Param::Typed(keyword, inner) => {
