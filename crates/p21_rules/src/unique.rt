@@ -33,7 +33,8 @@ pub struct NotUnique {
 }
 
 /// The faults of the instances of a file by rules of UNIQUE, in the order of the instances, and of one instance in the order of the
-/// rules. An instance of which a value is `$`, `*`, a real, a binary or a list is passed over by the rule. Memory alone can fail.
+/// rules. An instance of which a value is `$`, `*`, a real whose exponent is 10^17 or more or -10^17 or less, or a list with such an element is
+/// passed over by the rule. Memory alone can fail.
 pub fn all_not_unique(
     alloc: Global,
     schema: &Schema,
