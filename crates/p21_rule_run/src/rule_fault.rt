@@ -1,13 +1,13 @@
 //! The faults of a model by the rules of its schema, in their order.
 
-ghost use Rattle.std.specs.Prelude.{◌≡◌, IfOk, map};
-ghost use Rattle.p21_tree.specs.Views.{plain_instance};
+ghost use Rattle.std.specs.Prelude.{◌≡◌, IfOk};
+ghost use Rattle.p21_join.specs.Model.{instances_of, plain_instances};
 ghost use Rattle.p21_rule_run.specs.RuleFault.{both, place_of, AreRuleFaults, AreRulesIn, AreSorted};
 
+use p21_join::{Model, ModelEntities};
 use p21_rule_text::Rules;
 use p21_rules::{InverseCount, NotUnique, all_inverse_counts, all_not_unique};
 use p21_schema::Schema;
-use p21_tree::RawInstance;
 use std::alloc::{AllocError, Global};
 
 /// A fault of an instance by a rule of its schema.
@@ -17,19 +17,22 @@ pub enum RuleFault {
     InverseCount(InverseCount),
 }
 
-/// The faults of the instances of a file by rules: in the order of their places, and of one place those of UNIQUE first, each kind in the
+/// The faults of the instances of a model by rules: in the order of their places, and of one place those of UNIQUE first, each kind in the
 /// order of its rules. Memory alone can fail.
 pub(crate) fn rule_faults(
     alloc: Global,
     schema: &Schema,
     rules: &Rules,
-    instances: &[RawInstance<'_>],
+    model: &Model<'_>,
 ) -> Result<Vec<RuleFault>, AllocError>
     requires { AreRulesIn schema.now rules.now }
-    ensures { IfOk result (λ all. AreRuleFaults schema.now rules.now (map plain_instance instances.now) all.items) }
+    ensures { IfOk result (λ all. AreRuleFaults schema.now rules.now (plain_instances (instances_of model.now)) all.items) }
 {
-    let unique = all_not_unique(alloc, schema, &rules.unique, instances)?;
-    let inverse = all_inverse_counts(alloc, schema, &rules.inverse, instances)?;
+    let instances = model.instances();
+    let known = ModelEntities::new(alloc, schema, model)?;
+    let entities = known.entities();
+    let unique = all_not_unique(alloc, schema, &rules.unique, instances, entities)?;
+    let inverse = all_inverse_counts(alloc, schema, &rules.inverse, instances, entities)?;
     sorted(alloc, &unique, &inverse)
 }
 

@@ -3,6 +3,7 @@
 ghost use Rattle.std.specs.Prelude.{◌≡◌, ℕ, List, Some, IfOk, map};
 ghost use Rattle.p21_express.specs.Plain.{plain_schema};
 ghost use Rattle.p21_express.specs.WellFormed.{IsWellFormed};
+ghost use Rattle.p21_join.specs.Model.{instances_of, plain_instances};
 ghost use Rattle.p21_reader.specs.AllAnswer.{plain_all};
 ghost use Rattle.p21_reader.specs.AllFaults.{IsReadingWithAll};
 ghost use Rattle.p21_reader.specs.Answer.{plain_answer};
@@ -21,6 +22,7 @@ use p21_crew::Gate;
 use p21_desk::LaneCount;
 use p21_express::{Declarations, SchemaError, read_declarations};
 use p21_hash::HashKey;
+use p21_join::Model;
 use p21_lanes::Capacity;
 use p21_reader::{AllFaults, ReadError, Reading, read_all_faults, read_lanes};
 use p21_render::{counts_with_key, fault_line, model_text, render_faults, schema_fault_line};
@@ -208,15 +210,7 @@ fn report_of_all<L: RuleListener>(
     ensures { IfOk result (λ report. IsFullyRuled schema.now rules.now file.now report.outcome report.text.items) }
 {
     match &all.answer {
-        Ok(model) => report_of_model(
-            alloc,
-            schema,
-            rules,
-            true,
-            file,
-            model.instances(),
-            listener,
-        ),
+        Ok(model) => report_of_model(alloc, schema, rules, true, file, model, listener),
         Err(faults) => {
             listener.hear(schema, file, faults.as_slice());
             let text = render_faults(alloc, faults.as_slice())?;
@@ -263,15 +257,7 @@ fn report_of_reading<L: RuleListener>(
     ensures { IfOk result (λ report. IsFirstRuled schema.now rules.now file.now report.outcome report.text.items) }
 {
     match &reading.answer {
-        Ok(model) => report_of_model(
-            alloc,
-            schema,
-            rules,
-            false,
-            file,
-            model.instances(),
-            listener,
-        ),
+        Ok(model) => report_of_model(alloc, schema, rules, false, file, model, listener),
         Err(fault) => {
             listener.hear(schema, file, slice::from_ref(fault));
             let text = fault_line(alloc, fault)?;
@@ -297,18 +283,18 @@ fn report_of_model<L: RuleListener>(
     rules: &Rules,
     all: bool,
     file: &[u8],
-    instances: &[RawInstance<'_>],
+    model: &Model<'_>,
     listener: &mut L,
 ) -> Result<Report, InputError>
     requires { AreRulesIn schema.now rules.now }
-    ensures { IfOk result (λ report. IsOfModel all schema.now rules.now (map plain_instance instances.now) report.outcome report.text.items) }
+    ensures { IfOk result (λ report. IsOfModel all schema.now rules.now (plain_instances (instances_of model.now)) report.outcome report.text.items) }
 {
-    let found = rule_faults(alloc, schema, rules, instances)?;
+    let found = rule_faults(alloc, schema, rules, model)?;
     let faults = found.as_slice();
     let reported = told(faults, all);
     listener.hear_ruled(schema, rules, file, reported);
     if faults.is_empty() {
-        return report_without_faults(alloc, schema, instances);
+        return report_without_faults(alloc, schema, model.instances());
     }
     let text = render_rule_faults(alloc, &rules.labels, &rules.inverse_names, reported)?;
     Ok(faulty(text))

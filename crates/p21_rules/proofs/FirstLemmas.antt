@@ -1,20 +1,24 @@
 -- The first instances that have certain values, where one more instance is seen.
-use Rattle.std.proofs.Common.{◌≡◌, ⊎_elim, ℕ, ◌+◌, ◌<◌, ◌≤◌, cond, length, Vec, true, false, List, [], ◌∷◌, ◌++◌, Option, None, Some, refl, sym, ap, subst, ◌∙◌, append_assoc, arith}
+use Rattle.std.proofs.Common.{◌≡◌, ⊎_elim, ℕ, ◌+◌, ◌<◌, ◌≤◌, cond, drop, length, Vec, true, false, List, [], ◌∷◌, ◌++◌, Option, None, Some, refl, sym, ap, subst, ◌∙◌, append_assoc, arith}
 use Rattle.std.specs.List.{AllByRecursion}
 use Rattle.std.specs.Prelude.{slice_get, nat_eq, nat_lt}
 use Rattle.std.specs.Cmp.Lexicographic.{bytes_decides, pointwise}
 use Rattle.std.specs.Map.{lookup}
 use Rattle.std.proofs.lemmas.Bool.{cases_Bool, cases_eq, false≢true, lt-ltb, le-ltb, ltb-true, ltb-false}
+use Rattle.std.proofs.lemmas.List.{append-nil, drop_all}
 use Rattle.std.proofs.lemmas.Option.{slice_get_within}
 use Rattle.indexmap.specs.IndexMap.{IndexMap, get}
 use Rattle.p21_express.specs.Schema.{Schema}
 use Rattle.p21_express.specs.WellFormed.{IsWellFormed}
+use Rattle.p21_schema.specs.Place.{entity_name}
 use Rattle.p21_tree.specs.Sentence.{Instance}
 use Rattle.p21_rules.specs.declared.rule.UniqueRule.{UniqueRule}
 use Rattle.p21_rules.specs.declared.unique.NotUnique.{NotUnique}
 use Rattle.p21_rules.specs.Code.{key_code}
-use Rattle.p21_rules.specs.Firsts.{breach_of, key_eq, seen_below, Holds, IsBreach, IsKept}
+use Rattle.p21_rules.specs.Firsts.{breach_of, key_eq, seen_below, AreAdded, Holds, IsBreach, IsKept}
+use Rattle.p21_rules.specs.Parameter.{IsOf}
 use Rattle.p21_rules.proofs.CodeLemmas.{key_once}
+use Rattle.p21_rules.proofs.ConcernedLemmas.{left_of}
 use Rattle.p21_rules.proofs.ValueLemmas.{OneItems, values_of_once}
 use Rattle.p21_rules.specs.NotUnique as unique
 use Rattle.p21_rules.specs.NotUnique.{AreFaultsAt, AreFaultsBehind, HaveNot, IsFirst, IsFirstOrNone, IsUnder}
@@ -157,3 +161,46 @@ pub seen_all : {A S : Type 0} (s : Schema) (rules : List UniqueRule) (m : IndexM
 seen_all s rules m before i n whole held k r vs q at key =
     let within = slice_get_within rules k r at in
     subst (λ l. IsFirstOrNone s r vs l (get key_eq m q)) (seen_now before i n k (omega (arith, within, whole))) (held k r vs q at key)
+
+-- ---- an instance by the rules below a number
+
+-- the rules below this number looked at the instance; with the faults by the others those that were added are all
+pub record IsLookedAt {A S : Type 0} (s : Schema) (rules : List UniqueRule) (before : List Instance) (i : Instance) (firsts : IndexMap (Vec ℕ A) ℕ S) (old new : List NotUnique) (k : ℕ) : Type 0 where
+  pub held : Holds s rules firsts (seen_below before i k)
+  pub told : (fs : List NotUnique) → AreFaultsAt s before i k (drop k rules) fs → (gs : List NotUnique) × AreFaultsAt s before i 0 rules gs × (new ++ fs ≡ old ++ gs)
+
+module _ {A S : Type 0} (s : Schema) (rules : List UniqueRule) (before : List Instance) (i : Instance) where
+  -- none did
+  pub looked_none : (firsts : IndexMap (Vec ℕ A) ℕ S) (old : List NotUnique) → Holds s rules firsts (λ k. before) → IsLookedAt s rules before i firsts old old 0
+  looked_none firsts old held = record {
+    held = λ k r vs q at key.
+        let none : before ≡ seen_below before i 0 k = ap (λ b. cond b (before ++ i ∷ []) before) (sym (le-ltb k 0 (omega arith))) in
+        subst (λ l. IsFirstOrNone s r vs l (get key_eq firsts q)) none (held k r vs q at key);
+    told = λ fs more. (fs, more, refl);
+  }
+
+  -- one more that does not concern it
+  pub looked_over : (firsts : IndexMap (Vec ℕ A) ℕ S) (old new : List NotUnique) (k : ℕ) (r : UniqueRule) → slice_get rules k ≡ Some r → ¬ (IsOf s i (entity_name s r.entity))
+      → IsLookedAt s rules before i firsts old new k → IsLookedAt s rules before i firsts old new (k + 1)
+  looked_over firsts old new k r there not looked = record {
+    held = (breach_without s rules before i k r there firsts (λ vs u. not u.of) looked.held).1;
+    told = λ fs more. looked.told fs (subst (λ (l : List UniqueRule). AreFaultsAt s before i k l fs) (sym (left_of rules k r there)) (unique.keeps (λ vs u. absurd (not u.of)) more));
+  }
+
+  -- one more that was asked
+  pub looked_more : (was firsts : IndexMap (Vec ℕ A) ℕ S) (old mid new : List NotUnique) (k : ℕ) (r : UniqueRule) (found : Option ℕ) → slice_get rules k ≡ Some r → IsBreach s r before i found → Holds s rules firsts (seen_below before i (k + 1))
+      → new ≡ mid ++ breach_of i.at k found → IsLookedAt s rules before i was old mid k → IsLookedAt s rules before i firsts old new (k + 1)
+  looked_more was firsts old mid new k r found there breach held added looked = record {
+    held = held;
+    told = λ fs more.
+        let one = breach_more s before i k r (drop (k + 1) rules) found fs breach more in
+        let all = looked.told (breach_of i.at k found ++ fs) (subst (λ (l : List UniqueRule). AreFaultsAt s before i k l (breach_of i.at k found ++ fs)) (sym (left_of rules k r there)) one) in
+        (all.0, all.1, ap (λ l. l ++ fs) added ∙ append_assoc mid (breach_of i.at k found) fs ∙ all.2);
+  }
+
+  -- all did
+  pub looked_all : (firsts : IndexMap (Vec ℕ A) ℕ S) (old new : List NotUnique) (k : ℕ) → length rules ≤ k → IsLookedAt s rules before i firsts old new k → AreAdded s rules before i firsts old new
+  looked_all firsts old new k whole looked =
+      let none : AreFaultsAt s before i k (drop k rules) [] = subst (λ (l : List UniqueRule). AreFaultsAt s before i k l []) (sym (drop_all k rules whole)) unique.none in
+      let all = looked.told [] none in
+      ((all.0, all.1, sym (append-nil new) ∙ all.2), seen_all s rules firsts before i k whole looked.held)

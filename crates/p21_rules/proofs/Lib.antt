@@ -2,6 +2,7 @@ pub mod CodeLemmas
 pub mod NumberLemmas
 pub mod BitsLemmas
 pub mod ParameterLemmas
+pub mod ConcernedLemmas
 pub mod ValueLemmas
 pub mod FirstLemmas
 pub mod Sizes

@@ -3,6 +3,7 @@ pub mod Number
 pub mod Bits
 pub mod Means
 pub mod Named
+pub mod Concerned
 pub mod Code
 pub mod Pushed
 pub mod Parameter

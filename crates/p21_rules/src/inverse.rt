@@ -1,16 +1,20 @@
 //! The bounds of INVERSE attributes over the instances of a file.
 
-ghost use Rattle.std.specs.Prelude.{◌≡◌, ◌+◌, ◌++◌, ◌∷◌, [], List, length, IfOk, OnOk, map};
+ghost use Rattle.std.specs.Prelude.{◌≡◌, ◌+◌, ◌++◌, ◌∷◌, [], List, Some, length, IfOk, OnOk, map};
+ghost use Rattle.p21_check.specs.EntityOf.{AreSimpleEntities};
 ghost use Rattle.p21_check.specs.EntitySet.{keywords};
+ghost use Rattle.p21_schema.specs.Place.{entity_name};
 ghost use Rattle.p21_tree.specs.Sentence.{Instance};
 ghost use Rattle.p21_tree.specs.Views.{plain_instance};
-ghost use Rattle.p21_rules.specs.Counters.{CountAll, Counts};
-ghost use Rattle.p21_rules.specs.InverseCount.{count_fault, is_within, AreCountsAt, AreInverseCounts, AreInverseRulesOf, HasCount, IsInverseRuleOf, RefersTo};
+ghost use Rattle.p21_rules.specs.Concerned.{IsSubject};
+ghost use Rattle.p21_rules.specs.Counters.{CountAll};
+ghost use Rattle.p21_rules.specs.InverseCount.{count_fault, is_within, AreCountsAt, AreInverseCounts, AreInverseRulesOf, IsInverseRuleOf, RefersTo};
 ghost use Rattle.p21_rules.specs.Named.{AreNamed};
+ghost use Rattle.p21_rules.specs.Parameter.{IsOf};
 
 use crate::attributes::parameter;
+use crate::concerned::{Subject, concerns_of, empty_room, subject_of};
 use crate::counters::{Counters, count_names, count_of, no_counters};
-use crate::entities::{is_of, name_entities};
 use crate::mentions::push_mentions;
 use crate::rule::InverseRule;
 use p21_schema::{EntityId, Schema};
@@ -29,24 +33,52 @@ pub struct InverseCount {
 }
 
 /// The faults of the instances of a file by the bounds of INVERSE attributes, in the order of the instances, and of one instance in the
-/// order of the rules. Memory alone can fail.
+/// order of the rules. The entities are those of the instances: `None` for one that is complex or whose keyword names no entity. Memory
+/// alone can fail.
 pub fn all_inverse_counts(
     alloc: Global,
     schema: &Schema,
     rules: &[InverseRule],
     instances: &[RawInstance<'_>],
+    entities: &[Option<EntityId>],
 ) -> Result<Vec<InverseCount>, AllocError>
-    requires { AreInverseRulesOf schema.now rules.now }
+    requires rules { AreInverseRulesOf schema.now rules.now }
+    requires entities { AreSimpleEntities schema.now (map plain_instance instances.now) entities.now }
     ensures { IfOk result (λ faults. AreInverseCounts schema.now rules.now (map plain_instance instances.now) faults.items) }
 {
-    let counters = count_all(alloc, schema, rules, instances)?;
-    let mut named = Vec::new(alloc);
+    let counters = count_all(alloc, schema, rules, instances, entities)?;
+    let wanted = wanted_entities(alloc, rules)?;
+    let concerns = concerns_of(alloc, schema, wanted)?;
+    let mut room = empty_room(alloc);
     let mut faults = Vec::new(alloc);
-    for instance in instances {
-        name_entities(schema, instance.records.as_slice(), &mut named)?;
-        push_faults(schema, rules, &counters, &named, instance, &mut faults)?;
+    for place in 0..instances.len() {
+        let instance = &instances[place];
+        let subject = subject_of(schema, &concerns, &entities[place], instance, &mut room)?;
+        push_faults(schema, rules, &counters, subject, instance, &mut faults)?;
     }
     Ok(faults)
+}
+
+/// The entity that has the attribute, of each rule.
+fn wanted_entities(alloc: Global, rules: &[InverseRule]) -> Result<Vec<EntityId>, AllocError>
+    ensures { IfOk result (λ wanted. wanted.items ≡ map (λ rule. rule.entity) rules.now) }
+{
+    let mut wanted = Vec::new(alloc);
+    for rule in rules {
+        wanted.push(rule.entity)?;
+    }
+    Ok(wanted)
+}
+
+/// The entity whose instances refer, of each rule.
+fn wanted_sources(alloc: Global, rules: &[InverseRule]) -> Result<Vec<EntityId>, AllocError>
+    ensures { IfOk result (λ wanted. wanted.items ≡ map (λ rule. rule.source) rules.now) }
+{
+    let mut wanted = Vec::new(alloc);
+    for rule in rules {
+        wanted.push(rule.source)?;
+    }
+    Ok(wanted)
 }
 
 /// The counters of each rule over the instances.
@@ -55,17 +87,23 @@ fn count_all(
     schema: &Schema,
     rules: &[InverseRule],
     instances: &[RawInstance<'_>],
+    entities: &[Option<EntityId>],
 ) -> Result<Vec<Counters>, AllocError>
-    requires { AreInverseRulesOf schema.now rules.now }
+    requires rules { AreInverseRulesOf schema.now rules.now }
+    requires entities { AreSimpleEntities schema.now (map plain_instance instances.now) entities.now }
     ensures { IfOk result (λ all. CountAll schema.now rules.now all.items (λ k. map plain_instance instances.now)) }
 {
+    let wanted = wanted_sources(alloc, rules)?;
+    let concerns = concerns_of(alloc, schema, wanted)?;
+    let mut room = empty_room(alloc);
     let mut all = none_counted(alloc, schema, rules)?;
-    let mut named = Vec::new(alloc);
     let mut names = Vec::new(alloc);
     for place in 0..instances.len() {
         let instance = &instances[place];
-        name_entities(schema, instance.records.as_slice(), &mut named)?;
-        count_instance(schema, rules, &named, instance, place, &mut names, &mut all)?;
+        let subject = subject_of(schema, &concerns, &entities[place], instance, &mut room)?;
+        count_instance(
+            schema, rules, subject, instance, place, &mut names, &mut all,
+        )?;
     }
     Ok(all)
 }
@@ -85,30 +123,31 @@ fn none_counted(
     Ok(all)
 }
 
-/// Counts the references of the instance at a place, whose records name these entities, under each rule.
+/// Counts the references of the instance at a place under the rules by which it may refer.
 fn count_instance(
     schema: &Schema,
     rules: &[InverseRule],
-    named: &[Option<EntityId>],
+    subject: Subject<'_>,
     instance: &RawInstance<'_>,
     place: usize,
     names: &mut Vec<u64>,
     all: &mut Vec<Counters>,
 ) -> Result<(), AllocError>
     requires rules { AreInverseRulesOf schema.now rules.now }
-    requires named { AreNamed schema.now (keywords (plain_instance instance.now)) named.now }
+    requires subject { IsSubject schema.now (map (λ rule. rule.source) rules.now) (plain_instance instance.now) subject }
     requires long { length all.old.items ≡ length rules.now }
     ensures { (before : List Instance) → length before ≡ place → CountAll schema.now rules.now all.old.items (λ k. before) → OnOk result (CountAll schema.now rules.now all.new.items (λ k. before ++ plain_instance instance.now ∷ [])) }
 {
-    for number in 0..rules.len() {
+    for next in 0..subject.numbers.len() {
+        let number = subject.numbers[next];
         let rule = &rules[number];
-        push_names(schema, rule, named, instance, names)?;
+        push_names(schema, rule, subject.named, instance, names)?;
         count_names(&mut all[number], rule.is_bag, place, names)?;
     }
     Ok(())
 }
 
-/// The names to which an instance refers under a rule, in place of those that are there.
+/// The names to which an instance of the entity that refers does under a rule, in place of those that are there.
 fn push_names(
     schema: &Schema,
     rule: &InverseRule,
@@ -118,57 +157,36 @@ fn push_names(
 ) -> Result<(), AllocError>
     requires rule { IsInverseRuleOf schema.now rule.now }
     requires named { AreNamed schema.now (keywords (plain_instance instance.now)) named.now }
+    requires of { IsOf schema.now (plain_instance instance.now) (entity_name schema.now rule.now.source) }
     ensures { OnOk result (RefersTo schema.now rule.now (plain_instance instance.now) names.new.items) }
 {
     names.clear();
-    if !is_of(schema, named, rule.source) {
-        return Ok(());
-    }
     match parameter(schema, named, instance, rule.attribute) {
         Some(param) => push_mentions(names, param),
         None => Ok(()),
     }
 }
 
-/// Adds the faults of an instance whose records name these entities.
+/// Adds the faults of an instance by the rules that concern it.
 fn push_faults(
     schema: &Schema,
     rules: &[InverseRule],
     all: &[Counters],
-    named: &[Option<EntityId>],
+    subject: Subject<'_>,
     instance: &RawInstance<'_>,
     faults: &mut Vec<InverseCount>,
 ) -> Result<(), AllocError>
     requires rules { AreInverseRulesOf schema.now rules.now }
-    requires named { AreNamed schema.now (keywords (plain_instance instance.now)) named.now }
+    requires subject { IsSubject schema.now (map (λ rule. rule.entity) rules.now) (plain_instance instance.now) subject }
     requires long { length all.now ≡ length rules.now }
     ensures { (is : List Instance) → CountAll schema.now rules.now all.now (λ k. is) → OnOk result ((fs : List InverseCount) × AreCountsAt schema.now is (plain_instance instance.now) 0 rules.now fs × (faults.new.items ≡ faults.old.items ++ fs)) }
 {
-    for number in 0..rules.len() {
-        let rule = &rules[number];
-        let found = count(schema, rule, &all[number], named, instance);
-        push_fault(faults, instance.at, number, rule, found)?;
+    for place in 0..subject.numbers.len() {
+        let number = subject.numbers[place];
+        let count = count_of(&all[number], instance.name);
+        push_fault(faults, instance.at, number, &rules[number], count)?;
     }
     Ok(())
-}
-
-/// How many refer to an instance under a rule; `None` if it is not of the rule's entity.
-fn count(
-    schema: &Schema,
-    rule: &InverseRule,
-    counters: &Counters,
-    named: &[Option<EntityId>],
-    instance: &RawInstance<'_>,
-) -> Option<u64>
-    requires rule { IsInverseRuleOf schema.now rule.now }
-    requires named { AreNamed schema.now (keywords (plain_instance instance.now)) named.now }
-    ensures { (is : List Instance) → Counts schema.now rule.now is counters.now → HasCount schema.now rule.now is (plain_instance instance.now) result }
-{
-    if is_of(schema, named, rule.entity) {
-        Some(count_of(counters, instance.name))
-    } else {
-        None
-    }
 }
 
 /// Adds the fault of an instance at a place by the rule of this number, if its count is not within the bounds.
@@ -177,18 +195,16 @@ fn push_fault(
     at: u64,
     number: usize,
     rule: &InverseRule,
-    found: Option<u64>,
+    count: u64,
 ) -> Result<(), AllocError>
-    ensures { OnOk result (faults.new.items ≡ faults.old.items ++ count_fault at number rule.now found) }
+    ensures { OnOk result (faults.new.items ≡ faults.old.items ++ count_fault at number rule.now (Some count)) }
 {
-    if let Some(count) = found {
-        if !is_within(rule, count) {
-            faults.push(InverseCount {
-                at,
-                rule: number,
-                count,
-            })?;
-        }
+    if !is_within(rule, count) {
+        faults.push(InverseCount {
+            at,
+            rule: number,
+            count,
+        })?;
     }
     Ok(())
 }

@@ -4,6 +4,7 @@
 mod attributes;
 mod binary;
 mod code;
+mod concerned;
 mod counters;
 mod entities;
 mod firsts;

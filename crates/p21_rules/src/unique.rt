@@ -1,18 +1,22 @@
 //! UNIQUE over the instances of a file.
 
 ghost use Rattle.std.specs.Prelude.{◌≡◌, ◌+◌, ◌++◌, List, Some, All, IfOk, OnOk, map, slice_get};
+ghost use Rattle.p21_check.specs.EntityOf.{AreSimpleEntities};
 ghost use Rattle.p21_check.specs.EntitySet.{keywords};
+ghost use Rattle.p21_schema.specs.Place.{entity_name};
 ghost use Rattle.p21_schema.specs.Row.{IsAttributeOf, attribute_at};
 ghost use Rattle.p21_tree.specs.Sentence.{Instance};
 ghost use Rattle.p21_tree.specs.Views.{plain_instance};
 ghost use Rattle.p21_rules.specs.declared.rule.UniqueRule.{UniqueRule as Rule};
+ghost use Rattle.p21_rules.specs.Concerned.{IsSubject};
 ghost use Rattle.p21_rules.specs.Firsts.{breach_of, AreAdded, ArePushed, Holds, IsBreach, IsKey, seen_below};
 ghost use Rattle.p21_rules.specs.Named.{AreNamed};
 ghost use Rattle.p21_rules.specs.NotUnique.{AreFaults, AreRulesOf, IsRuleOf};
+ghost use Rattle.p21_rules.specs.Parameter.{IsOf};
 
 use crate::attributes::parameter;
 use crate::code::push_number;
-use crate::entities::{is_of, name_entities};
+use crate::concerned::{Subject, concerns_of, empty_room, subject_of};
 use crate::firsts::{Firsts, first_of, no_firsts};
 use crate::rule::UniqueRule;
 use crate::value::push_value;
@@ -34,26 +38,32 @@ pub struct NotUnique {
 
 /// The faults of the instances of a file by rules of UNIQUE, in the order of the instances, and of one instance in the order of the
 /// rules. An instance of which a value is `$`, `*`, a real whose exponent is 10^17 or more or -10^17 or less, or a list with such an element is
-/// passed over by the rule. Memory alone can fail.
+/// passed over by the rule. The entities are those of the instances: `None` for one that is complex or whose keyword names no entity. Memory
+/// alone can fail.
 pub fn all_not_unique(
     alloc: Global,
     schema: &Schema,
     rules: &[UniqueRule],
     instances: &[RawInstance<'_>],
+    entities: &[Option<EntityId>],
 ) -> Result<Vec<NotUnique>, AllocError>
-    requires { AreRulesOf schema.now rules.now }
+    requires rules { AreRulesOf schema.now rules.now }
+    requires entities { AreSimpleEntities schema.now (map plain_instance instances.now) entities.now }
     ensures { IfOk result (λ faults. AreFaults schema.now rules.now (map plain_instance instances.now) faults.items) }
 {
+    let wanted = wanted_entities(alloc, rules)?;
+    let concerns = concerns_of(alloc, schema, wanted)?;
+    let mut room = empty_room(alloc);
     let mut firsts = no_firsts(alloc, schema.hash_key());
-    let mut named = Vec::new(alloc);
     let mut faults = Vec::new(alloc);
-    for instance in instances {
-        name_entities(schema, instance.records.as_slice(), &mut named)?;
+    for place in 0..instances.len() {
+        let instance = &instances[place];
+        let subject = subject_of(schema, &concerns, &entities[place], instance, &mut room)?;
         push_faults(
             alloc,
             schema,
             rules,
-            &named,
+            subject,
             instance,
             &mut firsts,
             &mut faults,
@@ -62,23 +72,36 @@ pub fn all_not_unique(
     Ok(faults)
 }
 
-/// Adds the faults of an instance whose records name these entities.
+/// The entity of each rule.
+fn wanted_entities(alloc: Global, rules: &[UniqueRule]) -> Result<Vec<EntityId>, AllocError>
+    ensures { IfOk result (λ wanted. wanted.items ≡ map (λ rule. rule.entity) rules.now) }
+{
+    let mut wanted = Vec::new(alloc);
+    for rule in rules {
+        wanted.push(rule.entity)?;
+    }
+    Ok(wanted)
+}
+
+/// Adds the faults of an instance by the rules that concern it.
 fn push_faults(
     alloc: Global,
     schema: &Schema,
     rules: &[UniqueRule],
-    named: &[Option<EntityId>],
+    subject: Subject<'_>,
     instance: &RawInstance<'_>,
     firsts: &mut Firsts,
     faults: &mut Vec<NotUnique>,
 ) -> Result<(), AllocError>
     requires rules { AreRulesOf schema.now rules.now }
-    requires named { AreNamed schema.now (keywords (plain_instance instance.now)) named.now }
+    requires subject { IsSubject schema.now (map (λ rule. rule.entity) rules.now) (plain_instance instance.now) subject }
     ensures { (before : List Instance) → Holds schema.now rules.now firsts.old (λ k. before) → OnOk result (AreAdded schema.now rules.now before (plain_instance instance.now) firsts.new faults.old.items faults.new.items) }
 {
-    for rule in 0..rules.len() {
-        let found = breach(alloc, schema, rule, &rules[rule], named, instance, firsts)?;
-        push_breach(faults, instance.at, rule, found)?;
+    for place in 0..subject.numbers.len() {
+        let number = subject.numbers[place];
+        let rule = &rules[number];
+        let found = breach(alloc, schema, number, rule, subject.named, instance, firsts)?;
+        push_breach(faults, instance.at, number, found)?;
     }
     Ok(())
 }
@@ -98,7 +121,7 @@ fn push_breach(
     Ok(())
 }
 
-/// Whether an instance breaks a rule: the name of the first earlier one with the same values. Its own name is kept where there is none.
+/// Whether an instance of a rule's entity breaks the rule: the name of the first earlier one with the same values. Its own name is kept where there is none.
 fn breach(
     alloc: Global,
     schema: &Schema,
@@ -110,6 +133,7 @@ fn breach(
 ) -> Result<Option<u64>, AllocError>
     requires rule { IsRuleOf schema.now rule.now }
     requires named { AreNamed schema.now (keywords (plain_instance instance.now)) named.now }
+    requires of { IsOf schema.now (plain_instance instance.now) (entity_name schema.now rule.now.entity) }
     ensures { (rules : List Rule) → (before : List Instance) → slice_get rules number ≡ Some rule.now → Holds schema.now rules firsts.old (seen_below before (plain_instance instance.now) number)
         → IfOk result (λ found. IsBreach schema.now rule.now before (plain_instance instance.now) found × Holds schema.now rules firsts.new (seen_below before (plain_instance instance.now) (number + 1))) }
 {
@@ -121,7 +145,7 @@ fn breach(
     }
 }
 
-/// The key of the values that an instance has under a rule; `None` where it has none.
+/// The key of the values that an instance of a rule's entity has under the rule; `None` where it has none.
 fn key(
     alloc: Global,
     schema: &Schema,
@@ -132,11 +156,9 @@ fn key(
 ) -> Result<Option<Vec<u8>>, AllocError>
     requires rule { IsRuleOf schema.now rule.now }
     requires named { AreNamed schema.now (keywords (plain_instance instance.now)) named.now }
+    requires of { IsOf schema.now (plain_instance instance.now) (entity_name schema.now rule.now.entity) }
     ensures { IfOk result (IsKey schema.now number rule.now (plain_instance instance.now)) }
 {
-    if !is_of(schema, named, rule.entity) {
-        return Ok(None);
-    }
     let mut code = Vec::new(alloc);
     push_number(&mut code, number as u64)?;
     if push_values(schema, named, instance, &rule.attributes, &mut code)? {

@@ -1,7 +1,5 @@
-use Rattle.std.proofs.Common.{List, Ok, Result, Vec, Global, map, subst, sym, ap, ◌∙◌}
+use Rattle.std.proofs.Common.{Result, Vec, Global, subst, sym, ap, ◌∙◌}
 use Rattle.p21_tree.specs.declared.faults.Fault.{Fault}
-use Rattle.p21_tree.specs.declared.instances.RawInstance.{RawInstance}
-use Rattle.p21_tree.specs.Views.{plain_instance}
 use Rattle.p21_join.specs.declared.model.Model.{Model}
 use Rattle.p21_reader.specs.AllFaults.{IsReadingWithAll}
 use Rattle.p21_reader.specs.AllAnswer.{plain_all}
@@ -15,8 +13,7 @@ use Rattle.p21_rule_run.proofs.runner.report_of_all.Goals as goal
 pub returns-in-Ok : goal.returns-in-Ok
 returns-in-Ok g c =
     let read = subst (λ (a : Result Model (Vec Fault Global)). IsReadingWithAll c.args.schema.now c.args.file.now (plain_all a)) c.in-Ok.is c.requires.read in
-    let whole = subst (λ (is : List RawInstance). IsReadingWithAll c.args.schema.now c.args.file.now (Ok (map plain_instance is))) (sym c.instances.ensures) read in
-    on_ok c.report_of_model.result (λ report of. ruled.of_model whole of) c.report_of_model.ensures
+    on_ok c.report_of_model.result (λ report of. ruled.of_model read of) c.report_of_model.ensures
 
 pub returns-in_ok-text-in-Err : goal.returns-in_ok-text-in-Err
 returns-in_ok-text-in-Err g c =

@@ -1,5 +1,7 @@
-use Rattle.std.proofs.Common.{◌∙◌, ap, map, sym, subst}
-use Rattle.p21_tree.specs.Views.{plain_instance}
+use Rattle.std.proofs.Common.{◌∙◌, List, ap, map, sym, subst}
+use Rattle.p21_join.specs.Model.{instances_of, plain_instances}
+use Rattle.p21_render.specs.ReadingText.{IsModelText}
+use Rattle.p21_tree.specs.declared.instances.RawInstance.{RawInstance}
 use Rattle.p21_rule_run.specs.FaultLine.{rule_fault_lines}
 use Rattle.p21_rule_run.specs.RuleFault.{AreRuleFaults}
 use Rattle.p21_rule_run.specs.Ruled.{labels_of, names_of, told, IsOfModel}
@@ -11,17 +13,19 @@ use Rattle.p21_rule_run.proofs.runner.report_of_model.Goals as goal
 pub returns-then-is_empty : goal.returns-then-is_empty
 returns-then-is_empty g c =
     let s = c.args.schema.now in
-    let is = map plain_instance c.args.instances.now in
+    let is = plain_instances (instances_of c.args.model.now) in
     let faults = c.as_slice-faults.result.now in
     let found = subst (AreRuleFaults s c.args.rules.now is) (sym c.as_slice-faults.ensures.value) c.in_ok-found.ensures in
     let none = is_none faults c.is_empty.result c.is_empty.ensures c.if-is_empty.true in
-    on_both c.report_without_faults.result (λ report complete model. of_kept c.args.all s c.args.rules.now is faults report.outcome report.text.items found none complete model) c.report_without_faults.ensures.outcome c.report_without_faults.ensures.text
+    on_both c.report_without_faults.result
+    (λ report complete counted. of_kept c.args.all s c.args.rules.now is faults report.outcome report.text.items found none complete (subst (λ (l : List RawInstance). IsModelText s (plain_instances l) report.text.items) c.instances.ensures counted))
+    c.report_without_faults.ensures.outcome c.report_without_faults.ensures.text
 
 pub returns : goal.returns
 returns g c =
     let s = c.args.schema.now in
     let rules = c.args.rules.now in
-    let is = map plain_instance c.args.instances.now in
+    let is = plain_instances (instances_of c.args.model.now) in
     let faults = c.as_slice-faults.result.now in
     let found = subst (AreRuleFaults s rules is) (sym c.as_slice-faults.ensures.value) c.in_ok-found.ensures in
     let some = is_some faults c.is_empty.result c.is_empty.ensures c.if-is_empty.false in

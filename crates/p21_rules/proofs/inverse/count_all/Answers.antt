@@ -1,20 +1,27 @@
-use Rattle.std.proofs.Common.{◌≡◌, ◌+◌, ◌++◌, ◌∷◌, ◌∙◌, List, [], length, map, take, ap, subst, sym, arith}
+use Rattle.std.proofs.Common.{◌≡◌, ◌+◌, ◌++◌, ◌∷◌, ◌∙◌, ◌<◌, List, [], length, map, take, ap, subst, sym, arith}
+use Rattle.std.specs.Prelude.{All}
 use Rattle.std.proofs.lemmas.List.{length-map, length-take, map-append, take_all, take_more}
-use Rattle.p21_check.specs.Sets.{keywords_of}
 use Rattle.p21_tree.specs.Sentence.{Instance}
 use Rattle.p21_tree.specs.Views.{plain_instance}
 use Rattle.p21_tree.specs.declared.instances.RawInstance.{RawInstance}
-use Rattle.p21_tree.specs.declared.instances.Record.{Record}
+use Rattle.p21_schema.specs.Place.{IsEntityOf}
+use Rattle.p21_schema.specs.declared.ids.EntityId.{EntityId}
+use Rattle.p21_rules.specs.declared.rule.InverseRule.{InverseRule}
 use Rattle.p21_rules.specs.Counters.{CountAll}
-use Rattle.p21_rules.specs.Named.{AreNamed}
-use Rattle.p21_rules.proofs.ParameterLemmas.{keywords_same}
+use Rattle.p21_rules.proofs.ConcernedLemmas.{entities_known, simple_at, simple_long}
 use Rattle.p21_rules.proofs.inverse.count_all.Goals as goal
 
-pub count_instance-requires-clause-named : goal.count_instance-requires-clause-named
-count_instance-requires-clause-named c =
+pub concerns_of-requires : goal.concerns_of-requires
+concerns_of-requires c =
     let s = c.args.schema.now in
-    let names = subst (λ (l : List Record). AreNamed s (keywords_of l) c.name_entities.new.named.items) c.as_slice.ensures c.in_ok-name_entities.ensures in
-    subst (AreNamed s _) (sym c.deref.ensures.value) (subst (λ ks. AreNamed s ks c.name_entities.new.named.items) (keywords_same c.index-instances-place.result.records) names)
+    subst (λ (ws : List EntityId). All (IsEntityOf s) ws) (sym c.in_ok-wanted.ensures) (entities_known s (λ (r : InverseRule). r.source) c.args.rules.now (λ k r less. (c.requires.rules k r less).source))
+
+pub bounds-entities-place : goal.bounds-entities-place
+bounds-entities-place c =
+    subst (λ n. c.loop-place.place < n) (sym (simple_long c.args.schema.now c.args.instances.now c.args.entities.now c.requires.entities)) c.loop-place-test.true
+
+pub subject_of-requires-clause-own : goal.subject_of-requires-clause-own
+subject_of-requires-clause-own c = simple_at c.args.schema.now c.args.instances.now c.args.entities.now c.loop-place.place c.index-instances-place.result c.requires.entities c.loop-place-test.true c.index-instances-place.is
 
 pub loop-place-preserved : goal.loop-place-preserved
 loop-place-preserved c =

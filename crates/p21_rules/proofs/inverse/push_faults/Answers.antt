@@ -1,38 +1,71 @@
-use Rattle.std.proofs.Common.{◌≡◌, ◌+◌, ◌<◌, ◌++◌, ◌∷◌, ◌∙◌, List, [], Some, drop, length, sym, ap, subst, append_assoc, get_or, refl}
-use Rattle.std.proofs.lemmas.List.{append-nil, drop_more, drop_all}
-use Rattle.std.proofs.lemmas.Option.{slice_get-get_or}
+use Rattle.std.proofs.Common.{◌≡◌, ◌+◌, ◌<◌, ◌∙◌, Some, ap, get_or, subst, sym, arith}
 use Rattle.std.specs.Prelude.{slice_get}
+use Rattle.std.proofs.lemmas.Option.{slice_get-get_or}
+use Rattle.p21_check.specs.EntitySet.{keywords}
 use Rattle.p21_tree.specs.Views.{plain_instance}
 use Rattle.p21_rules.specs.declared.rule.InverseRule.{InverseRule}
-use Rattle.p21_rules.specs.InverseCount.{count_fault, AreCountsAt}
-use Rattle.p21_rules.specs.InverseCount as inverse
-use Rattle.p21_rules.proofs.InverseLemmas.{no_rule}
+use Rattle.p21_rules.specs.InverseCount.{IsCount}
+use Rattle.p21_rules.proofs.ConcernedLemmas.{behind, concerns, last, next, within}
+use Rattle.p21_rules.proofs.InverseLemmas.{IsFaultedBelow, faulted_all, faulted_more, faulted_over, no_rule}
 use Rattle.p21_rules.proofs.inverse.push_faults.Goals as goal
 
-pub loop-number-preserved : goal.loop-number-preserved
-loop-number-preserved c = λ is held fs more.
+pub bounds-rules-number : goal.bounds-rules-number
+bounds-rules-number c =
+    let inv = c.loop-place.invariant in
+    within (λ (r : InverseRule). r.entity) c.args.schema.now (keywords (plain_instance c.args.instance.now)) c.args.rules.now inv.0 c.args.subject.numbers.now c.loop-place.place inv.1 c.loop-place-test.true
+
+pub offset_bounds-rules-number : goal.offset_bounds-rules-number
+offset_bounds-rules-number c =
+    let inv = c.loop-place.invariant in
+    let less = within (λ (r : InverseRule). r.entity) c.args.schema.now (keywords (plain_instance c.args.instance.now)) c.args.rules.now inv.0 c.args.subject.numbers.now c.loop-place.place inv.1 c.loop-place-test.true in
+    omega (arith, less)
+
+pub bounds-all-number : goal.bounds-all-number
+bounds-all-number c =
+    let inv = c.loop-place.invariant in
+    let less = within (λ (r : InverseRule). r.entity) c.args.schema.now (keywords (plain_instance c.args.instance.now)) c.args.rules.now inv.0 c.args.subject.numbers.now c.loop-place.place inv.1 c.loop-place-test.true in
+    subst (λ n. get_or c.args.subject.numbers.now c.loop-place.place 0 < n) (sym c.requires.long) less
+
+pub offset_bounds-all-number : goal.offset_bounds-all-number
+offset_bounds-all-number c =
+    let inv = c.loop-place.invariant in
+    let less = within (λ (r : InverseRule). r.entity) c.args.schema.now (keywords (plain_instance c.args.instance.now)) c.args.rules.now inv.0 c.args.subject.numbers.now c.loop-place.place inv.1 c.loop-place-test.true in
+    let long = c.requires.long in
+    omega (arith, less, long)
+
+pub loop-place-preserved : goal.loop-place-preserved
+loop-place-preserved c =
     let s = c.args.schema.now in
     let i = plain_instance c.args.instance.now in
     let rules = c.args.rules.now in
     let all = c.args.all.now in
-    let k = c.loop-number.number in
-    let r = get_or rules k no_rule in
+    let numbers = c.args.subject.numbers.now in
+    let place = c.loop-place.place in
+    let n = get_or numbers place 0 in
+    let r = get_or rules n no_rule in
     let counters = c.index-all-number.result in
-    let found = c.count-found.result in
-    let faults = count_fault i.at k r found in
-    let there : slice_get rules k ≡ Some r = slice_get-get_or rules k no_rule c.loop-number-test.true in
-    let within : k < length all = subst (λ n. k < n) (sym c.requires.long) c.loop-number-test.true in
-    let has : slice_get all k ≡ Some counters = slice_get-get_or all k counters within ∙ ap (λ m. Some m) (sym c.index-all-number.is) in
-    let left : drop k rules ≡ r ∷ drop (k + 1) rules = drop_more rules k no_rule c.loop-number-test.true in
-    let one : AreCountsAt s is i k (r ∷ drop (k + 1) rules) (faults ++ fs) = inverse.more found (c.count-found.ensures is (held.each k r counters there has)) more refl in
-    let whole = c.loop-number.invariant is held (faults ++ fs) (subst (λ (l : List InverseRule). AreCountsAt s is i k l (faults ++ fs)) (sym left) one) in
-    (whole.0, whole.1, ap (λ l. l ++ fs) c.in_ok-push_fault.ensures ∙ append_assoc c.loop-number.faults.items faults fs ∙ whole.2)
+    let was = c.args.faults.now.items in
+    let faults = c.loop-place.faults.items in
+    let inv = c.loop-place.invariant in
+    let less = within (λ (r : InverseRule). r.entity) s (keywords i) rules inv.0 numbers place inv.1 c.loop-place-test.true in
+    let there : slice_get rules n ≡ Some r = slice_get-get_or rules n no_rule less in
+    let has : slice_get all n ≡ Some counters = slice_get-get_or all n counters (subst (λ m. n < m) (sym c.requires.long) less) ∙ ap (λ m. Some m) (sym c.index-all-number.is) in
+    let of = concerns (λ (r : InverseRule). r.entity) s (keywords i) rules inv.0 numbers place inv.1 c.loop-place-test.true r there in (
+      n + 1,
+      behind (λ (r : InverseRule). r.entity) s (keywords i) rules inv.0 numbers place inv.1 c.loop-place-test.true,
+      λ is held.
+          let passed = next (λ (r : InverseRule). r.entity) s (keywords i) rules inv.0 numbers place inv.1 c.loop-place-test.true (IsFaultedBelow s rules is i was faults) (faulted_over s rules is i was faults) (inv.2 is held) in
+          let counts = subst (IsCount s r i.name is) (sym c.count_of-count.ensures) (held.each n r counters there has i.name).0 in
+          faulted_more s rules is i was faults c.push_fault.new.faults.items n r c.count_of-count.result there of counts c.in_ok-push_fault.ensures passed.4,
+    )
 
 pub returns : goal.returns
 returns c = λ is held.
     let s = c.args.schema.now in
+    let i = plain_instance c.args.instance.now in
     let rules = c.args.rules.now in
-    let none : AreCountsAt s is (plain_instance c.args.instance.now) c.loop-number.number (drop c.loop-number.number rules) [] =
-    subst (λ (l : List InverseRule). AreCountsAt s is (plain_instance c.args.instance.now) c.loop-number.number l []) (sym (drop_all c.loop-number.number rules c.loop-number-test.false)) inverse.none in
-    let all = c.loop-number.invariant is held [] none in
-    (all.0, all.1, sym (append-nil c.loop-number.faults.items) ∙ all.2)
+    let was = c.args.faults.now.items in
+    let faults = c.loop-place.faults.items in
+    let inv = c.loop-place.invariant in
+    let all = last (λ (r : InverseRule). r.entity) s (keywords i) rules inv.0 c.args.subject.numbers.now c.loop-place.place inv.1 (IsFaultedBelow s rules is i was faults) (faulted_over s rules is i was faults) c.loop-place-test.false (inv.2 is held) in
+    faulted_all s rules is i was faults all.0 all.1 all.2

@@ -6,10 +6,10 @@ use Rattle.p21_rules.specs.NotUnique.{AreFaultsBehind}
 use Rattle.p21_rules.proofs.unique.all_not_unique.Given as goal
 
 -- the faults so far, and those of the instances that are left, are all
-abbrev pub invariant-loop-instance : goal.invariant-loop-instance
-invariant-loop-instance l =
+abbrev pub invariant-loop-place : goal.invariant-loop-place
+invariant-loop-place l =
     record {
-      held : Holds l.schema l.rules l.firsts (λ k. map plain_instance (take l.instance-index l.instances));
-      told : (fs : List NotUnique) → AreFaultsBehind l.schema l.rules (map plain_instance (take l.instance-index l.instances)) (map plain_instance (drop l.instance-index l.instances)) fs
+      held : Holds l.schema l.rules l.firsts (λ k. map plain_instance (take l.place l.instances));
+      told : (fs : List NotUnique) → AreFaultsBehind l.schema l.rules (map plain_instance (take l.place l.instances)) (map plain_instance (drop l.place l.instances)) fs
           → AreFaultsBehind l.schema l.rules [] (map plain_instance l.instances) (l.faults.items ++ fs);
     }
