@@ -122,15 +122,18 @@ class Reader:
         return PASSED
 
 
-def compared(value):
-    """A value as it is compared, or that it is none."""
+def compared(schema, value, declared):
+    """A value of a type as it is compared, or that it is none."""
     if value is PASSED:
         return PASSED
     if value[0] == 'list':
-        elements = tuple(compared(it) for it in value[1])
-        return PASSED if PASSED in elements else ('list', elements)
+        base, element = schema.base(declared)
+        elements = [compared(schema, it, element) for it in value[1]] if element else [PASSED]
+        if PASSED in elements:
+            return PASSED
+        return ('elements', frozenset(collections.Counter(elements).items())) if re.match(r'SET|BAG', base) else ('list', tuple(elements))
     if value[0] == 'typed':
-        inner = compared(value[2])
+        inner = compared(schema, value[2], value[1])
         return PASSED if inner is PASSED else ('typed', value[1], inner)
     return value
 
@@ -198,7 +201,7 @@ class Rules:
         if not self.is_of(instance, entity):
             return PASSED
         found = self.parameters(instance)
-        values = [compared(found.get(it, PASSED)) for it in attributes]
+        values = [compared(self.schema, found.get(it, PASSED), dict(self.schema.own[it[0]])[it[1]]) for it in attributes]
         return PASSED if PASSED in values else tuple(values)
 
     def counts(self, instances):

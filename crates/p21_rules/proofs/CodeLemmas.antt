@@ -1,6 +1,7 @@
 -- Different values are written by different bytes.
 use Rattle.std.proofs.Common.{◌≡◌, ◌⊎◌, ◌<◌, ◌+◌, ◌/◌, ◌%◌, ◌^◌, ℕ, true, false, List, [], ◌∷◌, ◌++◌, map, cond, refl, sym, ap, ◌∙◌, ⊎_elim, inl, inr, append_assoc, arith}
 use Rattle.std.specs.Prelude.{nat_lt}
+use Rattle.std.proofs.lemmas.List.{append-nil}
 use Rattle.std.proofs.lemmas.Bool.{cases_Bool, ltb-true}
 use Rattle.p21_text.specs.Items.{Item, scalar, page}
 use Rattle.p21_rules.specs.Code.{triple, number_code, scalar_code, item_code, items_code, bytes_code, value_code, elements_code, values_code, key_code}
@@ -177,6 +178,9 @@ some (instance n) a e = cc
 some (binary s) a e = cc
 some (list vs) a e = cc
 some (typed k v) a e = cc
+
+pub code_once : (v w : Value) → value_code v ≡ value_code w → v ≡ w
+code_once v w e = (value_split v w [] [] (append-nil (value_code v) ∙ e ∙ sym (append-nil (value_code w)))).0
 
 values_once : (vs ws : List Value) → values_code vs ≡ values_code ws → vs ≡ ws
 values_once [] [] e = refl

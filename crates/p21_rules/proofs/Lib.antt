@@ -1,4 +1,8 @@
 pub mod CodeLemmas
+pub mod ExprLemmas
+pub mod NamedTypes
+pub mod ElementsLemmas
+pub mod ArrangedLemmas
 pub mod NumberLemmas
 pub mod BitsLemmas
 pub mod ParameterLemmas

@@ -1,6 +1,8 @@
 pub mod Value
 pub mod Number
 pub mod Bits
+pub mod Elements
+pub mod Arranged
 pub mod Means
 pub mod Named
 pub mod Concerned

@@ -1,26 +1,30 @@
 -- Which value a parameter is.
-use Rattle.std.specs.Prelude.{ℕ, List}
+use Rattle.std.specs.Prelude.{ℕ, List, [], ◌∷◌}
 use Rattle.p21_text.specs.Items.{Item, ItemsOf}
+use Rattle.p21_express.specs.Schema.{Schema, Expr, Aggregate, named}
 use Rattle.p21_tree.specs.Tree.{Tree, Trees}
 use Rattle.p21_tree.specs.Tree as tree
+use Rattle.p21_rules.specs.Arranged.{AreArranged}
 use Rattle.p21_rules.specs.Bits.{bits}
+use Rattle.p21_rules.specs.Elements.{IsListOf, is_ordered}
 use Rattle.p21_rules.specs.Number.{integer_of, real_of, IsNear}
-use Rattle.p21_rules.specs.Value.{Value, Values}
+use Rattle.p21_rules.specs.Value.{Value, listed}
 use Rattle.p21_rules.specs.Value as value
 
 mutual
-  -- A parameter is a value. `$`, `*`, reals whose exponent is 10^17 or more, or -10^17 or less, and lists with such an element are none that is compared.
-  pub data Means : Tree → Value → Type 0 where
-    integer : {s : List ℕ} → Means (tree.int s) (integer_of s)
-    real : {s : List ℕ} → IsNear s → Means (tree.real s) (real_of s)
-    text : {s : List ℕ} {xs : List Item} → ItemsOf s xs → Means (tree.str s) (value.text xs)
-    item : {s : List ℕ} → Means (tree.enumeration s) (value.item s)
-    instance : {n : ℕ} → Means (tree.reference n) (value.instance n)
-    binary : {s : List ℕ} → Means (tree.binary s) (value.binary (bits s))
-    list : {ts : Trees} {vs : Values} → MeanEach ts vs → Means (tree.items ts) (value.list vs)
-    typed : {k : List ℕ} {t : Tree} {v : Value} → Means t v → Means (tree.typed k t) (value.typed k v)
+  -- A parameter of a type is a value. `$`, `*`, reals whose exponent is 10^17 or more, or -10^17 or less, and lists with such an element are none that is
+  -- compared, nor is a list for which the type is no aggregate. A typed parameter is of the type that is its keyword.
+  pub data Means (s : Schema) : Expr → Tree → Value → Type 0 where
+    integer : {x : Expr} {t : List ℕ} → Means s x (tree.int t) (integer_of t)
+    real : {x : Expr} {t : List ℕ} → IsNear t → Means s x (tree.real t) (real_of t)
+    text : {x : Expr} {t : List ℕ} {is : List Item} → ItemsOf t is → Means s x (tree.str t) (value.text is)
+    item : {x : Expr} {t : List ℕ} → Means s x (tree.enumeration t) (value.item t)
+    instance : {x : Expr} {n : ℕ} → Means s x (tree.reference n) (value.instance n)
+    binary : {x : Expr} {t : List ℕ} → Means s x (tree.binary t) (value.binary (bits t))
+    list : {x e : Expr} {a : Aggregate} {ts : Trees} {vs : List Value} (us : List Value) → IsListOf s x a e → MeanEach s e ts vs → AreArranged (is_ordered a) vs us → Means s x (tree.items ts) (value.list (listed us))
+    typed : {x : Expr} {k : List ℕ} {t : Tree} {v : Value} → Means s (named k) t v → Means s x (tree.typed k t) (value.typed k v)
 
   -- the elements of a list are these values, in their order
-  pub data MeanEach : Trees → Values → Type 0 where
-    none : MeanEach tree.nil value.nil
-    more : {t : Tree} {ts : Trees} {v : Value} {vs : Values} → Means t v → MeanEach ts vs → MeanEach (tree.cons t ts) (value.cons v vs)
+  pub data MeanEach (s : Schema) : Expr → Trees → List Value → Type 0 where
+    none : {e : Expr} → MeanEach s e tree.nil []
+    more : {e : Expr} {t : Tree} {ts : Trees} {v : Value} {vs : List Value} → Means s e t v → MeanEach s e ts vs → MeanEach s e (tree.cons t ts) (v ∷ vs)

@@ -1,5 +1,5 @@
 -- The values that rules compare, without how they are spelled.
-use Rattle.std.specs.Prelude.{ℕ, List}
+use Rattle.std.specs.Prelude.{ℕ, List, [], ◌∷◌}
 use Rattle.p21_text.specs.Items.{Item}
 
 mutual
@@ -19,3 +19,7 @@ mutual
   pub data Values : Type 0 where
     nil : Values
     cons : Value → Values → Values
+
+abbrev pub listed : List Value → Values
+listed [] = nil
+listed (v ∷ vs) = cons v (listed vs)

@@ -6,6 +6,7 @@ mod binary;
 mod code;
 mod concerned;
 mod counters;
+mod elements;
 mod entities;
 mod firsts;
 mod inverse;

@@ -17,6 +17,7 @@ ghost use Rattle.p21_rules.specs.Parameter.{IsOf};
 use crate::attributes::parameter;
 use crate::code::push_number;
 use crate::concerned::{Subject, concerns_of, empty_room, subject_of};
+use crate::elements::{elements_of, first_type};
 use crate::firsts::{Firsts, first_of, no_firsts};
 use crate::rule::UniqueRule;
 use crate::value::push_value;
@@ -37,9 +38,9 @@ pub struct NotUnique {
 }
 
 /// The faults of the instances of a file by rules of UNIQUE, in the order of the instances, and of one instance in the order of the
-/// rules. An instance of which a value is `$`, `*`, a real whose exponent is 10^17 or more or -10^17 or less, or a list with such an element is
-/// passed over by the rule. The entities are those of the instances: `None` for one that is complex or whose keyword names no entity. Memory
-/// alone can fail.
+/// rules. An instance of which a value is `$`, `*`, a real whose exponent is 10^17 or more or -10^17 or less, a list with such an element or a list
+/// for which the type is no aggregate is passed over by the rule. The entities are those of the instances: `None` for one that is complex or
+/// whose keyword names no entity. Memory alone can fail.
 pub fn all_not_unique(
     alloc: Global,
     schema: &Schema,
@@ -186,7 +187,11 @@ fn push_values(
             Some(param) => param,
             None => return Ok(false),
         };
-        if !push_value(code, param)? {
+        let texpr = match first_type(schema.declarations(*attribute)) {
+            Some(texpr) => texpr,
+            None => return Ok(false),
+        };
+        if !push_value(schema, elements_of(schema, texpr), code, param)? {
             return Ok(false);
         }
     }

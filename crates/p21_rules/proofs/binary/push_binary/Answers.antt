@@ -1,8 +1,8 @@
-use Rattle.std.proofs.Common.{◌≡◌, ◌∙◌, ◌-◌, ◌++◌, ap, drop, arith}
+use Rattle.std.proofs.Common.{◌∙◌, ◌++◌, ap, drop, arith}
 use Rattle.std.proofs.lemmas.List.{take_rest}
 use Rattle.p21_rules.specs.Bits.{nibbles}
 use Rattle.p21_rules.specs.Code.{bytes_code}
-use Rattle.p21_rules.proofs.BitsLemmas.{unused_of, bits_pushed, no_bits}
+use Rattle.p21_rules.proofs.BitsLemmas.{unused_of, bits_pushed}
 use Rattle.p21_rules.proofs.PushLemmas.{on_ok}
 use Rattle.p21_rules.proofs.binary.push_binary.Goals as goal
 

@@ -1,4 +1,4 @@
-use Rattle.std.proofs.Common.{◌∙◌, sym, ap, add-one, drop, ◌≤◌, subst, ◌≡◌, ◌+◌, ◌*◌, ◌-◌, get_or, arith}
+use Rattle.std.proofs.Common.{ap, drop, ◌≡◌, ◌+◌, ◌*◌, ◌-◌, get_or, arith}
 use Rattle.std.proofs.lemmas.List.{drop_more}
 use Rattle.p21_text.specs.Spelling.{decimal_from}
 use Rattle.p21_rules.proofs.NumberLemmas.{decimal_grows}

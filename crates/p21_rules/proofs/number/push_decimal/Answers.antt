@@ -1,4 +1,4 @@
-use Rattle.std.proofs.Common.{◌++◌, ◌+◌, ◌≡◌, length, ap, sym, ◌∙◌, arith}
+use Rattle.std.proofs.Common.{◌++◌, length, ap, arith}
 use Rattle.std.proofs.lemmas.List.{length-append}
 use Rattle.p21_rules.proofs.NumberLemmas.{before_zeros_within}
 use Rattle.p21_rules.proofs.number.push_decimal.Goals as goal
