@@ -1,5 +1,5 @@
 -- The bits of a binary.
-use Rattle.std.proofs.Common.{◌≡◌, ℕ, zero, suc, ◌+◌, ◌-◌, ◌<◌, ◌≤◌, List, [], ◌∷◌, ◌++◌, length, get_or, drop, refl, sym, ap, ◌∙◌, append_assoc, arith}
+use Rattle.std.proofs.Common.{◌≡◌, ℕ, ◌+◌, ◌-◌, ◌<◌, ◌≤◌, List, [], ◌∷◌, ◌++◌, length, get_or, drop, sym, ap, ◌∙◌, append_assoc, arith}
 use Rattle.std.proofs.Math.Logic.{∥∥₁_elim}
 use Rattle.std.proofs.Math.Bridge.{le_prop}
 use Rattle.std.proofs.lemmas.List.{drop-append-le, drop_more}
@@ -20,16 +20,6 @@ unused (b ∷ c ∷ s) h = record { least = h.0; most = h.1 }
 
 pub unused_of : (s : List ℕ) → ∥ IsBinary s ∥₁ → Unused s
 unused_of s h = ∥∥₁_elim h (hlevel le_prop) (unused s)
-
-drop_none : (n : ℕ) → drop {A = ℕ} n [] ≡ []
-drop_none zero = refl
-drop_none (suc n) = refl
-
--- a binary without further digits has none
-pub no_bits : (s : List ℕ) → length s < 2 → [] ≡ bits s
-no_bits [] l = refl
-no_bits (b ∷ []) l = sym (drop_none (b - 48))
-no_bits (b ∷ c ∷ s) l = absurd (omega arith)
 
 -- those of the first further digit come first
 pub first_bits : (s : List ℕ) → 2 ≤ length s → get_or s 0 0 ≤ 51 → drop (get_or s 0 0 - 48) (nibble (hex_value (get_or s 1 0))) ++ nibbles (drop 2 s) ≡ bits s

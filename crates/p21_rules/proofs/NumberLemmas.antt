@@ -1,8 +1,8 @@
 -- The parts of a number, and its digits without zeros.
-use Rattle.std.proofs.Common.{◌≡◌, ⊎_elim, ℕ, ◌+◌, ◌-◌, ◌*◌, ◌<◌, ◌≤◌, Bool, true, false, cond, List, [], ◌∷◌, ◌++◌, length, take, drop, get_or, refl, sym, ap, ◌∙◌, append_assoc, arith}
+use Rattle.std.proofs.Common.{◌≡◌, ⊎_elim, ℕ, ◌+◌, ◌-◌, ◌*◌, ◌<◌, ◌≤◌, Bool, true, false, cond, List, [], ◌∷◌, ◌++◌, length, take, get_or, refl, sym, ap, ◌∙◌, append_assoc, arith}
 use Rattle.std.specs.Prelude.{nat_eq, ◌==◌, ◌||◌}
 use Rattle.std.proofs.lemmas.Bool.{cases_eq, eq-eqb, eqb-true, ne_eqb}
-use Rattle.std.proofs.lemmas.List.{append-nil, take_all, take_more, drop_more}
+use Rattle.std.proofs.lemmas.List.{append-nil, take_all, take_more}
 use Rattle.p21_text.specs.Spelling.{decimal_from}
 use Rattle.p21_rules.specs.Number.{before_first, behind_first, before_zeros, behind_zeros, in_front, scaled, signed, unsigned}
 use Rattle.p21_rules.specs.Code.{bytes_code, number_code, value_code}
@@ -22,23 +22,6 @@ module _ (c : ℕ) where
 
   behind_other : (b : ℕ) (bs : List ℕ) → (b ≡ c → ⊥) → behind_first c (b ∷ bs) ≡ behind_first c bs
   behind_other b bs n = ap (λ t. cond t bs (behind_first c bs)) (ne_eqb b c n)
-
-  module _ (s : List ℕ) (k : ℕ) (l : k < length s) where
-    pub before_here : get_or s k 0 ≡ c → before_first c s ≡ take k s ++ before_first c (drop k s) → before_first c s ≡ take k s ++ []
-    before_here e h = h ∙ ap (λ r. take k s ++ r) (ap (before_first c) (drop_more s k 0 l) ∙ before_found (get_or s k 0) (drop (k + 1) s) e)
-
-    pub before_next : (get_or s k 0 ≡ c → ⊥) → before_first c s ≡ take k s ++ before_first c (drop k s) → before_first c s ≡ take (k + 1) s ++ before_first c (drop (k + 1) s)
-    before_next n h =
-        h
-        ∙ ap (λ r. take k s ++ r) (ap (before_first c) (drop_more s k 0 l) ∙ before_other (get_or s k 0) (drop (k + 1) s) n)
-        ∙ sym (append_assoc (take k s) (get_or s k 0 ∷ []) (before_first c (drop (k + 1) s)))
-        ∙ ap (λ r. r ++ before_first c (drop (k + 1) s)) (sym (take_more s k 0 l))
-
-    pub behind_here : get_or s k 0 ≡ c → behind_first c s ≡ behind_first c (drop k s) → behind_first c s ≡ drop (k + 1) s
-    behind_here e h = h ∙ ap (behind_first c) (drop_more s k 0 l) ∙ behind_found (get_or s k 0) (drop (k + 1) s) e
-
-    pub behind_next : (get_or s k 0 ≡ c → ⊥) → behind_first c s ≡ behind_first c (drop k s) → behind_first c s ≡ behind_first c (drop (k + 1) s)
-    behind_next n h = h ∙ ap (behind_first c) (drop_more s k 0 l) ∙ behind_other (get_or s k 0) (drop (k + 1) s) n
 
   -- the parts are no longer than the whole
   pub parts_within : (s : List ℕ) → length (before_first c s) + length (behind_first c s) ≤ length s
@@ -117,13 +100,6 @@ empty : (xs : List ℕ) → nat_eq (length xs) 0 ≡ true → xs ≡ []
 empty [] t = refl
 empty (x ∷ xs) t = let e = eqb-true (length (x ∷ xs)) 0 t in absurd (omega arith)
 
-pub no_digits : (xs ys : List ℕ) → nat_eq (length xs) 0 ≡ true → nat_eq (length ys) 0 ≡ nat_eq (length (xs ++ ys)) 0
-no_digits xs ys t = ap (λ l. nat_eq (length (l ++ ys)) 0) (sym (empty xs t))
-
-pub some_digits : (xs ys : List ℕ) → nat_eq (length xs) 0 ≡ false → false ≡ nat_eq (length (xs ++ ys)) 0
-some_digits [] ys t = cc
-some_digits (x ∷ xs) ys t = sym (ne_eqb (length (x ∷ xs ++ ys)) 0 (λ e. omega arith))
-
 module _ (xs ys whole fraction : List ℕ) where
   pub fraction_left : whole ≡ behind_zeros xs → nat_eq (length whole) 0 ≡ true → fraction ≡ behind_zeros ys → whole ++ fraction ≡ behind_zeros (xs ++ ys)
   fraction_left e t f = ap (λ l. l ++ fraction) (empty whole t) ∙ f ∙ sym (behind_zeros_none xs ys (sym e ∙ empty whole t))
@@ -140,13 +116,6 @@ back_left xs ys [] e t = cc
 back_left xs ys (z ∷ zs) e t = sym (before_zeros_both xs ys z zs (sym e))
 
 -- ---- as bytes
-
-module _ (minus : Bool) (ds : List ℕ) (up down : ℕ) where
-  scaled_none : nat_eq (length ds) 0 ≡ true → scaled minus ds up down ≡ number [] 0 0
-  scaled_none t = ap (λ l. scaled minus l up down) (empty ds t)
-
-  pub zero_pushed : (old new : List ℕ) → nat_eq (length ds) 0 ≡ true → new ≡ old ++ value_code (number [] 0 0) → new ≡ old ++ value_code (scaled minus ds up down)
-  zero_pushed old new t e = e ∙ ap (λ v. old ++ value_code v) (sym (scaled_none t))
 
 scaled_some : (minus : Bool) (ds : List ℕ) (up down : ℕ) → nat_eq (length ds) 0 ≡ false → scaled minus ds up down ≡ number (signed minus ds) (up - down) (down - up)
 scaled_some minus [] up down t = cc

@@ -153,9 +153,6 @@ module _ (s : Schema) (e : Expr) where
   abbrev pub AreUnderway : List Param → ℕ → List ℕ → List ℕ → Type 0
   AreUnderway ps k old new = (vs : List Value) → MeanEach s e (plain_all (drop k ps)) vs → AreBehind (plain_all ps) old new vs
 
-  pub none_yet : (ps : List Param) (old : List ℕ) → AreUnderway ps 0 old old
-  none_yet ps old vs m = record { values = vs; mean = m; added = refl }
-
   pub one_more : (ps : List Param) (k : ℕ) (p : Param) (old mid new : List ℕ) → k < length ps → p ≡ get_or ps k p → AreUnderway ps k old mid → IsPushed s e (plain p) mid new true → AreUnderway ps (k + 1) old new
   one_more ps k p old mid new less is behind (v, m, f) = λ vs ms.
       let here : drop k ps ≡ p ∷ drop (k + 1) ps = drop_more ps k p less ∙ ap (λ (q : Param). q ∷ drop (k + 1) ps) (sym is) in
@@ -178,10 +175,7 @@ module _ (s : Schema) (e : Expr) where
   abbrev pub AreCoded : List Param → ℕ → List (List ℕ) → Type 0
   AreCoded ps k codes = (vs : List Value) → MeanEach s e (plain_all (drop k ps)) vs → AreAmong (plain_all ps) codes vs
 
-  pub none_coded : (ps : List Param) → AreCoded ps 0 []
-  none_coded ps vs m = record { values = vs; mean = m; coded = refl }
-
-  pub one_coded : (ps : List Param) (k : ℕ) (p : Param) (codes : List (List ℕ)) (own : List ℕ) → k < length ps → p ≡ get_or ps k p → AreCoded ps k codes → IsPushed s e (plain p) [] own true → AreCoded ps (k + 1) (codes ++ own ∷ [])
+  one_coded : (ps : List Param) (k : ℕ) (p : Param) (codes : List (List ℕ)) (own : List ℕ) → k < length ps → p ≡ get_or ps k p → AreCoded ps k codes → IsPushed s e (plain p) [] own true → AreCoded ps (k + 1) (codes ++ own ∷ [])
   one_coded ps k p codes own less is behind (v, m, f) = λ vs ms.
       let here : drop k ps ≡ p ∷ drop (k + 1) ps = drop_more ps k p less ∙ ap (λ (q : Param). q ∷ drop (k + 1) ps) (sym is) in
       let all = behind (v ∷ vs) (subst (λ (l : List Param). MeanEach s e (plain_all l) (v ∷ vs)) (sym here) (means.more m ms)) in

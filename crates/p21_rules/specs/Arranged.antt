@@ -6,6 +6,7 @@ use Rattle.std.specs.Cmp.Lexicographic.{slice_cmp}
 use Rattle.p21_rules.specs.Code.{value_code}
 use Rattle.p21_rules.specs.Value.{Value}
 
+-- which of two values comes first
 abbrev pub code_cmp : Value → Value → Ordering
 code_cmp v w = slice_cmp nat_cmp (value_code v) (value_code w)
 

@@ -26,6 +26,7 @@ pub data IsParameterIn (s : Schema) (complex : Bool) (o : Origin) : List Entry �
   here : {e : Entry} {es : List Entry} {os : List Origin} {t : Tree} → AreAttributes s complex e.keyword os → parameter_of os e.params o ≡ Some t → IsParameterIn s complex o (e ∷ es) t
   behind : {e : Entry} {es : List Entry} {os : List Origin} {t : Tree} → AreAttributes s complex e.keyword os → parameter_of os e.params o ≡ None → IsParameterIn s complex o es t → IsParameterIn s complex o (e ∷ es) t
 
+-- its type where it is explicit, and else the other one
 abbrev pub type_or : Form → Option Expr → Option Expr
 type_or derived o = o
 type_or (explicit optional x) o = Some x

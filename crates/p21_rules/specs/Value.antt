@@ -20,6 +20,7 @@ mutual
     nil : Values
     cons : Value → Values → Values
 
+-- a list of values as the values of elements
 abbrev pub listed : List Value → Values
 listed [] = nil
 listed (v ∷ vs) = cons v (listed vs)
