@@ -7,14 +7,13 @@ import subprocess
 import sys
 import tempfile
 
+from launched import TOP, launched
 from report import Report
 
-TOP = pathlib.Path(__file__).resolve().parent.parent
 TESTS = TOP / 'tests'
 ROWS = TESTS / 'rows'
 SCHEMA = ROWS / 'toy.exp'
-# The program that the launcher runs, which it unpacks or builds first where there is none of the sources as they stand.
-PROGRAM = pathlib.Path(subprocess.run([TOP / 'p21check'], env={**os.environ, 'P21CHECK_WHICH': '1'}, stdout=subprocess.PIPE, text=True, check=True).stdout[:-1])
+PROGRAM = launched('p21check')
 DEVICE = b'p21check: input or output failed\n'
 MEMORY = b'p21check: out of memory\n'
 SECONDS = 10
