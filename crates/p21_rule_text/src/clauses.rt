@@ -82,6 +82,14 @@ pub(crate) struct Clause<'t> {
 }
 
 impl Clause<'_> {
+    /// The place of its first word in a text of this length.
+    pub(crate) fn begin(&self, len: usize) -> u64 {
+        match self.words.first() {
+            Some(word) => word.place(len),
+            None => self.end(len),
+        }
+    }
+
     /// The place of its semicolon in a text of this length.
     pub(crate) fn end(&self, len: usize) -> u64 {
         len.saturating_sub(self.left.saturating_add(1)) as u64

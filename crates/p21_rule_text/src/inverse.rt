@@ -6,6 +6,7 @@ ghost use Rattle.p21_rules.specs.InverseCount.{IsInverseRuleOf};
 ghost use Rattle.p21_schema.specs.Place.{IsEntityOf};
 ghost use Rattle.p21_rule_text.specs.Clauses.{AreClausesOf, IsInverseIn};
 
+use crate::bounds::{Bounds, bounds_of};
 use crate::clauses::{Clause, Word};
 use crate::resolve::{Found, is_inverse, resolve};
 use crate::rules::{name_at, upper_case};
@@ -23,14 +24,6 @@ pub(crate) enum Inverse {
     Any,
     /// What cannot be looked at: it is FOR a derived or inverse attribute of this name; or, where the name is empty, its bounds are no numbers.
     PassedOver(Vec<u8>),
-}
-
-/// Bounds.
-#[derive(Clone, Copy)]
-struct Bounds {
-    is_bag: bool,
-    low: u64,
-    high: Option<u64>,
 }
 
 /// The name of the INVERSE attribute of a clause, in upper case, and what it asks for.
@@ -116,31 +109,6 @@ fn bounds_at<'w, 't>(
             Ok((Some(any), behind_word(rest, b"OF", clause, text.len())?))
         }
     }
-}
-
-/// The bounds that are spelled so, or `None` where they are no numbers.
-fn bounds_of(is_bag: bool, low: &[u8], high: &[u8]) -> Option<Bounds> {
-    let low = number(low)?;
-    let high = if high.trim_ascii() == b"?".as_slice() {
-        None
-    } else {
-        Some(number(high)?)
-    };
-    Some(Bounds { is_bag, low, high })
-}
-
-/// The number that stands there alone, between white space.
-fn number(text: &[u8]) -> Option<u64> {
-    let digits = text.trim_ascii();
-    let mut number: Option<u64> = None;
-    for digit in digits {
-        if !digit.is_ascii_digit() {
-            return None;
-        }
-        let tens = number.unwrap_or(0).checked_mul(10)?;
-        number = Some(tens.checked_add(u64::from(*digit - b'0'))?);
-    }
-    number
 }
 
 /// What an INVERSE attribute with these bounds asks for, where these words name the entity that refers and its attribute.

@@ -30,9 +30,19 @@ pub struct Rules {
     pub passed_over: Vec<PassedOver>,
 }
 
+/// Of which kind a rule is.
+#[derive(Clone, Copy, Debug, PartialEq, Eq)]
+pub enum RuleKind {
+    Unique,
+    Inverse,
+}
+
 /// A rule UNIQUE that names a derived or inverse attribute; an INVERSE attribute FOR such a one; or one whose bounds are no numbers.
 #[derive(Debug, Drop)]
 pub struct PassedOver {
+    pub kind: RuleKind,
+    /// Where it begins in the text, in bytes.
+    pub at: u64,
     pub entity: EntityId,
     /// The label of the rule, in upper case, or its number within the entity; or the name of the INVERSE attribute.
     pub label: Vec<u8>,
@@ -86,6 +96,8 @@ fn push_inverse(
             rules.inverse_names.push(name)?;
         }
         Inverse::PassedOver(attribute) => rules.passed_over.push(PassedOver {
+            kind: RuleKind::Inverse,
+            at: clause.begin(text.len()),
             entity: clause.entity,
             label: name,
             attribute,
@@ -118,6 +130,8 @@ fn push_rule(
             rules.labels.push(label)?;
         }
         Attributes::Other(attribute) => rules.passed_over.push(PassedOver {
+            kind: RuleKind::Unique,
+            at: clause.begin(len),
             entity,
             label,
             attribute,
