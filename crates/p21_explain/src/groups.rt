@@ -62,12 +62,8 @@ fn push_group(
     ensures { OnOk result (IsPrinted (string_bytes text.new)) }
 {
     let mut line = Said::new(alloc);
-    let faults = if group.count == 1 {
-        " fault: "
-    } else {
-        " faults: "
-    };
-    line.say((group.count, faults, group.words))?;
+    say_count(&mut line, group.count)?;
+    line.say(group.words)?;
     if !group.keyword.is_empty() {
         line.say((": ", Front(subject.name(group.keyword))))?;
     }
@@ -76,6 +72,12 @@ fn push_group(
         line.say((attr, ")"))?;
     }
     push_line(text, line.bytes())
+}
+
+/// Adds how many faults there are.
+pub(crate) fn say_count(line: &mut Said, count: u64) -> Result<(), AllocError> {
+    let faults = if count == 1 { " fault: " } else { " faults: " };
+    line.say((count, faults))
 }
 
 /// What a fault has in common with others that are like it.

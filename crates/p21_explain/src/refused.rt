@@ -56,13 +56,15 @@ pub fn explain_device<'a>(
 {
     let mut said = Said::new(alloc);
     said.say((path, ": ", words))?;
-    in_a_line(alloc, path, b"Device", &said, format)
+    in_a_line(alloc, path, b"", 0, b"Device", &said, format)
 }
 
-/// What is said of a file as a whole.
+/// What is said in a line of a file, or of a place in its text.
 pub(crate) fn in_a_line(
     alloc: Global,
     path: &str,
+    text: &[u8],
+    place: u64,
     kind: &[u8],
     said: &Said,
     format: Format,
@@ -70,11 +72,11 @@ pub(crate) fn in_a_line(
     ensures { IfOk result (λ text. IsPrinted (string_bytes text)) }
 {
     if format == Format::Json {
-        return object(alloc, path, b"", 0, kind, said);
+        return object(alloc, path, text, in_text(text, place), kind, said);
     }
-    let mut text = new_text(alloc);
-    push_line(&mut text, said.bytes())?;
-    Ok(text)
+    let mut line = new_text(alloc);
+    push_line(&mut line, said.bytes())?;
+    Ok(line)
 }
 
 /// The words of forms that are not supported, and what to do about each.

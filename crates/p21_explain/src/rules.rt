@@ -10,7 +10,7 @@ use crate::instance::{Instance, Spot};
 use crate::references::say_named;
 use crate::refused::in_a_line;
 use crate::said::{Front, Said};
-use p21_rule_text::{PassedOver, Rules};
+use p21_rule_text::{PassedOver, RuleKind, Rules};
 use p21_rules::{InverseCount, InverseRule, NotUnique};
 use p21_schema::AttrId;
 use p21_spelling::{Spellings, next_word};
@@ -95,11 +95,10 @@ fn say_inverse_count(
     said.say((" of ", spelling(&spellings.entities, rule.source.place())))?;
     said.found = said.since(from);
     let name = spelling(&rules.inverse_names, fault.rule);
-    said.say((", and ", spelled(schema_text, name), " of "))?;
-    said.say((
-        spelling(&spellings.entities, rule.entity.place()),
-        " asks for ",
-    ))?;
+    said.say(", and ")?;
+    say_attribute(said, spelled(schema_text, name))?;
+    let entity = spelling(&spellings.entities, rule.entity.place());
+    said.say((" of ", entity, " asks for "))?;
     say_bounds(said, rule)?;
     Ok(instance.at)
 }
@@ -159,11 +158,12 @@ fn say_value(said: &mut Said, instance: &Instance<'_>, id: AttrId) -> Result<(),
 }
 
 /// The name at a place; nothing where there is none.
-fn spelling(names: &[Vec<u8>], place: usize) -> &[u8] {
+pub(crate) fn spelling(names: &[Vec<u8>], place: usize) -> &[u8] {
     names.get(place).map_or(b"".as_slice(), |it| it.as_slice())
 }
 
-/// A rule that was not checked, in a line. The path, the text and the spellings are those of the schema.
+/// A rule that was not checked, in a line; as an object of JSON with its place in the text. The path, the text and the spellings are those of the
+/// schema.
 pub fn explain_passed_over(
     alloc: Global,
     path: &str,
@@ -175,22 +175,49 @@ pub fn explain_passed_over(
     ensures { IfOk result (λ text. IsPrinted (string_bytes text)) }
 {
     let mut said = Said::new(alloc);
-    said.say((path, ": rule ", rule.label.as_slice(), " of "))?;
-    said.say(spelling(&spellings.entities, rule.entity.place()))?;
-    if rule.attribute.is_empty() {
-        said.say(" was not checked: its bounds are not numbers.")?;
-    } else {
-        said.say((
-            " was not checked: its attribute ",
-            spelled(text, &rule.attribute),
-        ))?;
-        said.say(" is derived or inverse.")?;
+    said.say((path, ": "))?;
+    match rule.kind {
+        RuleKind::Unique => said.say(("rule ", rule.label.as_slice()))?,
+        RuleKind::Inverse => {
+            said.say("INVERSE attribute ")?;
+            say_attribute(&mut said, spelled(text, &rule.label))?;
+        }
     }
-    in_a_line(alloc, path, b"NotChecked", &said, format)
+    said.say(" of ")?;
+    let from = said.len();
+    said.say(spelling(&spellings.entities, rule.entity.place()))?;
+    said.entity = said.since(from);
+    said.say(" was not checked: ")?;
+    say_why(&mut said, text, rule)?;
+    in_a_line(alloc, path, text, rule.at, b"NotChecked", &said, format)
+}
+
+/// Adds why a rule was not checked.
+fn say_why(said: &mut Said, text: &[u8], rule: &PassedOver) -> Result<(), AllocError> {
+    if rule.attribute.is_empty() {
+        return said.say("its bounds are not numbers.");
+    }
+    let attribute = spelled(text, &rule.attribute);
+    match rule.kind {
+        RuleKind::Unique => {
+            said.say("its attribute ")?;
+            say_attribute(said, attribute)?;
+            said.say(" is derived or inverse.")
+        }
+        RuleKind::Inverse => said.say(("it is FOR ", attribute, ", which is derived or inverse.")),
+    }
+}
+
+/// Adds the name of the attribute that is told of.
+fn say_attribute(said: &mut Said, name: &[u8]) -> Result<(), AllocError> {
+    let from = said.len();
+    said.say(name)?;
+    said.attribute = said.since(from);
+    Ok(())
 }
 
 /// A name as a text first spells it.
-fn spelled<'a>(text: &'a [u8], name: &'a [u8]) -> &'a [u8] {
+pub(crate) fn spelled<'a>(text: &'a [u8], name: &'a [u8]) -> &'a [u8] {
     let mut rest = text;
     while let Some((word, behind)) = next_word(rest) {
         if word.eq_ignore_ascii_case(name) {
