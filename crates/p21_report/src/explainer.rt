@@ -2,13 +2,14 @@
 
 use crate::progress::{Progress, Stage};
 use p21_explain::{
-    Format, Spellings, Subject, explain_device, explain_fault, explain_inverse_count,
-    explain_not_unique, explain_passed_over, explain_schema_fault, spell_names, summary,
+    Format, RuleCounts, Spellings, Subject, explain_device, explain_fault, explain_inverse_count,
+    explain_not_unique, explain_passed_over, explain_schema_fault, rule_summary, spell_names,
+    summary,
 };
 use p21_express::SchemaError;
 use p21_render::{fault_line, schema_fault_line};
 use p21_rule_run::{RuleFault, RuleListener};
-use p21_rule_text::Rules;
+use p21_rule_text::{RuleKind, Rules};
 use p21_run::{Listener, Outcome};
 use p21_schema::Schema;
 use p21_tree::Fault;
@@ -150,7 +151,7 @@ impl<'a, C: Clock, P: Write> Explainer<'a, C, P> {
         }
     }
 
-    /// Adds the first faults by the rules, and the rules that were not checked.
+    /// Adds the first faults by the rules, in text of several a summary, and the rules that were not checked.
     fn add_ruled(
         &mut self,
         schema: &Schema,
@@ -167,6 +168,11 @@ impl<'a, C: Clock, P: Write> Explainer<'a, C, P> {
         };
         for fault in faults.iter().take(self.most) {
             let told = self.explained(subject, rules, fault)?;
+            say(&mut self.said, told)?;
+        }
+        if faults.len() > 1 && self.format == Format::Text {
+            let counts = counts_of(self.alloc, rules, faults)?;
+            let told = rule_summary(self.alloc, &self.text, &spellings, rules, &counts)?;
             say(&mut self.said, told)?;
         }
         self.add_passed_over(&spellings, rules)
@@ -240,6 +246,18 @@ impl<C: Clock, P: Write> RuleListener for Explainer<'_, C, P> {
             let _ = self.add_ruled(schema, rules, file, faults);
         }
     }
+}
+
+/// How many faults break each rule.
+fn counts_of(alloc: Global, rules: &Rules, faults: &[RuleFault]) -> Result<RuleCounts, AllocError> {
+    let mut counts = RuleCounts::none(alloc, rules)?;
+    for fault in faults {
+        match fault {
+            RuleFault::NotUnique(fault) => counts.add(RuleKind::Unique, fault.rule),
+            RuleFault::InverseCount(fault) => counts.add(RuleKind::Inverse, fault.rule),
+        }
+    }
+    Ok(counts)
 }
 
 /// Adds a text to what is said.
