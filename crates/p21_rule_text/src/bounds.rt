@@ -88,7 +88,7 @@ fn passed(text: &[u8], inside: Inside) -> Option<(&[u8], Inside)>
         (Inside::Line | Inside::Remarks(_), [_, behind @ ..]) => Some((behind, inside)),
         (Inside::Nothing, [b'-', b'-', behind @ ..]) => Some((behind, Inside::Line)),
         (Inside::Nothing, [b'(', b'*', behind @ ..]) => Some((behind, Inside::Remarks(0))),
-        (Inside::Nothing, [byte, behind @ ..]) if byte.is_ascii_whitespace() => {
+        (Inside::Nothing, [byte, behind @ ..]) if matches!(byte, 9..=13 | b' ') => {
             Some((behind, inside))
         }
         (_, _) => None,

@@ -12,7 +12,7 @@ use p21_schema::{AttrId, EntityId, Schema};
 /// What a name is in an entity.
 #[derive(Clone, Copy)]
 pub(crate) enum Found {
-    /// An explicit attribute of it or of an ancestor.
+    /// An explicit attribute of it or of an ancestor, which neither declares again in DERIVE.
     Explicit(AttrId),
     /// A derived or inverse attribute.
     Other,
@@ -31,8 +31,12 @@ pub(crate) fn resolve(
     requires clauses { AreClausesOf schema.now clauses.now }
     ensures { IsFoundIn schema.now result }
 {
-    if let Some(attribute) = explicit(schema, entity, of, name) {
-        return Found::Explicit(attribute);
+    if let Some((declared, attribute)) = explicit(schema, entity, of, name) {
+        return if is_derived_again(schema, entity, declared, name) {
+            Found::Other
+        } else {
+            Found::Explicit(attribute)
+        };
     }
     if is_derived(schema, entity, of, name) || is_inverse(schema, clauses, entity, of, name) {
         return Found::Other;
@@ -40,16 +44,21 @@ pub(crate) fn resolve(
     Found::Nothing
 }
 
-/// The explicit attribute of this name that the entity or an ancestor newly declares.
-fn explicit(schema: &Schema, entity: EntityId, of: Option<&[u8]>, name: &[u8]) -> Option<AttrId>
+/// The explicit attribute of this name that the entity or an ancestor newly declares, behind the name of that one.
+fn explicit<'s>(
+    schema: &'s Schema,
+    entity: EntityId,
+    of: Option<&[u8]>,
+    name: &[u8],
+) -> Option<(&'s [u8], AttrId)>
     requires { IsEntityOf schema.now entity }
-    ensures { IfSome result (IsAttributeOf schema.now) }
+    ensures { IfSome result (λ found. IsAttributeOf schema.entry.now found.1) }
 {
     let entities = &schema.declared().entities;
     for place in 0..entities.len() {
         if let Some(other) = above(schema, entity, of, place) {
             if let Some(attribute) = own(schema, other, &entities[place], name) {
-                return Some(attribute);
+                return Some((schema.name_of(other), attribute));
             }
         }
     }
@@ -92,6 +101,32 @@ fn own(schema: &Schema, entity: EntityId, declared: &EntityDecl, name: &[u8]) ->
     } else {
         None
     }
+}
+
+/// Whether the entity or an ancestor declares in DERIVE again what an entity declares by this name.
+fn is_derived_again(schema: &Schema, entity: EntityId, of: &[u8], name: &[u8]) -> bool
+    requires { IsEntityOf schema.now entity }
+{
+    let entities = &schema.declared().entities;
+    for place in 0..entities.len() {
+        if derives_again(&entities[place], of, name)
+            && above(schema, entity, None, place).is_some()
+        {
+            return true;
+        }
+    }
+    false
+}
+
+/// Whether an entity declares in DERIVE again what another declares by this name.
+fn derives_again(declared: &EntityDecl, of: &[u8], name: &[u8]) -> bool {
+    declared.derived.iter().any(|attribute| {
+        name.eq_ignore_ascii_case(&attribute.name)
+            && match &attribute.of {
+                Some(other) => of.eq_ignore_ascii_case(other),
+                None => false,
+            }
+    })
 }
 
 /// Whether the entity or an ancestor declares an attribute of this name in DERIVE.
