@@ -155,6 +155,11 @@ class Rules:
         self.schema = Schema(text)
         plain = re.sub(r"'[^']*'", "''", re.sub(r'--[^\n]*', '', re.sub(r'\(\*.*?\*\)', '', Schema.innermost(text), flags=re.DOTALL))).upper()
         self.rules, self.inverse = [], []
+        # What each entity declares in DERIVE again, by the entity that declares it first and its name.
+        self.derived = {}
+        for entity, _, body in re.findall(r'\bENTITY\s+(%s)([^;]*);(.*?)\bEND_ENTITY\b' % NAME, plain, re.DOTALL):
+            match = re.search(r'(?:^|;)\s*DERIVE\b((?:(?!\bINVERSE\b|\bUNIQUE\b|\bWHERE\b).)*)', body, re.DOTALL)
+            self.derived[entity] = set(re.findall(r'(?:^|;)\s*SELF\s*\\\s*(%s)\s*\.\s*(%s)\s*:' % (NAME, NAME), match[1] if match else ''))
         for entity, _, body in re.findall(r'\bENTITY\s+(%s)([^;]*);(.*?)\bEND_ENTITY\b' % NAME, plain, re.DOTALL):
             match = re.search(r'(?:^|;)\s*UNIQUE\b((?:(?!\bWHERE\b).)*)', body, re.DOTALL)
             for number, clause in enumerate(match[1].split(';')[:-1] if match else [], 1):
@@ -180,7 +185,8 @@ class Rules:
     def resolve(self, entity, text):
         names = re.findall(NAME, text)
         owners = [names[1]] if names[0] == 'SELF' else self.schema.ancestors(entity)
-        return next(((owner, names[-1]) for owner in self.schema.own for it in self.schema.own[owner] if owner in owners and it[0] == names[-1]), None)
+        found = next(((owner, names[-1]) for owner in self.schema.own for it in self.schema.own[owner] if owner in owners and it[0] == names[-1]), None)
+        return None if any(found in self.derived[it] for it in self.schema.ancestors(entity)) else found
 
     def is_of(self, instance, entity):
         return any(entity in self.schema.ancestors(keyword) for keyword, _ in instance[3])
