@@ -81,8 +81,8 @@ fn attributes<'t, 'a>(
     Ok((list, places, rest))
 }
 
-/// Whether the rules or the end of an entity begin.
-fn begins_rules(words: &[Word]) -> bool
+/// Whether the words go on with INVERSE, UNIQUE, WHERE or END_ENTITY.
+pub fn begins_rules(words: &[Word]) -> bool
     ensures { result ≡ begins_rules (words_of words.now) }
 {
     match words.split_first() {

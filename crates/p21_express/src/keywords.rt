@@ -44,14 +44,16 @@ pub(crate) enum UnderWord {
 
 /// What a word says where a declaration begins.
 #[derive(Clone, Copy)]
-pub(crate) enum DeclWord {
+pub enum DeclWord {
     Entity,
     Type,
     Function,
     Procedure,
     Rule,
     Constant,
+    /// A declaration of a form that is not supported, such as USE.
     Unsupported,
+    /// No declaration.
     Unknown,
 }
 
@@ -114,8 +116,9 @@ pub(crate) fn under_word(word: &[u8]) -> UnderWord
     UnderWord::Plain
 }
 
+/// What a word in upper case says where a declaration begins.
 #[tactic(auto, unfolding(crate::specs::Keywords::decl_word_of))]
-pub(crate) fn decl_word(word: &[u8]) -> DeclWord
+pub fn decl_word(word: &[u8]) -> DeclWord
     ensures { result ≡ decl_word_of word.now }
 {
     if word == b"ENTITY".as_slice() {

@@ -38,11 +38,12 @@ impl Names {
 
 /// The name of an attribute, with the entity behind SELF where it is declared again.
 #[derive(Clone, Copy)]
-pub(crate) struct AttrName<'a> {
-    pub(crate) name: &'a [u8],
-    pub(crate) of: Option<&'a [u8]>,
+pub struct AttrName<'a> {
+    pub name: &'a [u8],
+    /// The entity behind SELF.
+    pub of: Option<&'a [u8]>,
     /// How many words stand from the naming on.
-    pub(crate) place: usize,
+    pub place: usize,
 }
 
 /// A further name, and how many words stand from it on.
@@ -106,10 +107,10 @@ fn again<'t, 'a>(
     Ok((naming, rest))
 }
 
+/// The name of an attribute, perhaps behind SELF, and the words behind it. `RENAMED` behind one with SELF is refused as `NotSupported`, and any other
+/// word that does not fit as `Syntax`.
 #[tactic(auto, unfolding(crate::specs::Reader::naming_at))]
-pub(crate) fn naming<'t, 'a>(
-    words: &'t [Word<'a>],
-) -> Result<(AttrName<'a>, &'t [Word<'a>]), Refusal>
+pub fn naming<'t, 'a>(words: &'t [Word<'a>]) -> Result<(AttrName<'a>, &'t [Word<'a>]), Refusal>
     ensures { Gives (λ x. (plain_naming x.0, words_of x.1.now)) result (naming_at (words_of words.now)) }
 {
     let (name, rest) = name(words)?;
@@ -124,8 +125,9 @@ pub(crate) fn naming<'t, 'a>(
     Ok((naming, rest))
 }
 
+/// A comma, the name of an attribute behind it, and the words behind that one. It is refused as `naming` says.
 #[tactic(auto, unfolding(crate::specs::Reader::next_naming))]
-fn next_naming<'t, 'a>(words: &'t [Word<'a>]) -> Result<(AttrName<'a>, &'t [Word<'a>]), Refusal>
+pub fn next_naming<'t, 'a>(words: &'t [Word<'a>]) -> Result<(AttrName<'a>, &'t [Word<'a>]), Refusal>
     ensures { Gives (λ x. (plain_naming x.0, words_of x.1.now)) result (next_naming (words_of words.now)) }
 {
     naming(symbol(words, b',')?)

@@ -8,8 +8,8 @@ ghost use Rattle.p21_express.specs.Reader.{words_of, Gives, name_at, word_at, sy
 use crate::refusal::Refusal;
 use crate::word::Word;
 
-/// Any name, and the words behind it.
-pub(crate) fn name<'t, 'a>(words: &'t [Word<'a>]) -> Result<(&'a [u8], &'t [Word<'a>]), Refusal>
+/// Any name, and the words behind it. Another word is refused as `Syntax`, and so is the end.
+pub fn name<'t, 'a>(words: &'t [Word<'a>]) -> Result<(&'a [u8], &'t [Word<'a>]), Refusal>
     ensures { Gives (λ x. (x.0.now, words_of x.1.now)) result (name_at (words_of words.now)) }
 {
     match words.split_first() {
@@ -19,7 +19,7 @@ pub(crate) fn name<'t, 'a>(words: &'t [Word<'a>]) -> Result<(&'a [u8], &'t [Word
 }
 
 /// Whether the words go on with this name.
-pub(crate) fn begins_name(words: &[Word], name: &[u8]) -> bool
+pub fn begins_name(words: &[Word], name: &[u8]) -> bool
     ensures { result ≡ begins_name name.now (words_of words.now) }
 {
     match words.split_first() {
@@ -29,7 +29,7 @@ pub(crate) fn begins_name(words: &[Word], name: &[u8]) -> bool
 }
 
 /// Whether the words go on with this symbol.
-pub(crate) fn begins_symbol(words: &[Word], symbol: u8) -> bool
+pub fn begins_symbol(words: &[Word], symbol: u8) -> bool
     ensures { result ≡ begins_symbol symbol (words_of words.now) }
 {
     match words.split_first() {
@@ -38,8 +38,8 @@ pub(crate) fn begins_symbol(words: &[Word], symbol: u8) -> bool
     }
 }
 
-/// The words behind this word of the grammar.
-pub(crate) fn word<'t, 'a>(words: &'t [Word<'a>], name: &[u8]) -> Result<&'t [Word<'a>], Refusal>
+/// The words behind this word of the grammar. Another is refused as `Syntax`, and so is the end.
+pub fn word<'t, 'a>(words: &'t [Word<'a>], name: &[u8]) -> Result<&'t [Word<'a>], Refusal>
     ensures { Gives (λ x. words_of x.now) result (word_at name.now (words_of words.now)) }
 {
     match words.split_first() {
@@ -48,8 +48,8 @@ pub(crate) fn word<'t, 'a>(words: &'t [Word<'a>], name: &[u8]) -> Result<&'t [Wo
     }
 }
 
-/// The words behind this symbol.
-pub(crate) fn symbol<'t, 'a>(words: &'t [Word<'a>], symbol: u8) -> Result<&'t [Word<'a>], Refusal>
+/// The words behind this symbol. Another word is refused as `Syntax`, and so is the end.
+pub fn symbol<'t, 'a>(words: &'t [Word<'a>], symbol: u8) -> Result<&'t [Word<'a>], Refusal>
     ensures { Gives (λ x. words_of x.now) result (symbol_at symbol (words_of words.now)) }
 {
     match words.split_first() {
@@ -58,9 +58,9 @@ pub(crate) fn symbol<'t, 'a>(words: &'t [Word<'a>], symbol: u8) -> Result<&'t [W
     }
 }
 
-/// The words up to the first `stop` outside brackets, and those behind it.
+/// The words up to the first `stop` outside brackets, and those behind it. A bracket that closes none is refused as `Syntax`, and so is the end.
 #[tactic(auto, unfolding(crate::specs::Reader::up_to))]
-pub(crate) fn up_to<'t, 'a>(
+pub fn up_to<'t, 'a>(
     words: &'t [Word<'a>],
     stop: u8,
 ) -> Result<(&'t [Word<'a>], &'t [Word<'a>]), Refusal>
@@ -70,12 +70,9 @@ pub(crate) fn up_to<'t, 'a>(
     Ok((&words[..words.len() - rest.len() - 1], rest))
 }
 
-/// The words behind the first `stop` outside brackets.
+/// The words behind the first `stop` outside brackets. A bracket that closes none is refused as `Syntax`, and so is the end.
 #[tactic(auto, unfolding(crate::specs::Reader::behind_stop))]
-pub(crate) fn behind_stop<'t, 'a>(
-    words: &'t [Word<'a>],
-    stop: u8,
-) -> Result<&'t [Word<'a>], Refusal>
+pub fn behind_stop<'t, 'a>(words: &'t [Word<'a>], stop: u8) -> Result<&'t [Word<'a>], Refusal>
     ensures same { Gives (λ x. words_of x.now) result (behind_stop stop 0 (words_of words.now)) }
     ensures shorter { IfOk result (λ x. length x.now < length words.now) }
 {
@@ -98,9 +95,10 @@ pub(crate) fn behind_stop<'t, 'a>(
     Err(Refusal::syntax(0))
 }
 
-/// The words behind the name that ends what is passed over. Where `again` is a name, each further one opens one more.
+/// The words behind the name that ends what is passed over. Where `again` is a name, each further one opens one more. The
+/// end is refused as `Syntax`.
 #[tactic(auto, unfolding(crate::specs::Reader::ends_at))]
-pub(crate) fn behind<'t, 'a>(
+pub fn behind<'t, 'a>(
     words: &'t [Word<'a>],
     again: Option<&[u8]>,
     last: &[u8],
@@ -134,7 +132,7 @@ fn is_again(word: Word, again: Option<&[u8]>) -> bool
 }
 
 /// Whether the name stands there, and the words behind it.
-pub(crate) fn if_name<'t, 'a>(words: &'t [Word<'a>], name: &[u8]) -> (bool, &'t [Word<'a>])
+pub fn if_name<'t, 'a>(words: &'t [Word<'a>], name: &[u8]) -> (bool, &'t [Word<'a>])
     ensures { (result.0, words_of result.1.now) ≡ if_name name.now (words_of words.now) }
 {
     match words.split_first() {

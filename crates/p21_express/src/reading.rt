@@ -10,6 +10,8 @@ ghost use Rattle.p21_express.specs.SchemaFault.{IsSchemaFault};
 ghost use Rattle.p21_express.specs.Reader.{words_of, Gives, schema_at, if_whole};
 ghost use Rattle.p21_express.specs.Schema.{Schema};
 ghost use Rattle.p21_express.specs.Reading.{IsReading};
+ghost use Rattle.p21_express.specs.Word.{Word};
+ghost use Rattle.p21_express.specs.Words.{AreWords};
 
 use crate::checks::check;
 use crate::declarations::Declarations;
@@ -21,8 +23,8 @@ use crate::schema::schema;
 use crate::words::{Scanned, scan};
 use std::alloc::{AllocError, Global};
 
-/// The place of the text from which on so many words stand.
-fn place_at(places: &[usize], left: usize) -> u64
+/// The place of a text from which on so many of its words stand, by the places of its words as `scan` has them.
+pub fn place_at(places: &[usize], left: usize) -> u64
     ensures { (n : ℕ) → AllByRecursion (λ place. place ≤ n) places.now → result ≤ n }
 {
     match places.get(places.len().saturating_sub(left.saturating_add(1))) {
@@ -54,8 +56,8 @@ fn misfit_error(misfit: Misfit, place: u64) -> SchemaError
     }
 }
 
-/// The error of words that are no schema.
-fn refused_as(refusal: Refusal, places: &[usize]) -> SchemaError
+/// The error of words that were refused, by the places of the words of the text as `scan` has them.
+pub fn refused_as(refusal: Refusal, places: &[usize]) -> SchemaError
     ensures { (n : ℕ) → AllByRecursion (λ place. place ≤ n) places.now → IsRefusedAs n refusal result }
 {
     match refusal {
@@ -88,8 +90,8 @@ fn parsed(
     Ok(found)
 }
 
-/// A text in upper case.
-fn upper_case(alloc: Global, text: &[u8]) -> Result<Vec<u8>, AllocError>
+/// A text in upper case. Memory alone can fail.
+pub fn upper_case(alloc: Global, text: &[u8]) -> Result<Vec<u8>, AllocError>
     ensures { IfOk result (λ upper. upper.items ≡ map to_ascii_uppercase text.now) }
 {
     text.iter()
@@ -154,6 +156,11 @@ pub fn read_declarations(alloc: Global, text: &[u8]) -> Result<Declarations, Sch
         Err(unfit) => Err(unfit_as(unfit, &found.places)),
     }
 }
+
+/// A text has at most one list of words.
+pub fn one_word_list()
+    ensures { (text : List ℕ) (vs ws : List Word) → AreWords text vs → AreWords text ws → vs ≡ ws }
+{}
 
 /// A text has at most one form, which is what its words are by the grammar alone. So the conditions that a text fails are those of one
 /// list of declarations.

@@ -7,21 +7,25 @@ use std::alloc::{AllocError, AllocFailed};
 
 /// What is wrong with the form of words.
 #[derive(Clone, Copy)]
-pub(crate) enum Kind {
+pub enum Kind {
+    /// A word that does not fit, or the end of the words.
     Syntax,
+    /// A word of a form that is not supported.
     NotSupported,
 }
 
 /// Why words are refused, while they are read.
 #[derive(Clone, Copy)]
-pub(crate) enum Refusal {
+pub enum Refusal {
     /// What is wrong, and how many words stand from there on.
     Refused(Kind, usize),
+    /// There was no memory left.
     Memory,
 }
 
 impl Refusal {
-    pub(crate) fn syntax(words_left: usize) -> Refusal
+    /// That the first of so many last words does not fit, or, where it is none, that the words end.
+    pub fn syntax(words_left: usize) -> Refusal
         ensures { result ≡ Refusal.Refused Kind.Syntax words_left }
     {
         Refusal::Refused(Kind::Syntax, words_left)

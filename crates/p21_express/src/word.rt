@@ -7,9 +7,9 @@ ghost use Rattle.p21_express.specs.Reader.{word_of};
 
 use crate::whole::Whole;
 
-/// A word, in upper case.
+/// A word of a schema's text, in upper case.
 #[derive(Clone, Copy)]
-pub(crate) enum Word<'a> {
+pub enum Word<'a> {
     /// A name, or a word of the grammar.
     Name(&'a [u8]),
     /// A whole number, with its value where it has at most 18 digits.
@@ -21,7 +21,8 @@ pub(crate) enum Word<'a> {
 }
 
 impl Word<'_> {
-    pub(crate) fn is_name(self, name: &[u8]) -> bool
+    /// Whether this is this name or word of the grammar.
+    pub fn is_name(self, name: &[u8]) -> bool
         ensures { result ≡ is_name name.now (word_of self.entry) }
     {
         match self {
@@ -30,7 +31,8 @@ impl Word<'_> {
         }
     }
 
-    pub(crate) fn is_symbol(self, symbol: u8) -> bool
+    /// Whether this is this byte, standing by itself.
+    pub fn is_symbol(self, symbol: u8) -> bool
         ensures { result ≡ is_symbol symbol (word_of self.entry) }
     {
         match self {
@@ -40,7 +42,7 @@ impl Word<'_> {
     }
 
     /// The value of a whole number of at most 18 digits.
-    pub(crate) fn value(self) -> Option<u64>
+    pub fn value(self) -> Option<u64>
         ensures value { result ≡ value_of (word_of self.entry) }
         ensures small { IfSome result (λ v. v < 10 ^ 18) }
     {

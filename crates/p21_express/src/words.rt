@@ -202,17 +202,18 @@ fn front(text: &[u8]) -> Option<(Option<Word<'_>>, &[u8])>
 
 /// The words of a text, up to the first byte where none begins.
 #[derive(Drop)]
-pub(crate) struct Scanned<'a> {
-    pub(crate) words: Vec<Word<'a>>,
+pub struct Scanned<'a> {
+    /// In the order of the text.
+    pub words: Vec<Word<'a>>,
     /// Where each word begins, and behind them where the last one is followed by nothing: the end of the text, or the
     /// byte where no word begins.
-    pub(crate) places: Vec<usize>,
+    pub places: Vec<usize>,
     /// Whether the words reach the end of the text.
-    pub(crate) is_whole: bool,
+    pub is_whole: bool,
 }
 
-/// The words of a text in upper case.
-pub(crate) fn scan(alloc: Global, text: &[u8]) -> Result<Scanned<'_>, AllocError>
+/// The words of a text in upper case. Memory alone can fail; a byte where no word begins, or an open string or remark, ends the words.
+pub fn scan(alloc: Global, text: &[u8]) -> Result<Scanned<'_>, AllocError>
     ensures whole { IfOk result (λ s. IsTrue s.is_whole → UpperWords text.now (words_of s.words.items)) }
     ensures broken { IfOk result (λ s. s.is_whole ≡ false → HasNoWords text.now) }
     ensures places { IfOk result (λ s. AllByRecursion (λ place. place ≤ length text.now) s.places.items) }
