@@ -186,7 +186,7 @@ class Rules:
         names = re.findall(NAME, text)
         owners = [names[1]] if names[0] == 'SELF' else self.schema.ancestors(entity)
         found = next(((owner, names[-1]) for owner in self.schema.own for it in self.schema.own[owner] if owner in owners and it[0] == names[-1]), None)
-        return None if any(found in self.derived[it] for it in self.schema.ancestors(entity)) else found
+        return None if found and any(found[1] == name and found[0] in self.schema.ancestors(behind) for it in self.schema.ancestors(entity) for behind, name in self.derived[it]) else found
 
     def is_of(self, instance, entity):
         return any(entity in self.schema.ancestors(keyword) for keyword, _ in instance[3])

@@ -1,8 +1,9 @@
 -- The report of a file against a schema and the rules that are looked at.
-use Rattle.std.specs.Prelude.{◌≡◌, ◌≢◌, ℕ, Bool, true, false, List, [], Option, Ok, Err, map, take}
+use Rattle.std.specs.Prelude.{◌≡◌, ◌≢◌, ℕ, Bool, true, false, List, [], Option, Some, Ok, Err, map, take}
 use Rattle.std.specs.Io.KnownBytes.{Appends}
 use Rattle.p21_express.specs.Reading as express
 use Rattle.p21_express.specs.Schema.{Schema}
+use Rattle.p21_express.specs.declared.error.SchemaError.{SchemaError}
 use Rattle.p21_schema.specs.Rules.{with_rules}
 use Rattle.p21_schema.specs.declared.rules.Rules.{Rules as SchemaRules}
 use Rattle.p21_tree.specs.Sentence.{Instance}
@@ -11,11 +12,14 @@ use Rattle.p21_reader.specs.AllFaults.{IsReadingWithAll}
 use Rattle.p21_reader.specs.Reading.{IsReading}
 use Rattle.p21_render.specs.FaultLine.{fault_lines, fault_text}
 use Rattle.p21_render.specs.ReadingText.{IsModelText}
+use Rattle.p21_render.specs.SchemaFaultLine.{schema_fault_text}
+use Rattle.p21_rule_text.specs.Rules.{AreRules, HasNoRules}
 use Rattle.p21_rule_text.specs.declared.rules.Rules.{Rules}
+use Rattle.p21_run.specs.Due.{IsRefusal}
 use Rattle.p21_run.specs.declared.outcome.Outcome.{Outcome}
 use Rattle.p21_run.specs.declared.outcome.Outcome.TheVariants as outcome
 use Rattle.p21_rule_run.specs.FaultLine.{rule_fault_lines}
-use Rattle.p21_rule_run.specs.RuleFault.{AreRuleFaults, AreRulesIn}
+use Rattle.p21_rule_run.specs.RuleFault.{AreRuleFaults}
 use Rattle.p21_rule_run.specs.declared.rule_fault.RuleFault.{RuleFault}
 
 -- the labels of the rules UNIQUE, in their order
@@ -51,24 +55,35 @@ abbrev pub IsRuled : (all : Bool) → Schema → Rules → List ℕ → Outcome 
 IsRuled true s rules file o text = IsFullyRuled s rules file o text
 IsRuled false s rules file o text = IsFirstRuled s rules file o text
 
--- The report of a file by some rules of the schema.
-pub record IsReportBy (all : Bool) (s : Schema) (file : List ℕ) (o : Outcome) (text : List ℕ) : Type 0 where
+-- The report of a file against a schema by the rules of its text.
+pub record IsReportBy (all : Bool) (s : Schema) (schema_text file : List ℕ) (o : Outcome) (text : List ℕ) : Type 0 where
   pub rules : Rules
-  pub are_rules : AreRulesIn s rules
+  pub are_rules : AreRules s schema_text rules
   pub ruled : IsRuled all s rules file o text
 
--- The text that is due with an outcome: the report of the file against the schema; nothing is said of the line of one that is refused.
-abbrev pub IsDueOf : (all : Bool) → Schema → List ℕ → Outcome → List ℕ → Type 0
-IsDueOf all s file outcome.SchemaRefused text = Unit {0}
-IsDueOf all s file o text = IsReportBy all s file o text
+-- The text is the line of a fault of a schema's text that has no rules against this schema.
+pub record HasRefusedRules (s : Schema) (schema_text text : List ℕ) : Type 0 where
+  pub has_none : HasNoRules s schema_text
+  pub fault : SchemaError
+  pub told : schema_fault_text fault ≡ Some text
 
--- the same by the schema that a text declares, under these rules
+-- A schema's text is refused: it declares no schema, or has no rules against the one that it declares.
+pub data IsRefusedUnder (under : SchemaRules) (schema_text text : List ℕ) : Type 0 where
+  schema : IsRefusal schema_text text → IsRefusedUnder under schema_text text
+  rules : {s : Schema} → express.IsReading schema_text s → HasRefusedRules (with_rules s under) schema_text text → IsRefusedUnder under schema_text text
+
+-- The text that is due with an outcome: the line of a fault where the schema's text has no rules, and otherwise the report of the file by them.
+abbrev pub IsDueOf : (all : Bool) → Schema → List ℕ → List ℕ → Outcome → List ℕ → Type 0
+IsDueOf all s schema_text file outcome.SchemaRefused text = HasRefusedRules s schema_text text
+IsDueOf all s schema_text file o text = IsReportBy all s schema_text file o text
+
+-- the same by the schema that the text declares, under these rules
 abbrev pub IsDue : (all : Bool) → SchemaRules → List ℕ → List ℕ → Outcome → List ℕ → Type 0
-IsDue all under schema_text file outcome.SchemaRefused text = Unit {0}
-IsDue all under schema_text file o text = (s : Schema) × express.IsReading schema_text s × IsReportBy all (with_rules s under) file o text
+IsDue all under schema_text file outcome.SchemaRefused text = IsRefusedUnder under schema_text text
+IsDue all under schema_text file o text = (s : Schema) × express.IsReading schema_text s × IsReportBy all (with_rules s under) schema_text file o text
 
--- where a run ends with a model or with a fault of the file, the text that is due was written
+-- where a run ends with a model, or with a fault of the file or of the schema, the text that is due was written
 abbrev pub Writes : (all : Bool) → SchemaRules → List ℕ → List ℕ → Outcome → Option (List ℕ) → Option (List ℕ) → Type 0
-Writes all under schema_text file outcome.Complete old new = (text : List ℕ) × IsDue all under schema_text file outcome.Complete text × Appends old new text
-Writes all under schema_text file outcome.Faulty old new = (text : List ℕ) × IsDue all under schema_text file outcome.Faulty text × Appends old new text
-Writes all under schema_text file o old new = Unit {0}
+Writes all under schema_text file outcome.Device old new = Unit {0}
+Writes all under schema_text file outcome.Memory old new = Unit {0}
+Writes all under schema_text file o old new = (text : List ℕ) × IsDue all under schema_text file o text × Appends old new text

@@ -9,6 +9,7 @@ ghost use Rattle.p21_reader.specs.AllFaults.{IsReadingWithAll};
 ghost use Rattle.p21_reader.specs.Answer.{plain_answer};
 ghost use Rattle.p21_reader.specs.Reading.{IsReading};
 ghost use Rattle.p21_render.specs.ReadingText.{IsModelText};
+ghost use Rattle.p21_render.specs.SchemaFaultLine.{schema_fault_text};
 ghost use Rattle.p21_rule_run.specs.RuleFault.{AreRulesIn};
 ghost use Rattle.p21_rule_run.specs.Ruled.{told, IsDue, IsDueOf, IsFirstRuled, IsFullyRuled, IsOfModel, IsRuled, Writes};
 ghost use Rattle.p21_run.specs.declared.outcome.Outcome.TheVariants.{Complete, Faulty, SchemaRefused};
@@ -115,7 +116,8 @@ fn report_of<R: Threads + Wait + Sync, G: Gate + Sync, S: Source, F: Source, L: 
 
 /// What is to be written of a schema that is refused.
 fn report_of_refusal(alloc: Global, error: SchemaError) -> Result<Report, InputError>
-    ensures { IfOk result (λ report. report.outcome ≡ SchemaRefused) }
+    ensures outcome { IfOk result (λ report. report.outcome ≡ SchemaRefused) }
+    ensures text { IfOk result (λ report. schema_fault_text error ≡ Some report.text.items) }
 {
     let text = schema_fault_line(alloc, error)?;
     Ok(Report {
@@ -135,7 +137,7 @@ fn report_against<R: Threads + Wait + Sync, G: Gate + Sync, F: Source, L: RuleLi
     listener: &mut L,
 ) -> Result<Report, InputError>
     requires { IsWellFormed (plain_schema declarations) }
-    ensures { (file : List ℕ) → F.remaining file_in.old ≡ Some file → IfOk result (λ report. IsDueOf how.now.all (with_rules (plain_schema declarations) how.now.rules) file report.outcome report.text.items) }
+    ensures { (file : List ℕ) → F.remaining file_in.old ≡ Some file → IfOk result (λ report. IsDueOf how.now.all (with_rules (plain_schema declarations) how.now.rules) text.now file report.outcome report.text.items) }
 {
     let schema = Schema::build_with_key(alloc, declarations, how.rules, how.key)?;
     match read_rules(alloc, text, &schema) {

@@ -1,20 +1,58 @@
 //! The bounds of an INVERSE attribute.
 
-ghost use Rattle.std.specs.Prelude.{◌<◌, length, IfSome};
+ghost use Rattle.std.specs.Prelude.{◌≡◌};
+ghost use Rattle.p21_express.specs.Grammar.{width_of};
+ghost use Rattle.p21_express.specs.Reader.{words_of, Gives};
+ghost use Rattle.p21_rule_text.specs.Bounds.{any, bounds_at, bounds_of, collection_at, if_brackets_at, in_brackets_at, is_unbounded};
 
-/// Bounds.
+use p21_express::{Refusal, Word, begins_symbol, if_name, keyword, symbol, up_to};
+
+/// How many instances may refer by an INVERSE attribute.
 #[derive(Clone, Copy)]
 pub(crate) struct Bounds {
     pub(crate) is_bag: bool,
     pub(crate) low: u64,
+    /// None where there is no end.
     pub(crate) high: Option<u64>,
 }
 
-/// The bounds that are spelled so, or `None` where they are no numbers.
-pub(crate) fn bounds_of(is_bag: bool, low: &[u8], high: &[u8]) -> Option<Bounds> {
-    let low = number(alone(low)?)?;
-    let high = alone(high)?;
-    let high = if high == b"?".as_slice() {
+/// Any number.
+fn any(is_bag: bool) -> Bounds
+    ensures { result ≡ any is_bag }
+{
+    Bounds {
+        is_bag,
+        low: 0,
+        high: None,
+    }
+}
+
+/// The number that some words are: one whole number.
+fn number(words: &[Word]) -> Option<u64>
+    ensures { result ≡ width_of (words_of words.now) }
+{
+    match words {
+        [word] => word.value(),
+        _ => None,
+    }
+}
+
+/// Whether some words are a question mark.
+fn is_unbounded(words: &[Word]) -> bool
+    ensures { result ≡ is_unbounded (words_of words.now) }
+{
+    match words {
+        [word] => word.is_symbol(b'?'),
+        _ => false,
+    }
+}
+
+/// The bounds that some words give, or `None` where they are no numbers.
+fn bounds_of(is_bag: bool, low: &[Word], high: &[Word]) -> Option<Bounds>
+    ensures { result ≡ bounds_of is_bag (words_of low.now) (words_of high.now) }
+{
+    let low = number(low)?;
+    let high = if is_unbounded(high) {
         None
     } else {
         Some(number(high)?)
@@ -22,75 +60,62 @@ pub(crate) fn bounds_of(is_bag: bool, low: &[u8], high: &[u8]) -> Option<Bounds>
     Some(Bounds { is_bag, low, high })
 }
 
-/// The digits, or the question mark, that stand in a text alone, between white space and remarks.
-fn alone(text: &[u8]) -> Option<&[u8]> {
-    let bare = behind_remarks(text);
-    let len = bare
-        .iter()
-        .take_while(|byte| byte.is_ascii_digit() || **byte == b'?')
-        .count();
-    let (bound, behind) = bare.split_at(len.min(bare.len()));
-    if behind_remarks(behind).is_empty() {
-        Some(bound)
-    } else {
-        None
-    }
-}
-
-/// The number of some digits.
-fn number(digits: &[u8]) -> Option<u64> {
-    let mut number: Option<u64> = None;
-    for digit in digits {
-        if !digit.is_ascii_digit() {
-            return None;
-        }
-        let tens = number.unwrap_or(0).checked_mul(10)?;
-        number = Some(tens.checked_add(u64::from(*digit - b'0'))?);
-    }
-    number
-}
-
-/// The text behind the white space and the remarks at its front.
-fn behind_remarks(text: &[u8]) -> &[u8] {
-    let mut rest = text;
-    let mut inside = Inside::Nothing;
-    while let Some((behind, next)) = passed(rest, inside) {
-        rest = behind;
-        inside = next;
-    }
-    rest
-}
-
-/// Where a byte stands.
-#[derive(Clone, Copy)]
-enum Inside {
-    Nothing,
-    /// In a remark up to the end of the line.
-    Line,
-    /// In remarks of which, behind one, so many are open.
-    Remarks(u64),
-}
-
-/// The text behind the next of its bytes that are passed, where it stands inside this, and where that text stands; `None` where its front is
-/// neither white space nor of a remark.
-fn passed(text: &[u8], inside: Inside) -> Option<(&[u8], Inside)>
-    ensures { IfSome result (λ found. length found.0.now < length text.entry.now) }
+#[tactic(auto, unfolding(crate::specs::Bounds::in_brackets_at))]
+fn in_brackets<'t, 'a>(
+    is_bag: bool,
+    words: &'t [Word<'a>],
+) -> Result<(Option<Bounds>, &'t [Word<'a>]), Refusal>
+    ensures { Gives (λ x. (x.0, words_of x.1.now)) result (in_brackets_at is_bag (words_of words.now)) }
 {
-    match (inside, text) {
-        (Inside::Line, [b'\n', behind @ ..]) => Some((behind, Inside::Nothing)),
-        (Inside::Remarks(more), [b'(', b'*', behind @ ..]) => {
-            Some((behind, Inside::Remarks(more.saturating_add(1))))
-        }
-        (Inside::Remarks(0), [b'*', b')', behind @ ..]) => Some((behind, Inside::Nothing)),
-        (Inside::Remarks(more), [b'*', b')', behind @ ..]) => {
-            Some((behind, Inside::Remarks(more.saturating_sub(1))))
-        }
-        (Inside::Line | Inside::Remarks(_), [_, behind @ ..]) => Some((behind, inside)),
-        (Inside::Nothing, [b'-', b'-', behind @ ..]) => Some((behind, Inside::Line)),
-        (Inside::Nothing, [b'(', b'*', behind @ ..]) => Some((behind, Inside::Remarks(0))),
-        (Inside::Nothing, [byte, behind @ ..]) if matches!(byte, 9..=13 | b' ') => {
-            Some((behind, inside))
-        }
-        (_, _) => None,
+    let (low, rest) = up_to(symbol(words, b'[')?, b':')?;
+    let (high, rest) = up_to(rest, b']')?;
+    Ok((bounds_of(is_bag, low, high), rest))
+}
+
+#[tactic(auto, unfolding(crate::specs::Bounds::if_brackets_at))]
+fn if_brackets<'t, 'a>(
+    is_bag: bool,
+    words: &'t [Word<'a>],
+) -> Result<(Option<Bounds>, &'t [Word<'a>]), Refusal>
+    ensures { Gives (λ x. (x.0, words_of x.1.now)) result (if_brackets_at is_bag (words_of words.now)) }
+{
+    if begins_symbol(words, b'[') {
+        return in_brackets(is_bag, words);
     }
+    Ok((Some(any(is_bag)), words))
+}
+
+/// The bounds behind SET or BAG, and the words behind OF.
+#[tactic(auto, unfolding(crate::specs::Bounds::collection_at))]
+fn collection<'t, 'a>(
+    is_bag: bool,
+    words: &'t [Word<'a>],
+) -> Result<(Option<Bounds>, &'t [Word<'a>]), Refusal>
+    ensures { Gives (λ x. (x.0, words_of x.1.now)) result (collection_at is_bag (words_of words.now)) }
+{
+    let (bounds, rest) = if_brackets(is_bag, words)?;
+    Ok((bounds, keyword(rest, b"OF")?))
+}
+
+/// The bounds in front of the entity that refers, or `None` where they are no numbers, and the words behind them.
+#[tactic(auto, unfolding(crate::specs::Bounds::bounds_at))]
+pub(crate) fn bounds_in_front<'t, 'a>(
+    words: &'t [Word<'a>],
+) -> Result<(Option<Bounds>, &'t [Word<'a>]), Refusal>
+    ensures { Gives (λ x. (x.0, words_of x.1.now)) result (bounds_at (words_of words.now)) }
+{
+    let (is_set, behind) = if_name(words, b"SET");
+    if is_set {
+        return collection(false, behind);
+    }
+    let (is_bag, behind) = if_name(words, b"BAG");
+    if is_bag {
+        return collection(true, behind);
+    }
+    let one = Bounds {
+        is_bag: false,
+        low: 1,
+        high: Some(1),
+    };
+    Ok((Some(one), words))
 }

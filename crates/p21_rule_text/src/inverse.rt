@@ -1,186 +1,102 @@
-//! The bounds of the INVERSE attributes of a schema's text.
+//! What an INVERSE attribute states.
 
-ghost use Rattle.std.specs.Prelude.{IfOk};
-ghost use Rattle.p21_express.specs.Schema.{Schema as Declared};
-ghost use Rattle.p21_rules.specs.InverseCount.{IsInverseRuleOf};
+ghost use Rattle.std.specs.Prelude.{◌≡◌, IfErr, IfOk, map};
+ghost use Rattle.p21_express.specs.Answer.{OnRefusal};
+ghost use Rattle.std.specs.Bool.{MatchBool};
+ghost use Rattle.p21_express.specs.Naming.{plain_naming};
 ghost use Rattle.p21_schema.specs.Place.{IsEntityOf};
-ghost use Rattle.p21_rule_text.specs.Clauses.{AreClausesOf, IsInverseIn};
+ghost use Rattle.p21_rule_text.specs.Clauses.{plain_inverse};
+ghost use Rattle.p21_express.specs.declared.error.SchemaError.TheVariants.{Memory};
+ghost use Rattle.p21_rule_text.specs.declared.statements.RuleKind.TheVariants.{Inverse};
+ghost use Rattle.p21_rule_text.specs.declared.statements.Statement.TheVariants.{PassedOver as Passes};
+ghost use Rattle.p21_rule_text.specs.Entities.{plain_clauses};
+ghost use Rattle.p21_rule_text.specs.Statements.{IsDeclarable, IsUnstated, States, bounds_of_rule, inverse};
+ghost use Rattle.p21_rule_text.specs.Bounds.{any};
 
-use crate::bounds::{Bounds, bounds_of};
-use crate::clauses::{Clause, Word};
-use crate::resolve::{Found, is_inverse, resolve};
-use crate::rules::{name_at, upper_case};
-use p21_express::SchemaError;
+use crate::clauses::InverseClause;
+use crate::resolve::{Found, is_inverse, one_meaning, resolve};
+use crate::statements::{Known, PassedOver, RuleKind, Statement, bare_place};
+use p21_express::{AttrName, SchemaError, place_at};
 use p21_rules::InverseRule;
-use p21_schema::{EntityId, Schema};
+use p21_schema::EntityId;
 use std::alloc::Global;
 
-/// What an INVERSE attribute asks for.
-#[derive(Drop)]
-pub(crate) enum Inverse {
-    /// These bounds.
-    Rule(InverseRule),
-    /// Nothing: every count is within its bounds.
-    Any,
-    /// What cannot be looked at: it is FOR a derived or inverse attribute of this name; or, where the name is empty, its bounds are no numbers.
-    PassedOver(Vec<u8>),
-}
-
-/// The name of the INVERSE attribute of a clause, in upper case, and what it asks for.
-pub(crate) fn read_inverse(
+/// What an INVERSE attribute of an entity states.
+pub(crate) fn inverse_statement(
     alloc: Global,
-    schema: &Schema,
-    clauses: &[Clause<'_>],
-    clause: &Clause<'_>,
-    text: &[u8],
-) -> Result<(Vec<u8>, Inverse), SchemaError>
-    requires entity { IsEntityOf schema.now clause.now.entity }
-    requires clauses { AreClausesOf schema.now clauses.now }
-    ensures { IfOk result (λ read. IsInverseIn schema.now read.1) }
+    known: Known,
+    entity: &[u8],
+    clause: &InverseClause,
+) -> Result<Statement, SchemaError>
+    ensures ok { IfOk result (States known.entry.schema.now (map plain_clauses known.entry.clauses.now) (inverse entity.now (plain_inverse clause.now))) }
+    ensures refused { IfErr result (λ e. OnRefusal e (IsUnstated known.entry.schema.now (map plain_clauses known.entry.clauses.now) (inverse entity.now (plain_inverse clause.now)))) }
 {
-    let len = text.len();
-    let words = clause.words.as_slice();
-    let name = name_at(words, clause, len)?;
-    if name.of.is_some() && !is_inverse(schema, clauses, clause.entity, name.of, name.word.text) {
-        return Err(SchemaError::UnknownName(name.word.place(len)));
+    known.schema.one_id();
+    one_meaning(known.schema);
+    let name = clause.name;
+    let entity = known.entity(entity, name.place)?;
+    if !is_declarable(known, entity, name) {
+        return Err(known.unknown(bare_place(&name)));
     }
-    let (_, behind) = words.split_at(name.len.min(words.len()));
-    let typed = behind_word(behind, b":", clause, len)?;
-    let upper = upper_case(alloc, name.word.text)?;
-    let (bounds, of) = bounds_at(typed, clause, text)?;
-    let read = match bounds {
-        Some(bounds) => read_source(alloc, schema, clauses, clause, bounds, of, len)?,
-        None => Inverse::PassedOver(Vec::new(alloc)),
-    };
-    Ok((upper, read))
-}
-
-/// The words behind this one, which is to be the first.
-fn behind_word<'w, 't>(
-    words: &'w [Word<'t>],
-    word: &[u8],
-    clause: &Clause<'t>,
-    len: usize,
-) -> Result<&'w [Word<'t>], SchemaError> {
-    match words.split_first() {
-        Some((first, rest)) if first.is(word) => Ok(rest),
-        _ => Err(unfit(words, clause, len)),
-    }
-}
-
-/// That the first of some words of a clause does not fit.
-fn unfit(words: &[Word<'_>], clause: &Clause<'_>, len: usize) -> SchemaError {
-    match words.first() {
-        Some(word) => SchemaError::Syntax(word.place(len)),
-        None => SchemaError::Syntax(clause.end(len)),
-    }
-}
-
-/// The bounds at the front of some words of a clause, or `None` where they are no numbers, and the words behind them.
-fn bounds_at<'w, 't>(
-    words: &'w [Word<'t>],
-    clause: &Clause<'t>,
-    text: &[u8],
-) -> Result<(Option<Bounds>, &'w [Word<'t>]), SchemaError> {
-    let Some((kind, rest)) = words.split_first() else {
-        return Err(unfit(words, clause, text.len()));
-    };
-    let is_bag = kind.is(b"BAG");
-    if !is_bag && !kind.is(b"SET") {
-        let one = Bounds {
-            is_bag,
-            low: 1,
-            high: Some(1),
-        };
-        return Ok((Some(one), words));
-    }
-    match rest {
-        [open, colon, close, behind @ ..] if open.is(b"[") && colon.is(b":") && close.is(b"]") => {
-            let bounds = bounds_of(is_bag, open.gap(colon, text), colon.gap(close, text));
-            Ok((bounds, behind_word(behind, b"OF", clause, text.len())?))
+    let source = known.entity(clause.source, clause.source_place)?;
+    let found = resolve(known.schema, known.clauses, source, clause.attribute);
+    match (found, clause.bounds) {
+        (Found::Nothing, _) => Err(known.unknown(clause.attribute.place)),
+        (_, None) => passed_over(alloc, known, entity, clause, b""),
+        (Found::Other, Some(_)) => {
+            passed_over(alloc, known, entity, clause, clause.attribute.name)
         }
-        [open, behind @ ..] if open.is(b"[") => Ok((None, behind)),
-        _ => {
-            let any = Bounds {
-                is_bag,
-                low: 0,
-                high: None,
+        (Found::Explicit(attribute), Some(bounds)) => {
+            let rule = InverseRule {
+                entity,
+                source,
+                attribute,
+                is_bag: bounds.is_bag,
+                low: bounds.low,
+                high: bounds.high,
             };
-            Ok((Some(any), behind_word(rest, b"OF", clause, text.len())?))
+            if is_any(&rule) {
+                return Ok(Statement::AnyCount);
+            }
+            Ok(Statement::Inverse(rule, Vec::from_slice(alloc, name.name)?))
         }
     }
 }
 
-/// What an INVERSE attribute with these bounds asks for, where these words name the entity that refers and its attribute.
-fn read_source(
+/// Whether a name is new, or one of INVERSE that is declared again.
+fn is_declarable(known: Known, entity: EntityId, name: AttrName) -> bool
+    requires { IsEntityOf known.schema.now entity }
+    ensures { let declarable = IsDeclarable known.entry.schema.now (map plain_clauses known.entry.clauses.now) entity (plain_naming name.entry) in MatchBool result declarable (¬ declarable) }
+{
+    match name.of {
+        Some(_) => is_inverse(known.schema, known.clauses, entity, name),
+        None => true,
+    }
+}
+
+/// Whether every count is within the bounds.
+fn is_any(rule: &InverseRule) -> bool
+    ensures { let is_any = bounds_of_rule rule.now ≡ any rule.now.is_bag in MatchBool result is_any (¬ is_any) }
+{
+    rule.low == 0 && rule.high.is_none()
+}
+
+/// That a clause is passed over, for an attribute of this name, or for its bounds.
+fn passed_over(
     alloc: Global,
-    schema: &Schema,
-    clauses: &[Clause<'_>],
-    clause: &Clause<'_>,
-    bounds: Bounds,
-    words: &[Word<'_>],
-    len: usize,
-) -> Result<Inverse, SchemaError>
-    requires entity { IsEntityOf schema.now clause.now.entity }
-    requires clauses { AreClausesOf schema.now clauses.now }
-    ensures { IfOk result (IsInverseIn schema.now) }
+    known: Known,
+    entity: EntityId,
+    clause: &InverseClause,
+    attribute: &[u8],
+) -> Result<Statement, SchemaError>
+    ensures memory { IfErr result (λ e. e ≡ Memory) }
+    ensures ok { IfOk result (λ statement. (p : PassedOver) × (statement ≡ Passes p) × (p.kind ≡ Inverse) × (p.entity ≡ entity) × (p.label.items ≡ clause.now.name.name.now) × (p.attribute.items ≡ attribute.now)) }
 {
-    let (word, behind) = name_in_front(words, clause, len)?;
-    let Some(source) = schema.entity(&upper_case(alloc, word.text)?) else {
-        return Err(SchemaError::UnknownName(word.place(len)));
-    };
-    let (of, name) = attribute_at(behind_word(behind, b"FOR", clause, len)?, clause, len)?;
-    match resolve(schema, clauses, source, of, name.text) {
-        Found::Explicit(attribute) => Ok(asked(InverseRule {
-            entity: clause.entity,
-            source,
-            attribute,
-            is_bag: bounds.is_bag,
-            low: bounds.low,
-            high: bounds.high,
-        })),
-        Found::Other => Ok(Inverse::PassedOver(upper_case(alloc, name.text)?)),
-        Found::Nothing => Err(SchemaError::UnknownName(name.place(len))),
-    }
-}
-
-/// The name at the front of some words of a clause, and the words behind it.
-fn name_in_front<'w, 't>(
-    words: &'w [Word<'t>],
-    clause: &Clause<'t>,
-    len: usize,
-) -> Result<(Word<'t>, &'w [Word<'t>]), SchemaError> {
-    match words.split_first() {
-        Some((word, behind)) if word.is_name() => Ok((*word, behind)),
-        _ => Err(unfit(words, clause, len)),
-    }
-}
-
-/// The attribute at the end of a clause, and the entity in front of it, if there is one.
-fn attribute_at<'t>(
-    words: &[Word<'t>],
-    clause: &Clause<'t>,
-    len: usize,
-) -> Result<(Option<&'t [u8]>, Word<'t>), SchemaError> {
-    let (first, behind) = name_in_front(words, clause, len)?;
-    if behind.is_empty() {
-        return Ok((None, first));
-    }
-    let (second, rest) = name_in_front(behind, clause, len)?;
-    if rest.is_empty() {
-        Ok((Some(first.text), second))
-    } else {
-        Err(unfit(rest, clause, len))
-    }
-}
-
-/// What a rule asks for.
-fn asked(rule: InverseRule) -> Inverse
-    ensures { (s : Declared) → IsInverseRuleOf s rule → IsInverseIn s result }
-{
-    if rule.low == 0 && rule.high.is_none() {
-        Inverse::Any
-    } else {
-        Inverse::Rule(rule)
-    }
+    Ok(Statement::PassedOver(PassedOver {
+        kind: RuleKind::Inverse,
+        at: place_at(known.places, clause.name.place),
+        entity,
+        label: Vec::from_slice(alloc, clause.name.name)?,
+        attribute: Vec::from_slice(alloc, attribute)?,
+    }))
 }

@@ -3,8 +3,12 @@
 
 mod bounds;
 mod clauses;
+mod entities;
 mod inverse;
 mod resolve;
 mod rules;
+mod statements;
+mod unique;
 
-pub use rules::{PassedOver, RuleKind, Rules, read_rules};
+pub use rules::{Rules, read_rules};
+pub use statements::{PassedOver, RuleKind};

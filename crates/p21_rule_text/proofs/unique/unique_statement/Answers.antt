@@ -1,0 +1,38 @@
+use Rattle.std.proofs.Common.{map, refl, sym, subst}
+use Rattle.p21_express.specs.Naming.{plain_namings}
+use Rattle.p21_rule_text.specs.Clauses.{plain_unique}
+use Rattle.p21_rule_text.specs.Entities.{plain_clauses}
+use Rattle.p21_rule_text.specs.Statements.{IsFirst, unique_rule, unique_passed}
+use Rattle.p21_rule_text.specs.Unique.{AreAttributes}
+use Rattle.p21_rule_text.specs.declared.resolve.Found.TheVariants as found
+use Rattle.std.proofs.lemmas.Result.{err_from_is_err_and}
+use Rattle.p21_rule_text.proofs.RefusalLemmas.{no_owner, on_along, unknown_name}
+use Rattle.p21_rule_text.proofs.unique.unique_statement.Goals as goal
+
+pub returns-in-Explicit-clause-ok : goal.returns-in-Explicit-clause-ok
+returns-in-Explicit-clause-ok c =
+    let named = rw c.deref.ensures.value at c.in_ok-attributes.ensures.ok in
+    let explicit = subst (AreAttributes c.args.known.schema.now (map plain_clauses c.args.known.clauses.now) c.in_ok-entity.entity (plain_namings c.args.clause.now.names.items)) c.in-Explicit.is named in
+    unique_rule {c = plain_unique c.args.clause.now} (record { entity = c.in_ok-entity.ensures.ok; attributes = explicit }) c.in_ok-label.ensures
+
+pub returns-in_ok-from_slice-in-Other-clause-ok : goal.returns-in_ok-from_slice-in-Other-clause-ok
+returns-in_ok-from_slice-in-Other-clause-ok c =
+    let s = c.args.known.schema.now in
+    let es = map plain_clauses c.args.known.clauses.now in
+    let names = plain_namings c.args.clause.now.names.items in
+    let named = rw c.deref.ensures.value at c.in_ok-attributes.ensures.ok in
+    let first = subst (AreAttributes s es c.in_ok-entity.entity names) c.in-Other.is named in
+    unique_passed {c = plain_unique c.args.clause.now} (record { kind = refl; entity = c.in_ok-entity.ensures.ok; label = c.in_ok-label.ensures; attribute = subst (IsFirst s es c.in_ok-entity.entity names found.Other) (sym c.in_ok-from_slice-in-Other.ensures.items) first })
+
+pub returns-in_err-entity-clause-refused : goal.returns-in_err-entity-clause-refused
+returns-in_err-entity-clause-refused c =
+    let p = err_from_is_err_and c.from_residual.result c.from_residual.ensures.1 in
+    rw (p.1, p.2) (on_along c.in_err-entity.field-0.0 _ _ (no_owner c.args.known.schema.now (map plain_clauses c.args.known.clauses.now) c.args.entity.now c.args.number (plain_unique c.args.clause.now)) c.in_err-entity.ensures.refused)
+
+pub returns-in_err-attributes-clause-refused : goal.returns-in_err-attributes-clause-refused
+returns-in_err-attributes-clause-refused c =
+    let s = c.args.known.schema.now in
+    let es = map plain_clauses c.args.known.clauses.now in
+    let p = err_from_is_err_and c.from_residual-in_err-attributes.result c.from_residual-in_err-attributes.ensures.1 in
+    let named = rw c.deref.ensures.value at c.in_err-attributes.ensures.refused in
+    rw (p.1, p.2) (on_along c.in_err-attributes.field-0.0 _ _ (λ first. unknown_name s es c.args.entity.now c.args.number (plain_unique c.args.clause.now) c.in_ok-entity.entity first.0 c.one_id.ensures.entities c.one_meaning.ensures c.in_ok-entity.ensures.ok first.1) named)

@@ -1,0 +1,127 @@
+-- What the clauses of a schema's entities state.
+use Rattle.std.specs.Prelude.{◌≡◌, ◌≢◌, ℕ, suc, List, [], ◌∷◌, ◌++◌, map, decimal, Option, Some, None, IfSome, Vec}
+use Rattle.std.specs.List.{AllZip}
+use Rattle.std.specs.declared.alloc.Global.{Global}
+use Rattle.p21_express.specs.Grammar.{Naming}
+use Rattle.p21_express.specs.Schema.{Schema}
+use Rattle.p21_schema.specs.Place.{entity_name, IsEntityOf}
+use Rattle.p21_schema.specs.declared.ids.AttrId.{AttrId}
+use Rattle.p21_schema.specs.declared.ids.EntityId.{EntityId}
+use Rattle.p21_rules.specs.declared.rule.InverseRule.{InverseRule}
+use Rattle.p21_rules.specs.declared.rule.UniqueRule.{UniqueRule}
+use Rattle.p21_rule_text.specs.Bounds.{any}
+use Rattle.p21_rule_text.specs.Clauses.{InverseClause, UniqueClause}
+use Rattle.p21_rule_text.specs.Entities.{EntityClauses}
+use Rattle.p21_rule_text.specs.Resolve.{IsInverse, IsMeant}
+use Rattle.p21_rule_text.specs.declared.bounds.Bounds.{Bounds}
+use Rattle.p21_rule_text.specs.declared.resolve.Found.{Found}
+use Rattle.p21_rule_text.specs.declared.resolve.Found.TheVariants as found
+use Rattle.p21_rule_text.specs.declared.statements.PassedOver.{PassedOver}
+use Rattle.p21_rule_text.specs.declared.statements.RuleKind.TheVariants as kind
+use Rattle.p21_rule_text.specs.declared.statements.Statement.{Statement}
+use Rattle.p21_rule_text.specs.declared.statements.Statement.TheVariants as statement
+
+-- ---- clauses
+
+-- a clause of the entity of this name; a rule UNIQUE has its number there
+pub data Clause : Type 0 where
+  inverse : List ℕ → InverseClause → Clause
+  unique : List ℕ → ℕ → UniqueClause → Clause
+
+-- rules UNIQUE of an entity, from this number on
+abbrev pub numbered : List ℕ → ℕ → List UniqueClause → List Clause
+numbered e n [] = []
+numbered e n (c ∷ cs) = unique e n c ∷ numbered e (suc n) cs
+
+-- the clauses of an entity, in order; its rules UNIQUE are numbered from 1
+abbrev pub clauses_of : EntityClauses → List Clause
+clauses_of e = map (inverse e.name) e.inverse ++ numbered e.name 1 e.unique
+
+-- ---- names
+
+-- the entity of the schema that has this name
+pub record IsNamed (s : Schema) (n : List ℕ) (e : EntityId) : Type 0 where
+  pub known : IsEntityOf s e
+  pub name : entity_name s e ≡ n
+
+-- each name is this explicit attribute
+abbrev pub AreExplicit : Schema → List EntityClauses → EntityId → List Naming → List AttrId → Type 0
+AreExplicit s es e names ids = AllZip (IsMeant s es e) names (map found.Explicit ids)
+
+-- the first of the names that is no explicit attribute, and what it is
+pub record IsFirst (s : Schema) (es : List EntityClauses) (e : EntityId) (names : List Naming) (f : Found) (n : List ℕ) : Type 0 where
+  pub front : List Naming
+  pub ids : List AttrId
+  pub explicit : AreExplicit s es e front ids
+  pub first : Naming
+  pub is_meant : IsMeant s es e first f
+  pub name : n ≡ first.name
+  pub behind : List Naming
+  pub names_are : names ≡ front ++ first ∷ behind
+
+-- ---- UNIQUE
+
+-- the label of a rule, or its number
+abbrev pub label_of : ℕ → Option (List ℕ) → List ℕ
+label_of n None = decimal n
+label_of n (Some label) = label
+
+-- A rule is looked at where each of its names is an explicit attribute.
+pub record IsUniqueRule (s : Schema) (es : List EntityClauses) (e : List ℕ) (c : UniqueClause) (r : UniqueRule) : Type 0 where
+  pub entity : IsNamed s e r.entity
+  pub attributes : AreExplicit s es r.entity c.names r.attributes.items
+
+-- It is passed over where the first that is none is a derived or inverse attribute.
+pub record IsUniquePassed (s : Schema) (es : List EntityClauses) (e : List ℕ) (n : ℕ) (c : UniqueClause) (p : PassedOver) : Type 0 where
+  pub kind : p.kind ≡ kind.Unique
+  pub entity : IsNamed s e p.entity
+  pub label : p.label.items ≡ label_of n c.label
+  pub attribute : IsFirst s es p.entity c.names found.Other p.attribute.items
+
+-- ---- INVERSE
+
+-- what is declared again is an attribute of INVERSE
+abbrev pub IsDeclarable : Schema → List EntityClauses → EntityId → Naming → Type 0
+IsDeclarable s es e x = IfSome x.of (λ of. IsInverse s es e x)
+
+-- the bounds of a rule
+abbrev pub bounds_of_rule : InverseRule → Bounds
+bounds_of_rule r = record { is_bag = r.is_bag; low = r.low; high = r.high }
+
+-- Bounds are looked at where they are numbers, and the attribute by which the other entity refers is explicit.
+pub record IsInverseRule (s : Schema) (es : List EntityClauses) (e : List ℕ) (c : InverseClause) (r : InverseRule) : Type 0 where
+  pub entity : IsNamed s e r.entity
+  pub declarable : IsDeclarable s es r.entity c.name
+  pub bounds : c.bounds ≡ Some (bounds_of_rule r)
+  pub source : IsNamed s c.source r.source
+  pub attribute : IsMeant s es r.source c.attribute (found.Explicit r.attribute)
+
+-- Why bounds are passed over: they are no numbers, or the attribute is a derived or inverse one, of this name.
+pub data IsUncounted (n : List ℕ) : Option Bounds → Found → List ℕ → Type 0 where
+  no_numbers : {f : Found} → f ≢ found.Nothing → IsUncounted n None f []
+  other : {b : Bounds} → IsUncounted n (Some b) found.Other n
+
+pub record IsInversePassed (s : Schema) (es : List EntityClauses) (e : List ℕ) (c : InverseClause) (p : PassedOver) : Type 0 where
+  pub kind : p.kind ≡ kind.Inverse
+  pub entity : IsNamed s e p.entity
+  pub label : p.label.items ≡ c.name.name
+  pub declarable : IsDeclarable s es p.entity c.name
+  pub source : EntityId
+  pub is_source : IsNamed s c.source source
+  pub found : Found
+  pub is_meant : IsMeant s es source c.attribute found
+  pub uncounted : IsUncounted c.attribute.name c.bounds found p.attribute.items
+
+-- ---- all
+
+-- What a clause states: a rule with its label or name; nothing, where every count is within its bounds; or that it is passed over.
+pub data States (s : Schema) (es : List EntityClauses) : Clause → Statement → Type 0 where
+  unique_rule : {e : List ℕ} {n : ℕ} {c : UniqueClause} {r : UniqueRule} {label : Vec ℕ Global} → IsUniqueRule s es e c r → label.items ≡ label_of n c.label → States s es (unique e n c) (statement.Unique r label)
+  unique_passed : {e : List ℕ} {n : ℕ} {c : UniqueClause} {p : PassedOver} → IsUniquePassed s es e n c p → States s es (unique e n c) (statement.PassedOver p)
+  inverse_rule : {e : List ℕ} {c : InverseClause} {r : InverseRule} {name : Vec ℕ Global} → IsInverseRule s es e c r → bounds_of_rule r ≢ any r.is_bag → name.items ≡ c.name.name → States s es (inverse e c) (statement.Inverse r name)
+  any_count : {e : List ℕ} {c : InverseClause} {r : InverseRule} → IsInverseRule s es e c r → bounds_of_rule r ≡ any r.is_bag → States s es (inverse e c) statement.AnyCount
+  inverse_passed : {e : List ℕ} {c : InverseClause} {p : PassedOver} → IsInversePassed s es e c p → States s es (inverse e c) (statement.PassedOver p)
+
+-- Nothing is stated by a clause with the name of what is no such entity or attribute.
+abbrev pub IsUnstated : Schema → List EntityClauses → Clause → Type 0
+IsUnstated s es c = (t : Statement) → ¬ (States s es c t)
