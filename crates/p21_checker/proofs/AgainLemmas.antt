@@ -2,9 +2,8 @@
 use Rattle.std.proofs.Common.{◌≡◌, ℕ, zero, suc, ◌+◌, ◌<◌, Bool, true, false, List, [], ◌∷◌, ◌++◌, None, map, length, drop, get_or, refl, sym, ap, subst, ◌∙◌, append_assoc, arith}
 use Rattle.std.specs.Prelude.{◌||◌, All}
 use Rattle.std.specs.List.{list_any}
-use Rattle.std.proofs.lemmas.List.Elements.{All-cons, All-head, All-nil, All-tail}
+use Rattle.std.proofs.lemmas.List.Elements.{All-head, All-tail}
 use Rattle.std.specs.List.{AllZip}
-use Rattle.p21_text.specs.Tokens.{Placed, Tokens}
 use Rattle.p21_text.specs.Laws.{HasOneListAtMost}
 use Rattle.p21_express.specs.Schema.{Schema}
 use Rattle.p21_tree.specs.declared.faults.Fault.{Fault}
@@ -21,9 +20,7 @@ use Rattle.p21_outline.specs.Faultiness.{IsFaultiness}
 use Rattle.p21_refs.specs.AllReferenceFaults.{AreReferenceFaults}
 use Rattle.p21_refs.specs.AllReferenceFaults as reference
 use Rattle.p21_check.specs.LocalFault.{IsLocalFault}
-use Rattle.p21_reader.specs.Values.{Whole, whole, instances_in, HaveInstances, IsJudged}
-use Rattle.p21_checker.specs.Checked.{IsKept, IsStated, value_of, values_of}
-use Rattle.p21_checker.specs.declared.checked.Checked.{Checked}
+use Rattle.p21_reader.specs.Values.{Value, Whole, whole, instances_in, HaveInstances, IsJudged}
 use Rattle.p21_checker.specs.Again.{AreTexts, IsFaultOf, IsTextOf}
 
 -- a text has one instance
@@ -104,33 +101,19 @@ none_told is_true s all faulty slice told value same off e h = none_faulty s all
 
 -- The instances of the pieces of a file, as they were checked.
 
-text_of : (s : Schema) (p : Piece) (c : Checked) (w : Whole) → IsStated s p c → value_of c ≡ whole w → IsTextOf (plain_piece p) w.instance
-text_of s p c w stated is = (subst (IsJudged s p) is stated.0).0
+text_of : (s : Schema) (p : Piece) (v : Value) (w : Whole) → IsJudged s p v → v ≡ whole w → IsTextOf (plain_piece p) w.instance
+text_of s p v w judged is = (subst (IsJudged s p) is judged).0
 
-texts_from : (s : Schema) (ps : List Piece) (cs : List Checked) (ws : List Whole) → AllZip (IsStated s) ps cs → values_of cs ≡ map whole ws → AllZip IsTextOf (map plain_piece ps) (instances_in ws)
-texts_from s [] [] [] stated are = tt
-texts_from s [] [] (w ∷ ws) stated are = cc
-texts_from s [] (c ∷ cs) ws stated are = absurd stated
-texts_from s (p ∷ ps) [] ws stated are = absurd stated
-texts_from s (p ∷ ps) (c ∷ cs) [] stated are = cc
-texts_from s (p ∷ ps) (c ∷ cs) (w ∷ ws) stated are =
-    let first : value_of c ≡ whole w = cc in
-    let rest : values_of cs ≡ map whole ws = cc in
-    (text_of s p c w stated.0 first, texts_from s ps cs ws stated.1 rest)
+texts_from : (s : Schema) (ps : List Piece) (vs : List Value) (ws : List Whole) → AllZip (IsJudged s) ps vs → vs ≡ map whole ws → AllZip IsTextOf (map plain_piece ps) (instances_in ws)
+texts_from s [] [] [] judged are = tt
+texts_from s [] [] (w ∷ ws) judged are = cc
+texts_from s [] (v ∷ vs) ws judged are = absurd judged
+texts_from s (p ∷ ps) [] ws judged are = absurd judged
+texts_from s (p ∷ ps) (v ∷ vs) [] judged are = cc
+texts_from s (p ∷ ps) (v ∷ vs) (w ∷ ws) judged are =
+    let first : v ≡ whole w = cc in
+    let rest : vs ≡ map whole ws = cc in
+    (text_of s p v w judged.0 first, texts_from s ps vs ws judged.1 rest)
 
-pub texts_of : (s : Schema) (file : List ℕ) (at end : ℕ) (ps : List Piece) (cs : List Checked) (is : List Instance) → AllZip (IsStated s) ps cs → HaveInstances (values_of cs) is → PiecesAre file at 0 (map plain_piece ps) end → AreTexts file at 0 is
-texts_of s file at end ps cs is stated have cut = record { pieces = map plain_piece ps; tail = end; are = cut; texts = rw have.instances (texts_from s ps cs have.wholes stated have.are) }
-
--- and the outlines are those of these
-
-pub kept_all : (s : Schema) (ps : List Piece) (cs : List Checked) → AllZip (IsStated s) ps cs → All (IsKept s) cs
-kept_all s [] [] stated = All-nil (IsKept s)
-kept_all s [] (c ∷ cs) stated = absurd stated
-kept_all s (p ∷ ps) [] stated = absurd stated
-kept_all s (p ∷ ps) (c ∷ cs) stated = All-cons (IsKept s) c cs stated.0.1 (kept_all s ps cs stated.1)
-
-pub judged_all : (s : Schema) (ps : List Piece) (cs : List Checked) → AllZip (IsStated s) ps cs → AllZip (IsJudged s) ps (values_of cs)
-judged_all s [] [] stated = tt
-judged_all s [] (c ∷ cs) stated = absurd stated
-judged_all s (p ∷ ps) [] stated = absurd stated
-judged_all s (p ∷ ps) (c ∷ cs) stated = (stated.0.0, judged_all s ps cs stated.1)
+pub texts_of : (s : Schema) (file : List ℕ) (at end : ℕ) (ps : List Piece) (vs : List Value) (is : List Instance) → AllZip (IsJudged s) ps vs → HaveInstances vs is → PiecesAre file at 0 (map plain_piece ps) end → AreTexts file at 0 is
+texts_of s file at end ps vs is judged have cut = record { pieces = map plain_piece ps; tail = end; are = cut; texts = rw have.instances (texts_from s ps vs have.wholes judged have.are) }

@@ -1,13 +1,13 @@
 -- What a check of a file tells.
-use Rattle.std.proofs.Common.{◌≡◌, ◌≢◌, ◌∷◌, [], get_or, ℕ, List, Result, Ok, Err, IfOk, refl, sym, ap, subst, ◌∙◌}
+use Rattle.std.proofs.Common.{◌≡◌, ◌≢◌, ◌∷◌, [], get_or, ℕ, List, Result, Ok, Err, IfOk, refl, sym, ap, ◌∙◌}
 use Rattle.p21_express.specs.Schema.{Schema}
 use Rattle.p21_tree.specs.declared.faults.Fault.{Fault}
 use Rattle.p21_tree.specs.Sentence.{Instance}
 use Rattle.p21_reader.specs.AllFaults.{IsReadingWithAll}
 use Rattle.p21_reader.specs.AllFaults as faults
 use Rattle.p21_reader.specs.AllLaws.{AllFaultsGiveReading, BeginWithAnswer}
-use Rattle.p21_reader.specs.Lanes.{PiecesAreDealt}
-use Rattle.p21_reader.specs.Lanes as dealing
+use Rattle.p21_checker.specs.Lists.{PiecesAreDealt}
+use Rattle.p21_checker.specs.Lists as dealing
 use Rattle.p21_reader.specs.LocalFault.{IsOpeningFault}
 use Rattle.p21_reader.specs.PiecesOf as pieces
 use Rattle.p21_reader.specs.Reading.{IsReading}
@@ -16,12 +16,11 @@ use Rattle.p21_reader.specs.declared.stop.Stop.{Stop}
 use Rattle.p21_reader.specs.declared.stop.Stop.TheVariants as stop
 use Rattle.p21_checker.specs.Answers.{AllReturned, AnswersTo, FirstReturned, HaveReturned, IsStopped, TellsReading, TellsReadingWithAll}
 use Rattle.p21_checker.specs.Counts.{HasFaults, IsFirstOf, counts, first, Tells, TellsAll, TellsFirst}
-use Rattle.p21_checker.specs.declared.check.FileCheck.{FileCheck}
-use Rattle.p21_checker.specs.declared.checked.Checked.{Checked}
+use Rattle.p21_checker.specs.declared.checked_list.CheckedList.{CheckedList}
+use Rattle.p21_checker.specs.declared.lists.PieceList.{PieceList}
 use Rattle.p21_checker.specs.declared.counts.Counts.{Counts}
 use Rattle.p21_crew.specs.declared.returned.Returned.{Returned}
 use Rattle.p21_lanes.specs.declared.receipt.Receipt.{Receipt}
-use Rattle.p21_tree.specs.declared.pieces.Piece.{Piece}
 use Rattle.std.specs.declared.vec.Vec.{Vec}
 use Rattle.p21_checker.specs.Answers as answers
 use Rattle.p21_checker.specs.declared.check.CheckError.{CheckError}
@@ -31,7 +30,7 @@ use Rattle.p21_checker.specs.declared.check.FaultCheck.{FaultCheck}
 
 pub stopped_pieces : (s : Schema) (file : List ℕ) (lanes : ℕ) (e : Stop) (r : Result FaultCheck CheckError) → OnFault e (IsOpeningFault s file) → IfOk r (IsStopped e) → IfOk r (λ all. PiecesAreDealt s file lanes all.dealt.items all.receipts.items)
 stopped_pieces s file lanes e (Err x) fault stopped = tt
-stopped_pieces s file lanes (stop.Fault f) (Ok r) fault stopped = record { pieces = []; of_file = pieces.none fault; as_dealt = dealing.none fault stopped.2 stopped.1 }
+stopped_pieces s file lanes (stop.Fault f) (Ok r) fault stopped = record { lists = []; of_file = pieces.none fault; as_dealt = dealing.none fault stopped.2 stopped.1 }
 stopped_pieces s file lanes stop.Memory (Ok r) fault stopped = absurd stopped
 
 pub stopped_returned : (s : Schema) (file : List ℕ) (lanes : ℕ) (e : Stop) (r : Result FaultCheck CheckError) → OnFault e (IsOpeningFault s file) → IfOk r (IsStopped e) → IfOk r (AllReturned s file lanes)
@@ -57,11 +56,11 @@ first_told _ _ (Err (g ∷ gs)) (first {f} {rest} e) told = head (sym e ∙ told
   head : f ∷ rest ≡ g ∷ gs → f ≡ g
   head h = cc
 
-pub first_returned : {A : Type 0} (s : Schema) (file : List ℕ) (lanes : ℕ) (all : Result Counts (Vec Fault A)) (one : Result Counts Fault) (dealt : List ℕ) (receipts : List (Receipt Piece)) (returned : List (Receipt (Returned Checked))) → IsFirstOf all one
+pub first_returned : {A : Type 0} (s : Schema) (file : List ℕ) (lanes : ℕ) (all : Result Counts (Vec Fault A)) (one : Result Counts Fault) (dealt : List ℕ) (receipts : List (Receipt PieceList)) (returned : List (Receipt (Returned CheckedList))) → IsFirstOf all one
     → HaveReturned (AnswersTo (TellsAll all) s file) s file lanes dealt receipts returned → HaveReturned (AnswersTo (TellsFirst one) s file) s file lanes dealt receipts returned
 first_returned s file lanes all one dealt receipts returned firsts (answers.nothing fault none) = answers.nothing fault none
-first_returned s file lanes all one dealt receipts returned firsts (answers.results pieces outs begins header cut run answer) =
-    answers.results pieces outs begins header cut run (record { full = answer.full; is_answer = answer.is_answer; told = first_told all one answer.full firsts answer.told })
+first_returned s file lanes all one dealt receipts returned firsts (answers.results lists outs begins header cut run answer) =
+    answers.results lists outs begins header cut run (record { full = answer.full; is_answer = answer.is_answer; told = first_told all one answer.full firsts answer.told })
 
 reading_told : (s : Schema) (file : List ℕ) (one : Result Counts Fault) (full : Result (List Instance) (List Fault)) → AllFaultsGiveReading s file → IsReadingWithAll s file full → TellsFirst one full → (answer : Result (List Instance) Fault) × IsReading s file answer × Tells one answer
 reading_told s file (Ok c) (Ok is) gives is_reading told = (Ok is, is_reading.1, told)

@@ -1,11 +1,13 @@
--- One more piece, gathered.
-use Rattle.std.proofs.Common.{◌≡◌, ◌≢◌, ◌⊎◌, inl, inr, ℕ, Bool, true, false, List, [], ◌∷◌, ◌++◌, Option, Some, None, Ok, Err, map, refl, sym, ap, subst, ◌∙◌, append_assoc, append-nil}
+-- More pieces, gathered.
+use Rattle.std.proofs.Common.{◌≡◌, ◌≢◌, ◌⊎◌, inl, inr, ℕ, zero, suc, ◌+◌, ◌-◌, ◌<◌, Bool, true, false, List, [], ◌∷◌, ◌++◌, Option, Some, None, Ok, Err, drop, get_or, length, map, take, refl, sym, ap, subst, ◌∙◌, append_assoc, append-nil, arith}
 use Rattle.std.specs.Prelude.{All, OnOk, Result}
-use Rattle.std.specs.declared.vec.Vec.{Vec}
-use Rattle.std.proofs.lemmas.List.{map-append}
+use Rattle.std.proofs.lemmas.List.{drop-map, get_or-map, length-map, map-append, map_more, take_rest}
+use Rattle.std.proofs.lemmas.Grind.{flat_map-append}
 use Rattle.std.proofs.lemmas.List.Elements.{All-cons, All-head, All-nil, All-tail}
 use Rattle.p21_tree.specs.declared.faults.Fault.{Fault}
 use Rattle.p21_tree.specs.declared.faults.FaultKind.{FaultKind}
+use Rattle.p21_tree.specs.declared.faults.FaultKind.TheVariants as kind
+use Rattle.p21_tree.specs.declared.instances.RawInstance.{RawInstance}
 use Rattle.p21_tree.specs.Sentence.{Instance}
 use Rattle.p21_tree.specs.Fault.{tails}
 use Rattle.p21_tree.specs.Texts.{HasTail, HasFault}
@@ -22,16 +24,19 @@ use Rattle.p21_reader.specs.AllByValues as by
 use Rattle.p21_reader.specs.EveryFault.{HaveFaults}
 use Rattle.p21_express.specs.Schema.{Schema}
 use Rattle.p21_join.specs.Model.{plain_instances}
-use Rattle.p21_outline.specs.InstanceOutline.{outlined}
-use Rattle.p21_outline.specs.Outline.{Adds, AreOutlined, KeepsOutlines, outlined_instances}
-use Rattle.p21_outline.specs.declared.instance_outline.InstanceOutline.{InstanceOutline}
-use Rattle.p21_checker.specs.Checked.{IsKept, value_of, values_of}
-use Rattle.p21_checker.specs.Gathering.{FitsWith, GathersFaults, HasFaultBehind, HasNoted, IsGathered}
+use Rattle.p21_join.specs.Names.{HaveOwnNames}
+use Rattle.p21_outline.specs.Outline.{AreOutlined, Extends, IsFirstRepeated, outlined_instances}
+use Rattle.p21_outline.specs.declared.outline.Extended.TheVariants as extended
+use Rattle.p21_outline.specs.OutlineList.{AreListed, listed_instances}
+use Rattle.p21_outline.specs.PlacedName.{placed_name}
+use Rattle.p21_outline.specs.declared.outline_list.OutlineList.{OutlineList}
+use Rattle.p21_outline.specs.declared.outline_list.PlacedName.{PlacedName}
 use Rattle.p21_tree.specs.Views.{plain_instance}
-use Rattle.p21_checker.specs.declared.checked.Checked.{Checked}
-use Rattle.p21_checker.specs.declared.checked.Checked.TheVariants as checked
+use Rattle.p21_checker.specs.Checked.{outlines_of, sound_value, values_in, values_of}
+use Rattle.p21_checker.specs.Gathering.{FitsWith, GathersFaults, HasFaultBehind, HasGathered, IsGathered}
+use Rattle.p21_checker.specs.declared.checked_list.CheckedList.{CheckedList}
 use Rattle.p21_checker.specs.declared.gathering.Gathering.{Gathering}
-use Rattle.p21_checker.proofs.NameLemmas.{is_not_repeated}
+use Rattle.p21_checker.proofs.NameLemmas.{is_new_behind, is_not_repeated, names_are, names_repeated}
 
 -- Faults, one instance more.
 
@@ -95,7 +100,7 @@ wholes_more : (vs : List Value) (ws : List Whole) (w : Whole) → vs ≡ map who
 wholes_more vs ws w are = ap (λ l. l ++ whole w ∷ []) are ∙ sym (map-append whole ws (w ∷ []))
 
 -- an instance without a fault, behind others without
-pub sound_more : (vs : List Value) (is more : List Instance) (w : Whole) → HaveInstances vs is → IsCarriedFault is w None → more ≡ is ++ w.instance ∷ [] → HaveInstances (vs ++ whole w ∷ []) more
+sound_more : (vs : List Value) (is more : List Instance) (w : Whole) → HaveInstances vs is → IsCarriedFault is w None → more ≡ is ++ w.instance ∷ [] → HaveInstances (vs ++ whole w ∷ []) more
 sound_more vs is more w h own add = record {
   wholes = h.wholes ++ w ∷ [];
   are = wholes_more vs h.wholes w h.are;
@@ -141,12 +146,12 @@ sound_gathered vs is names found true e none h = absurd (cc)
 sound_gathered vs is names [] false e none h = h
 sound_gathered vs is names (f ∷ found) false e none h = absurd (cc)
 
-pub gathers_faulty : (vs : List Value) (is : List Instance) (names : InstanceNames) (found : List Fault) (ended : Bool) → ended ≡ false → found ≢ [] → HaveFaults vs names found → GathersFaults vs is names found ended
+gathers_faulty : (vs : List Value) (is : List Instance) (names : InstanceNames) (found : List Fault) (ended : Bool) → ended ≡ false → found ≢ [] → HaveFaults vs names found → GathersFaults vs is names found ended
 gathers_faulty vs is names found true e some h = absurd (cc)
 gathers_faulty vs is names [] false e some h = absurd (some refl)
 gathers_faulty vs is names (f ∷ found) false e some h = h
 
-pub gathers_sound : (vs : List Value) (is : List Instance) (names : InstanceNames) (found : List Fault) (ended : Bool) → ended ≡ false → found ≡ [] → HaveInstances vs is → GathersFaults vs is names found ended
+gathers_sound : (vs : List Value) (is : List Instance) (names : InstanceNames) (found : List Fault) (ended : Bool) → ended ≡ false → found ≡ [] → HaveInstances vs is → GathersFaults vs is names found ended
 gathers_sound vs is names found true e none h = absurd (cc)
 gathers_sound vs is names [] false e none h = h
 gathers_sound vs is names (f ∷ found) false e none h = absurd (cc)
@@ -163,7 +168,7 @@ carried_so_far vs is names [] false e h = record { wholes = h.wholes; are = h.ar
 carried_so_far vs is names (f ∷ found) false e h = record { wholes = h.wholes; are = h.are; faults = h.faults }
 
 -- a grammar fault
-pub grammar_more : (vs : List Value) (f : Fault) (is any : List Instance) (names after : InstanceNames) (found more : List Fault) (ended : Bool) → ended ≡ false → GathersFaults vs is names found ended → more ≡ found ++ f ∷ []
+grammar_more : (vs : List Value) (f : Fault) (is any : List Instance) (names after : InstanceNames) (found more : List Fault) (ended : Bool) → ended ≡ false → GathersFaults vs is names found ended → more ≡ found ++ f ∷ []
     → GathersFaults (vs ++ grammar f ∷ []) any after more true
 grammar_more vs f is any names after found more ended e h more_is =
     let c = carried_so_far vs is names found ended e h in record {
@@ -177,18 +182,23 @@ grammar_more vs f is any names after found more ended e h more_is =
     }
 
 -- behind a grammar fault nothing is looked at
-pub ended_more : (vs : List Value) (v : Value) (is : List Instance) (names : InstanceNames) (found : List Fault) (ended : Bool) → ended ≡ true → GathersFaults vs is names found ended → GathersFaults (vs ++ v ∷ []) is names found ended
-ended_more vs v is names [] false e h = absurd (cc)
-ended_more vs v is names (f ∷ found) false e h = absurd (cc)
-ended_more vs v is names found true e h = record {
+ended_more : (vs more : List Value) (is : List Instance) (names : InstanceNames) (found : List Fault) (ended : Bool) → ended ≡ true → GathersFaults vs is names found ended → GathersFaults (vs ++ more) is names found ended
+ended_more vs more is names [] false e h = absurd (cc)
+ended_more vs more is names (f ∷ found) false e h = absurd (cc)
+ended_more vs more is names found true e h = record {
   wholes = h.wholes;
   fault = h.fault;
-  later = h.later ++ v ∷ [];
+  later = h.later ++ more;
   earlier = h.earlier;
-  are = ap (λ l. l ++ v ∷ []) h.are ∙ append_assoc (map whole h.wholes) (grammar h.fault ∷ h.later) (v ∷ []);
+  are = ap (λ l. l ++ more) h.are ∙ append_assoc (map whole h.wholes) (grammar h.fault ∷ h.later) more;
   faults = h.faults;
   found_are = h.found_are;
 }
+
+ended_some : (vs : List Value) (is : List Instance) (names : InstanceNames) (found : List Fault) (ended : Bool) → ended ≡ true → GathersFaults vs is names found ended → found ≢ []
+ended_some vs is names [] false e h = absurd (cc)
+ended_some vs is names (f ∷ found) false e h = absurd (cc)
+ended_some vs is names found true e h = λ none. some_behind h.earlier h.fault (sym h.found_are ∙ none)
 
 -- All pieces are gathered.
 
@@ -220,25 +230,17 @@ has_tail file end vs fs (by.of_wholes e carried t) none = t
 
 -- What fits a schema.
 
-pub fits_sound : (found : List Fault) (g : Gathering) (cs : List Checked) → found ≡ [] → ((s : Schema) → All (IsKept s) cs → AreOutlined s g.outline) → FitsWith found g cs
-fits_sound [] g cs none h = h
-fits_sound (f ∷ found) g cs none h = absurd (cc)
+pub fits_sound : (found : List Fault) (g : Gathering) (ls : List OutlineList) → found ≡ [] → ((s : Schema) → All (AreListed s) ls → AreOutlined s g.outline) → FitsWith found g ls
+fits_sound [] g ls none h = h
+fits_sound (f ∷ found) g ls none h = absurd (cc)
 
-pub fits_faulty : (found : List Fault) (g : Gathering) (cs : List Checked) → found ≢ [] → FitsWith found g cs
-fits_faulty [] g cs some = absurd (some refl)
-fits_faulty (f ∷ found) g cs some = tt
+fits_faulty : (found : List Fault) (g : Gathering) (ls : List OutlineList) → found ≢ [] → FitsWith found g ls
+fits_faulty [] g ls some = absurd (some refl)
+fits_faulty (f ∷ found) g ls some = tt
 
-pub fitting : (found : List Fault) (g : Gathering) (cs : List Checked) → found ≡ [] → FitsWith found g cs → (s : Schema) → All (IsKept s) cs → AreOutlined s g.outline
-fitting [] g cs none h = h
-fitting (f ∷ found) g cs none h = absurd (cc)
-
--- a fault was noted
-pub gathered_noted : (g : Gathering) (cs : List Checked) (c : Checked) (w : Whole) → value_of c ≡ whole w → HasNoted cs w g → IsGathered g (cs ++ c ∷ [])
-gathered_noted g cs c w is h =
-    let values : values_of cs ++ whole w ∷ [] ≡ values_of (cs ++ c ∷ []) = ap (λ v. values_of cs ++ v ∷ []) (sym is) ∙ sym (map-append value_of cs (c ∷ [])) in record {
-      faults = gathers_faulty (values_of (cs ++ c ∷ [])) (plain_instances (outlined_instances g.outline)) g.names g.faults.items g.ended h.1 h.0 (subst (λ vs. HaveFaults vs g.names g.faults.items) values h.2);
-      fits = fits_faulty g.faults.items g (cs ++ c ∷ []) h.0;
-    }
+pub fitting : (found : List Fault) (g : Gathering) (ls : List OutlineList) → found ≡ [] → FitsWith found g ls → (s : Schema) → All (AreListed s) ls → AreOutlined s g.outline
+fitting [] g ls none h = h
+fitting (f ∷ found) g ls none h = absurd (cc)
 
 module _ {X : Type 0} (P : X → Type 0) where
   all_front : (xs ys : List X) → All P (xs ++ ys) → All P xs
@@ -249,74 +251,147 @@ module _ {X : Type 0} (P : X → Type 0) where
   all_last [] x h = All-head P x [] h
   all_last (y ∷ xs) x h = all_last xs x (All-tail P y (xs ++ x ∷ []) h)
 
-fits_kept : (found : List Fault) (g h : Gathering) (cs : List Checked) → KeepsOutlines g.outline h.outline → FitsWith found g cs → FitsWith found h cs
-fits_kept [] g h cs keeps prior = λ s all. keeps.1 s (prior s all)
-fits_kept (f ∷ found) g h cs keeps prior = tt
+-- Instances joined.
 
--- an outline was let go, since its name is there
-pub gathered_kept : (g h : Gathering) (cs : List Checked) → h.alloc ≡ g.alloc → h.names ≡ g.names → h.faults ≡ g.faults → h.ended ≡ g.ended → IsGathered g cs → KeepsOutlines g.outline h.outline → IsGathered h cs
-gathered_kept g h cs alloc names faults ended prior keeps = record {
-  faults = rw (names, faults, ended, keeps.0) prior.faults;
-  fits = subst (λ (v : Vec Fault _). FitsWith v.items h cs) (sym faults) (fits_kept g.faults.items g h cs keeps prior.fits);
+-- those of a list that have names of their own, behind others without a fault
+sound_list : (vs : List Value) (is js : List RawInstance) → HaveInstances vs (plain_instances is) → HaveOwnNames (is ++ js) → HaveInstances (vs ++ map sound_value js) (plain_instances (is ++ js))
+sound_list vs is [] h own = subst (λ l. HaveInstances l (plain_instances (is ++ []))) (sym (append-nil vs)) (subst (λ l. HaveInstances vs (plain_instances l)) (sym (append-nil is)) h)
+sound_list vs is (j ∷ js) h own =
+    let w : Whole = record { instance = plain_instance j; own = None } in
+    let alone : IsCarriedFault (plain_instances is) w None = fault.alone (is_not_repeated is j (is_new_behind is j js own)) refl in
+    let parts : (is ++ j ∷ []) ++ js ≡ is ++ j ∷ js = append_assoc is (j ∷ []) js in
+    let one = sound_more vs (plain_instances is) (plain_instances (is ++ j ∷ [])) w h alone (map-append plain_instance is (j ∷ [])) in
+    let all = sound_list (vs ++ whole w ∷ []) (is ++ j ∷ []) js one (subst HaveOwnNames (sym parts) own) in
+    subst (λ l. HaveInstances l (plain_instances (is ++ j ∷ js))) (append_assoc vs (whole w ∷ []) (map sound_value js))
+    (subst (λ l. HaveInstances ((vs ++ whole w ∷ []) ++ map sound_value js) (plain_instances l)) parts all)
+
+so_far : (g : Gathering) (vs : List Value) (ls : List OutlineList) → g.ended ≡ false → g.faults.items ≡ [] → HasGathered g vs ls → HaveInstances vs (plain_instances (outlined_instances g.outline))
+so_far g vs ls going none prior = sound_gathered vs (plain_instances (outlined_instances g.outline)) g.names g.faults.items g.ended going none prior.faults
+
+-- a list was joined
+pub gathered_joined : (g h : Gathering) (vs : List Value) (ls : List OutlineList) (list : OutlineList) → g.ended ≡ false → g.faults.items ≡ [] → h.ended ≡ g.ended → h.faults ≡ g.faults → HasGathered g vs ls → HaveOwnNames (outlined_instances h.outline) → Extends g.outline list (extended.Whole h.outline)
+    → HasGathered h (vs ++ map sound_value (listed_instances list)) (ls ++ list ∷ [])
+gathered_joined g h vs ls list going none ended faults prior own extends =
+    let old = outlined_instances g.outline in
+    let more = listed_instances list in
+    let empty : h.faults.items ≡ [] = ap (λ f. f.items) faults ∙ none in
+    let have = sound_list vs old more (so_far g vs ls going none prior) (subst HaveOwnNames extends.0 own) in record {
+      faults = gathers_sound (vs ++ map sound_value more) (plain_instances (outlined_instances h.outline)) h.names h.faults.items h.ended (ended ∙ going) empty
+          (subst (λ l. HaveInstances (vs ++ map sound_value more) (plain_instances l)) (sym extends.0) have);
+      fits = fits_sound h.faults.items h (ls ++ list ∷ []) empty
+          (λ s all. extends.1 s (fitting g.faults.items g ls none prior.fits s (all_front (AreListed s) ls (list ∷ []) all)) (all_last (AreListed s) ls list all));
+    }
+
+-- those before the first repeated name have no fault
+pub faults_before : (g : Gathering) (vs : List Value) (ls : List OutlineList) (js : List RawInstance) (names : InstanceNames) (place : ℕ) → g.ended ≡ false → g.faults.items ≡ [] → HasGathered g vs ls → IsFirstRepeated (outlined_instances g.outline) js names place
+    → HaveFaults (vs ++ map sound_value (take place js)) names []
+faults_before g vs ls js names place going none prior first =
+    let before = outlined_instances g.outline ++ take place js in
+    faults_from (vs ++ map sound_value (take place js)) (plain_instances before) names
+    (sound_list vs (outlined_instances g.outline) (take place js) (so_far g vs ls going none prior) first.own_names) (names_are names before first.names_are)
+
+-- Faults noted.
+
+-- the values have faults, and these and the names were noted
+gathered_faulty : (g : Gathering) (vs : List Value) (ls : List OutlineList) → g.ended ≡ false → g.faults.items ≢ [] → HaveFaults vs g.names g.faults.items → HasGathered g vs ls
+gathered_faulty g vs ls going some h = record {
+  faults = gathers_faulty vs (plain_instances (outlined_instances g.outline)) g.names g.faults.items g.ended going some h;
+  fits = fits_faulty g.faults.items g ls some;
 }
 
--- an instance was joined
-pub gathered_joined : (g h : Gathering) (cs : List Checked) (one : InstanceOutline) → g.ended ≡ false → g.faults.items ≡ [] → h.ended ≡ g.ended → h.faults ≡ g.faults → IsGathered g cs → Adds g.outline one (Ok true) h.outline → IsGathered h (cs ++ checked.Sound one ∷ [])
-gathered_joined g h cs one going none ended faults prior adds =
-    let w : Whole = record { instance = plain_instance (outlined one); own = None } in
-    let old = outlined_instances g.outline in
-    let have = sound_gathered (values_of cs) (plain_instances old) g.names g.faults.items g.ended going none prior.faults in
-    let own : IsCarriedFault (plain_instances old) w None = fault.alone (is_not_repeated old (outlined one) adds.0) refl in
-    let more : plain_instances (outlined_instances h.outline) ≡ plain_instances old ++ w.instance ∷ [] = ap plain_instances adds.1 ∙ map-append plain_instance old (outlined one ∷ []) in
-    let values : values_of cs ++ whole w ∷ [] ≡ values_of (cs ++ checked.Sound one ∷ []) = sym (map-append value_of cs (checked.Sound one ∷ [])) in
-    let empty : h.faults.items ≡ [] = ap (λ f. f.items) faults ∙ none in record {
-      faults = gathers_sound (values_of (cs ++ checked.Sound one ∷ [])) (plain_instances (outlined_instances h.outline)) h.names h.faults.items h.ended (ended ∙ going) empty
-          (subst (λ vs. HaveInstances vs (plain_instances (outlined_instances h.outline))) values (sound_more (values_of cs) (plain_instances old) (plain_instances (outlined_instances h.outline)) w have own more));
-      fits = fits_sound h.faults.items h (cs ++ checked.Sound one ∷ []) empty
-          (λ s all. adds.2 s (fitting g.faults.items g cs none prior.fits s (all_front (IsKept s) cs (checked.Sound one ∷ []) all)) (all_last (IsKept s) cs (checked.Sound one) all));
-    }
+-- the same, and that there is one
+pub noted_gathered : (g : Gathering) (vs : List Value) (ls : List OutlineList) → g.ended ≡ false → g.faults.items ≢ [] → HaveFaults vs g.names g.faults.items → HasGathered g vs ls × (g.faults.items ≢ [])
+noted_gathered g vs ls going some h = (gathered_faulty g vs ls going some h, some)
+
+-- behind a fault no outline is kept
+pub gathered_with : (g : Gathering) (vs : List Value) (ls more : List OutlineList) → g.faults.items ≢ [] → HasGathered g vs ls → HasGathered g vs more
+gathered_with g vs ls more some h = record { faults = h.faults; fits = fits_faulty g.faults.items g more some }
+
+-- the first fault is that an instance has a name that is there
+pub gathered_again : (g : Gathering) (vs : List Value) (ls : List OutlineList) (i : RawInstance) → g.ended ≡ false → HaveFaults vs g.names [] → IsAmong g.names i.name → g.faults.items ≡ record { kind = kind.DuplicateName; at = i.at } ∷ [] → HasGathered g (vs ++ sound_value i ∷ []) ls
+gathered_again g vs ls i going h again items =
+    let w : Whole = record { instance = plain_instance i; own = None } in
+    let noted = noted_some vs w kind.DuplicateName g.names g.names [] h (fault.repeated (h.names_are.only i.name again)) (names_repeated g.names (instances_in h.wholes) w.instance h.names_are again) in
+    let some : g.faults.items ≢ [] = λ e. cc in
+    gathered_faulty g (vs ++ sound_value i ∷ []) ls going some (subst (HaveFaults (vs ++ sound_value i ∷ []) g.names) (sym items) noted)
+
+-- the instance at a place of a list, and those behind it
+pub record Parted (is : List RawInstance) (place : ℕ) : Type 0 where
+  pub here : RawInstance
+  pub later : List RawInstance
+  pub are : is ≡ take place is ++ here ∷ later
+  pub stands : get_or is place here ≡ here
+  pub from : drop place is ≡ here ∷ later
+
+parted : (is : List RawInstance) (place : ℕ) → place < length is → Parted is place
+parted [] place less = absurd (omega (arith, less))
+parted (x ∷ is) zero less = record { here = x; later = is; are = refl; stands = refl; from = refl }
+parted (x ∷ is) (suc place) less =
+    let r = parted is place (omega (arith, less)) in record { here = r.here; later = r.later; are = ap (λ l. x ∷ l) r.are; stands = r.stands; from = r.from }
+
+-- the same of names
+pub parted_names : (names : List PlacedName) (is : List RawInstance) (place : ℕ) → names ≡ map placed_name is → place < length names → Parted is place
+parted_names names is place e less = parted is place (omega (arith, less, ap length e, length-map is placed_name))
+
+pub names_from : (names back : List PlacedName) (is : List RawInstance) (place : ℕ) → names ≡ map placed_name is → back ≡ drop place names → (p : Parted is place) → back ≡ placed_name p.here ∷ map placed_name p.later
+names_from names back is place e back_is p = back_is ∙ (ap (λ l. drop place l) e ∙ (drop-map placed_name place is ∙ ap (λ l. map placed_name l) p.from))
+
+pub names_behind : (back later : List PlacedName) (first : PlacedName) → back ≡ first ∷ later → take (length back - 1) (drop 1 back) ≡ later
+names_behind back later first e = take_rest back 1 ∙ ap (λ l. drop 1 l) e
+
+pub parted_values : (vs : List Value) (is : List RawInstance) (place : ℕ) (p : Parted is place) → ((vs ++ map sound_value (take place is)) ++ sound_value p.here ∷ []) ++ map sound_value p.later ≡ vs ++ map sound_value is
+parted_values vs is place p =
+    append_assoc (vs ++ map sound_value (take place is)) (sound_value p.here ∷ []) (map sound_value p.later)
+    ∙ (append_assoc vs (map sound_value (take place is)) (sound_value p.here ∷ map sound_value p.later)
+    ∙ ap (λ l. vs ++ l) (sym (map-append sound_value (take place is) (p.here ∷ p.later)) ∙ ap (λ l. map sound_value l) (sym p.are)))
+
+-- one more of a list of instances, by its name
+
+pub name_there : (names : List PlacedName) (is : List RawInstance) (k : ℕ) (d : PlacedName) → names ≡ map placed_name is → (p : Parted is k) → k < length names → placed_name p.here ≡ get_or names k d
+name_there names is k d e p less =
+    let within : k < length is = omega (arith, less, ap length e, length-map is placed_name) in
+    ap placed_name (sym p.stands) ∙ (sym (get_or-map placed_name is k p.here d within) ∙ ap (λ l. get_or l k d) (sym e))
+
+pub sound_next : (vs : List Value) (is : List RawInstance) (k : ℕ) (p : Parted is k) → k < length is → (vs ++ map sound_value (take k is)) ++ sound_value p.here ∷ [] ≡ vs ++ map sound_value (take (k + 1) is)
+sound_next vs is k p less =
+    append_assoc vs (map sound_value (take k is)) (sound_value p.here ∷ [])
+    ∙ ap (λ l. vs ++ l) (ap (λ i. map sound_value (take k is) ++ sound_value i ∷ []) (sym p.stands) ∙ sym (map_more sound_value is k p.here less))
+
+-- where nothing has a fault, one of the instance is told
+pub told_fault : (g : Gathering) (w : Whole) (told : Option FaultKind) → HasFaultBehind g w → (w.own ≢ None → told ≢ None) → g.faults.items ≢ [] ⊎ (told ≢ None)
+told_fault g w told behind own = elim behind [ inl some ↦ inl some | inr some ↦ inr (own some) ]
+
+-- a grammar fault was gathered
+pub gathered_grammar : (g h : Gathering) (vs : List Value) (ls : List OutlineList) (f : Fault) → g.ended ≡ false → h.ended ≡ true → h.faults.items ≡ g.faults.items ++ f ∷ [] → HasGathered g vs ls → HasGathered h (vs ++ grammar f ∷ []) ls × (h.faults.items ≢ [])
+gathered_grammar g h vs ls f going ended more prior =
+    let some : h.faults.items ≢ [] = λ none. some_behind g.faults.items f (sym more ∙ none) in
+    let any = plain_instances (outlined_instances h.outline) in
+    let all = grammar_more vs f (plain_instances (outlined_instances g.outline)) any g.names h.names g.faults.items h.faults.items g.ended going prior.faults more in (
+      record {
+        faults = subst (λ b. GathersFaults (vs ++ grammar f ∷ []) any h.names h.faults.items b) (sym ended) all;
+        fits = fits_faulty h.faults.items h ls some;
+      },
+      some,
+    )
+
+-- behind a grammar fault nothing is looked at
+pub gathered_ended : (g : Gathering) (vs more : List Value) (ls others : List OutlineList) → g.ended ≡ true → HasGathered g vs ls → HasGathered g (vs ++ more) others × (g.faults.items ≢ [])
+gathered_ended g vs more ls others ended prior =
+    let is = plain_instances (outlined_instances g.outline) in
+    let some = ended_some vs is g.names g.faults.items g.ended ended prior.faults in (
+      record { faults = ended_more vs more is g.names g.faults.items g.ended ended prior.faults; fits = fits_faulty g.faults.items g others some },
+      some,
+    )
+
+-- Lists gathered.
+
+-- a list of pieces behind others
+pub gathered_list : (g : Gathering) (outs : List CheckedList) (out : CheckedList) → HasGathered g (values_of outs ++ values_in out) (outlines_of outs ++ out.sound ∷ []) → IsGathered g (outs ++ out ∷ [])
+gathered_list g outs out h =
+    let values : values_of (outs ++ out ∷ []) ≡ values_of outs ++ values_in out = flat_map-append values_in outs (out ∷ []) ∙ ap (λ l. values_of outs ++ l) (append-nil (values_in out)) in
+    let outlines : outlines_of (outs ++ out ∷ []) ≡ outlines_of outs ++ out.sound ∷ [] = map-append (λ (c : CheckedList). c.sound) outs (out ∷ []) in
+    subst (λ vs. HasGathered g vs (outlines_of (outs ++ out ∷ []))) (sym values) (subst (HasGathered g (values_of outs ++ values_in out)) (sym outlines) h)
 
 pub on_ok : {E : Type 0} {T : Type 0} (r : Result T E) (P Q : Type 0) → (P → Q) → OnOk r P → OnOk r Q
 on_ok (Ok x) P Q f h = f h
 on_ok (Err e) P Q f h = h
-
--- What is noted of one more instance.
-
--- where nothing has a fault, one of the instance is told
-pub told_fault : (g : Gathering) (w : Whole) (told : Option FaultKind) (Among : Type 0) → HasFaultBehind g w → (w.own ≢ None → told ≢ None) → (g.faults.items ≡ [] → IsRepeated (plain_instances (outlined_instances g.outline)) w.instance → Among) → (Among → told ≢ None) → g.faults.items ≢ [] ⊎ (told ≢ None)
-told_fault g w told Among behind own named among = elim behind [
-  | inl some ↦ inl some
-  | inr (inl some) ↦ inr (own some)
-  | inr (inr again) ↦ by_faults (nothing_or g.faults.items) again
-] where
-  nothing_or : (found : List Fault) → found ≡ [] ⊎ (found ≢ [])
-  nothing_or [] = inl refl
-  nothing_or (f ∷ found) = inr (λ e. cc)
-
-  by_faults : g.faults.items ≡ [] ⊎ (g.faults.items ≢ []) → IsRepeated (plain_instances (outlined_instances g.outline)) w.instance → g.faults.items ≢ [] ⊎ (told ≢ None)
-  by_faults (inl none) again = inr (among (named none again))
-  by_faults (inr some) again = inl some
-
--- a grammar fault was gathered
-pub gathered_grammar : (g h : Gathering) (cs : List Checked) (c : Checked) (f : Fault) → value_of c ≡ grammar f → g.ended ≡ false → h.ended ≡ true → h.faults.items ≡ g.faults.items ++ f ∷ [] → IsGathered g cs → IsGathered h (cs ++ c ∷ [])
-gathered_grammar g h cs c f is going ended more prior =
-    let values : values_of cs ++ grammar f ∷ [] ≡ values_of (cs ++ c ∷ []) = ap (λ v. values_of cs ++ v ∷ []) (sym is) ∙ sym (map-append value_of cs (c ∷ [])) in
-    let all = grammar_more (values_of cs) f (plain_instances (outlined_instances g.outline)) (plain_instances (outlined_instances h.outline)) g.names h.names g.faults.items h.faults.items g.ended going prior.faults more in record {
-      faults = subst (λ b. GathersFaults (values_of (cs ++ c ∷ [])) (plain_instances (outlined_instances h.outline)) h.names h.faults.items b) (sym ended)
-          (subst (λ vs. GathersFaults vs (plain_instances (outlined_instances h.outline)) h.names h.faults.items true) values all);
-      fits = fits_faulty h.faults.items h (cs ++ c ∷ []) (λ none. some_behind g.faults.items f (sym more ∙ none));
-    }
-
-ended_some : (vs : List Value) (is : List Instance) (names : InstanceNames) (found : List Fault) (ended : Bool) → ended ≡ true → GathersFaults vs is names found ended → found ≢ []
-ended_some vs is names [] false e h = absurd (cc)
-ended_some vs is names (f ∷ found) false e h = absurd (cc)
-ended_some vs is names found true e h = λ none. some_behind h.earlier h.fault (sym h.found_are ∙ none)
-
--- behind a grammar fault nothing is looked at
-pub gathered_ended : (g : Gathering) (cs : List Checked) (c : Checked) → g.ended ≡ true → IsGathered g cs → IsGathered g (cs ++ c ∷ [])
-gathered_ended g cs c ended prior =
-    let is = plain_instances (outlined_instances g.outline) in
-    let values : values_of cs ++ value_of c ∷ [] ≡ values_of (cs ++ c ∷ []) = sym (map-append value_of cs (c ∷ [])) in record {
-      faults = subst (λ vs. GathersFaults vs is g.names g.faults.items g.ended) values (ended_more (values_of cs) (value_of c) is g.names g.faults.items g.ended ended prior.faults);
-      fits = fits_faulty g.faults.items g (cs ++ c ∷ []) (ended_some (values_of cs) is g.names g.faults.items g.ended ended prior.faults);
-    }

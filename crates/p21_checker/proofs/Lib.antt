@@ -1,5 +1,6 @@
 mod NameLemmas
 mod GatheringLemmas
 mod AgainLemmas
+mod ListLemmas
 mod CheckLemmas
 mod Crossing

@@ -1,7 +1,9 @@
 -- The names of instances, one more.
 use Rattle.std.proofs.Common.{◌≡◌, ◌⊎◌, ◌↔◌, true, false, Option, Some, Ok, inl, inr, ℕ, zero, suc, ◌<◌, List, [], ◌∷◌, ◌++◌, length, get_or, map, refl, sym, ap, subst, ◌∙◌, arith}
-use Rattle.std.specs.Prelude.{Contains, All}
-use Rattle.std.proofs.lemmas.List.{get_or-map, length-map}
+use Rattle.std.specs.Prelude.{Contains}
+use Rattle.std.proofs.Math.ListN.{get_or-append}
+use Rattle.std.proofs.Math.Seq.{get_or-append_seam}
+use Rattle.std.proofs.lemmas.List.{get_or-map, length-append, length-map}
 use Rattle.std.proofs.lemmas.List.Elements.{Contains-append_cases, Contains-append_left, Contains-append_right}
 use Rattle.p21_tree.specs.declared.instances.RawInstance.{RawInstance}
 use Rattle.p21_tree.specs.Sentence.{Instance}
@@ -12,6 +14,7 @@ use Rattle.p21_join.specs.declared.instance_names.InstanceNames.{InstanceNames}
 use Rattle.p21_join.specs.InstanceNames.{AddsName, IsAmong}
 use Rattle.p21_join.specs.Joined.{IsNamedIn, IsNewIn}
 use Rattle.p21_join.specs.Model.{plain_instances}
+use Rattle.p21_join.specs.Names.{HaveOwnNames}
 use Rattle.p21_reader.specs.InstanceFault.{IsRepeated}
 use Rattle.p21_reader.specs.InstanceFault as fault
 use Rattle.p21_reader.specs.Names.{AreNames}
@@ -49,10 +52,18 @@ names_are names is same = record {
   only = λ n h. let r = contains_back (λ (x : RawInstance). x.name) is n ((same n).0 h) in (plain_instance r.0, contains_there plain_instance is r.0 r.1, r.2);
 }
 
--- that a name is there, or new, among plain instances
+-- ---- whether a name is there, or new, among plain instances
 
-pub is_repeated : (is : List RawInstance) (i : RawInstance) → IsNamedIn is i → IsRepeated (plain_instances is) (plain_instance i)
-is_repeated is i h = (plain_instance h.0, contains_there plain_instance is h.0 h.1, h.2)
+-- the name of an instance that has that of another
+pub is_among : (names : InstanceNames) (is : List RawInstance) (i : RawInstance) → ((n : ℕ) → IsAmong names n ↔ Contains (map (λ (x : RawInstance). x.name) is) n) → IsNamedIn is i → IsAmong names i.name
+is_among names is i same h = subst (IsAmong names) h.2 ((same h.0.name).1 (contains_there (λ (x : RawInstance). x.name) is h.0 h.1))
+
+-- among instances with names of their own none has that of one behind it
+pub is_new_behind : (is : List RawInstance) (j : RawInstance) (js : List RawInstance) → HaveOwnNames (is ++ j ∷ js) → IsNewIn is j
+is_new_behind is j js own =
+    λ k d less e.
+    own k (length is) d less (omega (arith, length-append is (j ∷ js)))
+    (ap (λ x. x.name) (get_or-append is (j ∷ js) d k less) ∙ (e ∙ ap (λ x. x.name) (sym (get_or-append_seam is j js d))))
 
 pub is_not_repeated : (is : List RawInstance) (i : RawInstance) → IsNewIn is i → ¬ (IsRepeated (plain_instances is) (plain_instance i))
 is_not_repeated is i h r =
@@ -101,3 +112,7 @@ module _ (old new : InstanceNames) (is : List Instance) (i : Instance) (n : ℕ)
 
   pub names_kept : AddsName old n (Ok false) new → AreNames (IsAmong new) (is ++ i ∷ [])
   names_kept adds = names_again (IsAmong old) (IsAmong new) is i h (subst (IsAmong old) (sym e) adds.0) adds.1
+
+-- where a name that is there comes again, the names are the same
+pub names_repeated : (names : InstanceNames) (is : List Instance) (i : Instance) → AreNames (IsAmong names) is → IsAmong names i.name → AreNames (IsAmong names) (is ++ i ∷ [])
+names_repeated names is i h again = names_again (IsAmong names) (IsAmong names) is i h again (λ n. (λ a. a, λ a. a))

@@ -2,7 +2,6 @@
 use Rattle.std.specs.Prelude.{◌≡◌, ◌∷◌, ℕ, List, [], None, Err, Result, map}
 use Rattle.p21_express.specs.Schema.{Schema}
 use Rattle.p21_tree.specs.declared.faults.Fault.{Fault}
-use Rattle.p21_tree.specs.declared.pieces.Piece.{Piece}
 use Rattle.p21_tree.specs.Sentence.{Instance, Opening}
 use Rattle.p21_tree.specs.Texts.{BeginsPreface}
 use Rattle.p21_cut.specs.Cutter.{plain_piece}
@@ -21,18 +20,20 @@ use Rattle.p21_checker.specs.Checked.{IsStated, values_of}
 use Rattle.p21_checker.specs.Counts.{Tells, TellsAll, TellsFirst}
 use Rattle.p21_checker.specs.declared.check.FaultCheck.{FaultCheck}
 use Rattle.p21_checker.specs.declared.check.FileCheck.{FileCheck}
-use Rattle.p21_checker.specs.declared.checked.Checked.{Checked}
+use Rattle.p21_checker.specs.declared.checked_list.CheckedList.{CheckedList}
+use Rattle.p21_checker.specs.declared.lists.PieceList.{PieceList}
+use Rattle.p21_checker.specs.Lists.{pieces_in}
 
 -- What the lanes of a check returned, and what an answer to it is. Where a fault stands before the instances nothing was returned. Else
--- there is a result of each piece, which may be said of it; each lane received its share of the pieces and returned its share of these
+-- there is a result of each list of pieces, which may be said of it; each lane received its share of the lists and returned its share of these
 -- results; and the answer is one to these.
-pub data HaveReturned (IsAnswer : ℕ → List Checked → Type 0) (s : Schema) (file : List ℕ) (lanes : ℕ) (dealt : List ℕ) (receipts : List (Receipt Piece)) (returned : List (Receipt (Returned Checked))) : Type 0 where
+pub data HaveReturned (IsAnswer : ℕ → List CheckedList → Type 0) (s : Schema) (file : List ℕ) (lanes : ℕ) (dealt : List ℕ) (receipts : List (Receipt PieceList)) (returned : List (Receipt (Returned CheckedList))) : Type 0 where
   nothing : {f : Fault} → IsOpeningFault s file f → returned ≡ [] → HaveReturned IsAnswer s file lanes dealt receipts returned
-  results : {o : Opening} {tail : ℕ} (pieces : List Piece) (outs : List Checked) → BeginsPreface file o → IsHeaderFault s o None → PiecesAre file o.data_at 0 (map plain_piece pieces) tail
-      → IsRun (IsStated s) lanes pieces outs dealt receipts returned → IsAnswer tail outs → HaveReturned IsAnswer s file lanes dealt receipts returned
+  results : {o : Opening} {tail : ℕ} (lists : List PieceList) (outs : List CheckedList) → BeginsPreface file o → IsHeaderFault s o None → PiecesAre file o.data_at 0 (map plain_piece (pieces_in lists)) tail
+      → IsRun (IsStated s) lanes lists outs dealt receipts returned → IsAnswer tail outs → HaveReturned IsAnswer s file lanes dealt receipts returned
 
 -- an answer with all faults to what was returned, of which this is told
-pub record AnswersTo (Told : Result (List Instance) (List Fault) → Type 0) (s : Schema) (file : List ℕ) (tail : ℕ) (outs : List Checked) : Type 0 where
+pub record AnswersTo (Told : Result (List Instance) (List Fault) → Type 0) (s : Schema) (file : List ℕ) (tail : ℕ) (outs : List CheckedList) : Type 0 where
   pub full : Result (List Instance) (List Fault)
   pub is_answer : IsAllAnswerTo s file tail (values_of outs) full
   pub told : Told full

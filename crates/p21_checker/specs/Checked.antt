@@ -1,29 +1,55 @@
--- What a worker says of a piece, without where it lies in memory.
-use Rattle.std.specs.Prelude.{List, map, Some, None, All}
+-- What a worker says of a list of pieces, without where it lies in memory.
+use Rattle.std.specs.Prelude.{◌≡◌, ◌++◌, ◌∷◌, List, [], map, None}
+use Rattle.std.specs.List.{AllZip, flat_map}
 use Rattle.p21_express.specs.Schema.{Schema}
+use Rattle.p21_tree.specs.declared.instances.RawInstance.{RawInstance}
 use Rattle.p21_tree.specs.declared.pieces.Piece.{Piece}
 use Rattle.p21_tree.specs.Views.{plain_instance}
-use Rattle.p21_outline.specs.InstanceOutline.{IsOutline, outlined}
+use Rattle.p21_outline.specs.declared.outline_list.OutlineList.{OutlineList}
+use Rattle.p21_outline.specs.OutlineList.{AreListed, listed_instances}
 use Rattle.p21_reader.specs.Values.{Value, grammar, whole, IsJudged}
 use Rattle.p21_checker.specs.declared.checked.Checked.{Checked}
 use Rattle.p21_checker.specs.declared.checked.Checked.TheVariants as checked
+use Rattle.p21_checker.specs.declared.checked_list.CheckedList.{CheckedList}
+use Rattle.p21_checker.specs.declared.lists.PieceList.{PieceList}
+use Rattle.p21_checker.specs.Lists.{pieces_of}
 
--- The value of a piece that is meant: its grammar fault; or the instance whose tree was let go, and the fault that it has by itself.
+-- The value of a piece that is meant: its grammar fault; or the instance whose tree was let go, and the fault that it has by itself, if it has one.
 abbrev pub value_of : Checked → Value
 value_of (checked.Grammar f) = grammar f
-value_of (checked.Faulty f) = whole (record { instance = plain_instance f.instance.value; own = Some f.kind })
-value_of (checked.Sound o) = whole (record { instance = plain_instance (outlined o); own = None })
+value_of (checked.Whole i) = whole (record { instance = plain_instance i.gone.value; own = i.own })
 
--- the values that are meant, in order
-abbrev pub values_of : List Checked → List Value
-values_of cs = map value_of cs
+-- the value of an instance that has no fault by itself
+abbrev pub sound_value : RawInstance → Value
+sound_value i = whole (record { instance = plain_instance i; own = None })
 
--- an outline is that of its instance
-abbrev pub IsKept : Schema → Checked → Type 0
-IsKept s (checked.Grammar f) = Unit {0}
-IsKept s (checked.Faulty f) = Unit {0}
-IsKept s (checked.Sound o) = IsOutline s o
+-- the values that are meant of the pieces of a list, in order
+abbrev pub values_in : CheckedList → List Value
+values_in c = map sound_value (listed_instances c.sound) ++ map value_of c.rest.items
 
--- What may be said of a piece: what it is by itself, with an outline that is that of its instance.
-abbrev pub IsStated : Schema → Piece → Checked → Type 0
-IsStated s p c = IsJudged s p (value_of c) × IsKept s c
+-- the same of several lists
+abbrev pub values_of : List CheckedList → List Value
+values_of cs = flat_map values_in cs
+
+-- the outlines in several lists
+abbrev pub outlines_of : List CheckedList → List OutlineList
+outlines_of cs = map (λ c. c.sound) cs
+
+-- What may be said of pieces: what each is by itself, with outlines that are those of their instances.
+pub record AreStated (s : Schema) (ps : List Piece) (c : CheckedList) : Type 0 where
+  pub judged : AllZip (IsJudged s) ps (values_in c)
+  pub kept : AreListed s c.sound
+
+-- the same of the pieces of a list
+abbrev pub IsStated : Schema → PieceList → CheckedList → Type 0
+IsStated s l c = AreStated s (pieces_of l) c
+
+-- nothing is said yet
+pub record IsEmpty (c : CheckedList) : Type 0 where
+  pub values : values_in c ≡ []
+  pub kept : (s : Schema) → AreListed s c.sound
+
+-- a value comes behind the others, and the outlines are still those of their instances
+pub record Adds (s : Schema) (old : CheckedList) (v : Value) (new : CheckedList) : Type 0 where
+  pub values : values_in new ≡ values_in old ++ v ∷ []
+  pub kept : AreListed s old.sound → AreListed s new.sound

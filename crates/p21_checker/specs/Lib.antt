@@ -1,3 +1,5 @@
+pub mod Lists
+pub mod Begin
 pub mod Checked
 pub mod Gathering
 pub mod Counts

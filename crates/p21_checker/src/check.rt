@@ -2,27 +2,28 @@
 
 ghost use Rattle.std.specs.Prelude.{◌≤◌, length, map, List, IfOk};
 ghost use Rattle.std.specs.List.{AllZip};
-ghost use Rattle.p21_tree.specs.declared.pieces.Piece.{Piece};
 ghost use Rattle.p21_cut.specs.Cutter.{plain_piece};
 ghost use Rattle.p21_cut.specs.Pieces.{PiecesAre};
-ghost use Rattle.p21_reader.specs.Lanes.{PiecesAreDealt};
+ghost use Rattle.p21_checker.specs.Lists.{PiecesAreDealt, pieces_in};
 ghost use Rattle.p21_checker.specs.Answers.{AllReturned, AnswersTo, FirstReturned, TellsReading, TellsReadingWithAll};
 ghost use Rattle.p21_checker.specs.Checked.{IsStated};
 ghost use Rattle.p21_checker.specs.Counts.{HasFaults, IsFirstOf, TellsAll};
 ghost use Rattle.p21_checker.specs.Gathering.{IsGathered};
-ghost use Rattle.p21_checker.specs.declared.checked.Checked.{Checked};
+ghost use Rattle.p21_checker.specs.declared.checked_list.CheckedList.{CheckedList};
+ghost use Rattle.p21_checker.specs.declared.lists.PieceList.{PieceList};
 
 use crate::again::reference_faults;
-use crate::checked::Checked;
+use crate::checked_list::CheckedList;
 use crate::checking::check_pieces;
 use crate::counts::Counts;
 use crate::gathering::Gathering;
+use crate::lists::PieceList;
 use p21_crew::{Gate, Returned};
 use p21_desk::LaneCount;
 use p21_lanes::{Capacity, Receipt};
 use p21_reader::{Pieces, Stop, all_begin_with_reading, checked_preface, values_give_all_faults};
 use p21_schema::Schema;
-use p21_tree::{Fault, Piece};
+use p21_tree::Fault;
 use std::alloc::{AllocError, Global};
 use std::sync::Wait;
 use std::thread::Threads;
@@ -32,11 +33,11 @@ use std::thread::Threads;
 pub struct FileCheck<'a> {
     /// What is counted of the instances of the file; or its first fault.
     pub answer: Result<Counts<'a>, Fault>,
-    /// What each lane received, by its number; none of a file that has a fault before its instances.
-    pub receipts: Vec<Receipt<Piece<'a>>>,
+    /// The lists of pieces that each lane received, by its number; none of a file that has a fault before its instances.
+    pub receipts: Vec<Receipt<PieceList<'a>>>,
     /// What each lane returned, by its number: its history, and no values. None where there are no receipts.
-    pub returned: Vec<Receipt<Returned<Checked<'a>>>>,
-    /// The lane that each piece of the file was dealt to; none where there are no receipts.
+    pub returned: Vec<Receipt<Returned<CheckedList<'a>>>>,
+    /// The lane that each list of pieces of the file was dealt to; none where there are no receipts.
     pub dealt: Vec<u32>,
 }
 
@@ -46,9 +47,9 @@ pub struct FaultCheck<'a> {
     /// What is counted of the instances of the file; or all its faults, at least one.
     pub answer: Result<Counts<'a>, Vec<Fault>>,
     /// As in `FileCheck`.
-    pub receipts: Vec<Receipt<Piece<'a>>>,
+    pub receipts: Vec<Receipt<PieceList<'a>>>,
     /// As in `FileCheck`.
-    pub returned: Vec<Receipt<Returned<Checked<'a>>>>,
+    pub returned: Vec<Receipt<Returned<CheckedList<'a>>>>,
     /// As in `FileCheck`.
     pub dealt: Vec<u32>,
 }
@@ -74,9 +75,10 @@ impl From<AllocError> for CheckError {
 /// Checks a whole file against a schema, by so many lanes: what is counted of its instances, or its first fault, as `read_lanes` finds
 /// them.
 ///
-/// Pieces are dealt as `read_lanes` deals them. Each worker lets the tree of a simple instance go when it has checked it, and returns an
-/// outline of it; a complex one is kept whole. The answer hangs neither on the lanes nor on their capacity. An error is want of memory,
-/// or of a thread.
+/// Pieces are dealt in lists of half the capacity, and no more wait for a worker than the capacity. Each worker lets the tree of a simple
+/// instance go when it has checked it, and returns the outlines of a list; a complex one is kept whole. It passes the gate with the number
+/// of the first piece of each list. The answer hangs neither on the lanes nor on their capacity. An error is want of memory, or of a
+/// thread.
 pub fn check_lanes<'a, G: Gate + Sync, R: Threads + Wait + Sync>(
     rt: &R,
     alloc: Global,
@@ -185,8 +187,8 @@ fn conclude<'a, R: Threads + Sync>(
 ) -> Result<Result<Counts<'a>, Vec<Fault>>, AllocError>
     requires begins { at ≤ length file.now }
     requires ends { tail ≤ length file.now }
-    requires gathered { (pieces : List Piece) × (outs : List Checked) × IsGathered gathering outs × AllZip (IsStated schema.now) pieces outs × PiecesAre file.now at 0 (map plain_piece pieces) tail }
-    ensures { (pieces : List Piece) → (outs : List Checked) → IsGathered gathering.entry outs → AllZip (IsStated schema.entry.now) pieces outs → PiecesAre file.entry.now at 0 (map plain_piece pieces) tail
+    requires gathered { (lists : List PieceList) × (outs : List CheckedList) × IsGathered gathering outs × AllZip (IsStated schema.now) lists outs × PiecesAre file.now at 0 (map plain_piece (pieces_in lists)) tail }
+    ensures { (lists : List PieceList) → (outs : List CheckedList) → IsGathered gathering.entry outs → AllZip (IsStated schema.entry.now) lists outs → PiecesAre file.entry.now at 0 (map plain_piece (pieces_in lists)) tail
         → IfOk result (λ answer. AnswersTo (TellsAll answer) schema.entry.now file.entry.now tail outs) }
 {
     let outline = match gathering.conclude(file, tail)? {

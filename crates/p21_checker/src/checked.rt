@@ -2,47 +2,44 @@
 
 ghost use Rattle.std.specs.Prelude.{◌≡◌};
 
-use p21_outline::InstanceOutline;
 use p21_tree::{Fault, FaultKind, RawInstance};
 use std::snapshot::Snapshot;
 
-/// What a piece is by itself, when the tree of its instance was let go.
+/// What a piece is by itself, of which no outline is kept.
 #[derive(Drop)]
 pub enum Checked<'a> {
     /// No instance: its first grammar fault.
     Grammar(Fault),
-    /// An instance that has a fault by itself.
-    Faulty(FaultyInstance<'a>),
-    /// An instance that has none.
-    Sound(InstanceOutline<'a>),
+    /// An instance, whose tree was let go.
+    Whole(CheckedInstance<'a>),
 }
 
-/// What is kept of an instance that has a fault by itself.
+/// What is kept of an instance that has a fault by itself, or stands behind a piece that has one.
 #[derive(Drop)]
-pub struct FaultyInstance<'a> {
+pub struct CheckedInstance<'a> {
     /// Its name.
     pub name: u64,
     /// Where its `#` stands, in bytes from the file's first byte.
     pub at: u64,
-    /// Its fault.
-    pub kind: FaultKind,
+    /// The fault that it has by itself, if it has one.
+    pub own: Option<FaultKind>,
     /// The instance, as clauses see it.
-    pub instance: Snapshot<RawInstance<'a>>,
-    ghost named: { name ≡ instance.value.name },
-    ghost placed: { at ≡ instance.value.at },
+    pub gone: Snapshot<RawInstance<'a>>,
+    ghost named: { name ≡ gone.value.name },
+    ghost placed: { at ≡ gone.value.at },
 }
 
-impl<'a> FaultyInstance<'a> {
-    /// What is kept of an instance with this fault.
-    pub(crate) fn of(instance: &RawInstance<'a>, kind: FaultKind) -> FaultyInstance<'a>
-        ensures instance { result.instance.value ≡ instance.now }
-        ensures kind { result.kind ≡ kind }
+impl<'a> CheckedInstance<'a> {
+    /// What is kept of an instance with this fault, if it has one.
+    pub(crate) fn of(instance: &RawInstance<'a>, own: Option<FaultKind>) -> CheckedInstance<'a>
+        ensures gone { result.gone.value ≡ instance.now }
+        ensures own { result.own ≡ own }
     {
-        FaultyInstance {
+        CheckedInstance {
             name: instance.name,
             at: instance.at,
-            kind,
-            instance: Snapshot::of(instance),
+            own,
+            gone: Snapshot::of(instance),
         }
     }
 }

@@ -4,10 +4,14 @@
 mod again;
 mod check;
 mod checked;
+mod checked_list;
 mod checking;
 mod counts;
 mod gathering;
+mod lists;
 
 pub use check::{CheckError, FaultCheck, FileCheck, check_all_faults, check_lanes};
-pub use checked::{Checked, FaultyInstance};
+pub use checked::{Checked, CheckedInstance};
+pub use checked_list::CheckedList;
 pub use counts::Counts;
+pub use lists::PieceList;

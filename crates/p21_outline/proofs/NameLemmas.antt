@@ -1,9 +1,9 @@
 -- The places of names, and the instances that have them.
-use Rattle.std.proofs.Common.{◌≡◌, ◌≢◌, inl, inr, ℕ, zero, suc, ◌<◌, Option, Some, None, true, false, cond, List, [], ◌∷◌, ◌++◌, length, get_or, refl, sym, ap, subst, ◌∙◌, arith}
+use Rattle.std.proofs.Common.{◌≡◌, ◌≢◌, inl, inr, ℕ, zero, suc, ◌+◌, ◌<◌, Option, Some, None, true, false, cond, List, [], ◌∷◌, ◌++◌, map, take, length, get_or, refl, sym, ap, subst, ◌∙◌, append_assoc, arith}
 use Rattle.std.specs.Prelude.{Contains, IsSome, Ok, nat_eq}
 use Rattle.std.proofs.lemmas.Bool.{cases_Bool, cases_lt, false≢true}
 use Rattle.std.proofs.lemmas.Bool.Decides.{nat_tests}
-use Rattle.std.proofs.lemmas.List.{get_or_append_left, get_or_default, length-append}
+use Rattle.std.proofs.lemmas.List.{get_or-map, get_or_append_left, get_or_default, length-append, length-take, take_more}
 use Rattle.std.proofs.lemmas.List.Elements.{All-append, All-cons, All-head, All-tail}
 use Rattle.std.proofs.Math.Seq.{get_or-append_seam}
 use Rattle.p21_tree.specs.declared.instances.RawInstance.{RawInstance}
@@ -14,6 +14,9 @@ use Rattle.p21_join.specs.InstancePlaces.{InsertsPlace, place_of}
 use Rattle.p21_join.specs.Joined.{IsNamedIn, IsNewIn}
 use Rattle.p21_join.specs.Model.{plain_instances}
 use Rattle.p21_join.specs.Names.{HasPlacesOf, HaveOwnNames, IsPosition}
+use Rattle.p21_outline.specs.declared.outline_list.PlacedName.{PlacedName}
+use Rattle.p21_outline.specs.Placed.{FindsRepeated, IsPlaced}
+use Rattle.p21_outline.specs.PlacedName.{placed_name}
 
 -- ---- an instance by its place
 
@@ -26,7 +29,7 @@ named_there is name None h some = absurd (false≢true some)
 named_there is name (Some k) h some = let at = stands_there is k h.0 in (at.0, (k, h.0, at.1), ap (λ (x : RawInstance). x.name) (sym at.1) ∙ h.1 at.0)
 
 -- where the name of an instance has a place, another has its name
-pub is_named : (t : InstancePlaces) (is : List RawInstance) (i : RawInstance) → HasPlacesOf t is → IsSome (place_of t i.name) → IsNamedIn is i
+is_named : (t : InstancePlaces) (is : List RawInstance) (i : RawInstance) → HasPlacesOf t is → IsSome (place_of t i.name) → IsNamedIn is i
 is_named t is i placed some = named_there is i.name (place_of t i.name) (placed i.name) some
 
 -- ---- the first instance that has a name
@@ -57,7 +60,7 @@ some_named is name k i own h there = first_named is name k i own h.0 there (ap (
 -- ---- one more instance
 
 -- an instance whose name has no place is new
-pub is_new : (t : InstancePlaces) (is : List RawInstance) (i : RawInstance) → HasPlacesOf t is → place_of t i.name ≡ None → IsNewIn is i
+is_new : (t : InstancePlaces) (is : List RawInstance) (i : RawInstance) → HasPlacesOf t is → place_of t i.name ≡ None → IsNewIn is i
 is_new t is i placed none = subst (IsPosition is i.name) none (placed i.name)
 
 -- a position stays where one more comes behind
@@ -75,7 +78,7 @@ position_last is i =
     let long = length-append is (i ∷ []) in
     (omega arith, λ d. ap (λ (x : RawInstance). x.name) (get_or-append_seam is i [] d))
 
-pub placed_more : (t u : InstancePlaces) (is : List RawInstance) (i : RawInstance) (place : ℕ) → HasPlacesOf t is → place ≡ length is → InsertsPlace t i.name place (Ok true) u → HasPlacesOf u (is ++ i ∷ [])
+placed_more : (t u : InstancePlaces) (is : List RawInstance) (i : RawInstance) (place : ℕ) → HasPlacesOf t is → place ≡ length is → InsertsPlace t i.name place (Ok true) u → HasPlacesOf u (is ++ i ∷ [])
 placed_more t u is i place placed last h name = elim (cases_Bool (nat_eq i.name name)) [
   | inl equal ↦
       let one : i.name ≡ name = grind (arith, nat_tests, equal) in
@@ -85,7 +88,7 @@ placed_more t u is i place placed last h name = elim (cases_Bool (nat_eq i.name 
       subst (IsPosition (is ++ i ∷ []) name) (sym (h.2 name (λ e. other (sym e)))) (position_left is i name (place_of t name) other (placed name))
 ]
 
-pub own_names_more : (is : List RawInstance) (i : RawInstance) → HaveOwnNames is → IsNewIn is i → HaveOwnNames (is ++ i ∷ [])
+own_names_more : (is : List RawInstance) (i : RawInstance) → HaveOwnNames is → IsNewIn is i → HaveOwnNames (is ++ i ∷ [])
 own_names_more is i own new j k d less within =
     let long = length-append is (i ∷ []) in
     elim (cases_lt k (length is)) [
@@ -99,3 +102,31 @@ own_names_more is i own new j k d less within =
           let second : get_or (is ++ i ∷ []) k d ≡ i = ap (λ n. get_or (is ++ i ∷ []) n d) (sym last) ∙ get_or-append_seam is i [] d in
           λ e. new j d (omega arith) (ap (λ (x : RawInstance). x.name) (sym first) ∙ (e ∙ ap (λ (x : RawInstance). x.name) second))
     ]
+
+-- ---- those of a list, one after the other
+
+-- the instance at a place, of which the name stands there
+pub named_at : (ns : List PlacedName) (js : List RawInstance) (k : ℕ) (d : PlacedName) → ns ≡ map placed_name js → k < length js → (i : RawInstance) × (get_or js k i ≡ i) × ((get_or ns k d).name ≡ i.name)
+named_at ns js k d same less =
+    let at = stands_there js k less in
+    let there : get_or ns k d ≡ placed_name at.0 = ap (λ l. get_or l k d) same ∙ (get_or-map placed_name js k at.0 d less ∙ ap placed_name at.1) in
+    (at.0, at.1, ap (λ (n : PlacedName). n.name) there)
+
+-- one more of the list is placed
+pub placed_next : (t u : InstancePlaces) (is js : List RawInstance) (k place : ℕ) (i : RawInstance) → IsPlaced t (is ++ take k js) → place ≡ length is + k → k < length js → get_or js k i ≡ i → InsertsPlace t i.name place (Ok true) u
+    → IsPlaced u (is ++ take (k + 1) js)
+placed_next t u is js k place i before at less there h =
+    let seen = is ++ take k js in
+    let last : place ≡ length seen = omega (arith, length-append is (take k js), length-take k js) in
+    let all : seen ++ i ∷ [] ≡ is ++ take (k + 1) js = append_assoc is (take k js) (i ∷ []) ∙ ap (λ l. is ++ l) (sym (take_more js k i less ∙ ap (λ x. take k js ++ x ∷ []) there)) in
+    subst (IsPlaced u) all (placed_more t u seen i place before.0 last h, own_names_more seen i before.1 (is_new t seen i before.0 h.0))
+
+-- or the name of one before it is found
+pub found_repeated : (t u : InstancePlaces) (is js : List RawInstance) (k place : ℕ) (i : RawInstance) → IsPlaced t (is ++ take k js) → k < length js → get_or js k i ≡ i → InsertsPlace t i.name place (Ok false) u
+    → FindsRepeated u is js (Some k)
+found_repeated t u is js k place i before less there h =
+    let seen = is ++ take k js in (
+      less,
+      (λ name. subst (IsPosition seen name) (sym (h.1 name)) (before.0 name), before.1),
+      λ d. subst (IsNamedIn seen) (sym (get_or_default js k d i less ∙ there)) (is_named t seen i before.0 h.0),
+    )

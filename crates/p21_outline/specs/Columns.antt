@@ -1,6 +1,5 @@
 -- The instances of which something is kept in columns.
-use Rattle.std.specs.Prelude.{◌≡◌, ℕ, zero, suc, ◌+◌, List, [], ◌∷◌, ◌++◌, None, Result, Ok, Err, All, length, map}
-use Rattle.std.specs.declared.alloc.AllocError.{AllocError}
+use Rattle.std.specs.Prelude.{◌≡◌, ℕ, zero, suc, ◌+◌, List, [], ◌∷◌, ◌++◌, None, All, length, map}
 use Rattle.p21_express.specs.Schema.{Schema}
 use Rattle.p21_schema.specs.declared.ids.EntityId.{EntityId}
 use Rattle.p21_tree.specs.declared.instances.RawInstance.{RawInstance}
@@ -11,8 +10,6 @@ use Rattle.p21_join.specs.Model.{plain_instances}
 use Rattle.p21_outline.specs.declared.columns.Columns.{Columns}
 use Rattle.p21_outline.specs.declared.columns.Held.TheVariants as held
 use Rattle.p21_outline.specs.declared.columns.Row.{Row}
-use Rattle.p21_outline.specs.declared.instance_outline.InstanceOutline.{InstanceOutline}
-use Rattle.p21_outline.specs.InstanceOutline.{IsOutline, outlined}
 use Rattle.p21_outline.specs.Rows.{HaveReferences, IsRow, row_instance}
 
 -- the instances, in order
@@ -26,13 +23,6 @@ pub record AreColumns (s : Schema) (c : Columns) : Type 0 where
   pub references : HaveReferences s c.references.items 0 c.rows.items
   pub complex : length c.wholes.items ≡ complex_count (plain_instances (instances_in c))
   pub written : c.written ≡ capped (reference_count (plain_instances (instances_in c)))
-
--- the columns hold what they held
-pub record SameColumns (old new : Columns) : Type 0 where
-  pub rows : new.rows.items ≡ old.rows.items
-  pub references : new.references.items ≡ old.references.items
-  pub wholes : new.wholes.items ≡ old.wholes.items
-  pub written : new.written ≡ old.written
 
 -- A row comes behind the others, with these references, behind those of the others, and with these that are whole. So many more names
 -- are written.
@@ -51,14 +41,15 @@ AppendsSimple old written entity references gone new = (row : Row) × (row.held 
 abbrev pub AppendsWhole : Columns → ℕ → RawInstance → Columns → Type 0
 AppendsWhole old written whole new = (row : Row) × (row.held ≡ held.Whole (length old.wholes.items)) × AppendsRow old row [] (whole ∷ []) written new
 
--- the same instances are kept
-abbrev pub KeepsColumns : Columns → Columns → Type 0
-KeepsColumns old new = (instances_in new ≡ instances_in old) × ((s : Schema) → AreColumns s old → AreColumns s new)
+-- an instance comes behind the others, and what is kept of it is so by the schema
+pub record Adds (s : Schema) (old : Columns) (i : RawInstance) (new : Columns) : Type 0 where
+  pub instances : instances_in new ≡ instances_in old ++ i ∷ []
+  pub fits : AreColumns s old → AreColumns s new
 
--- an instance comes behind the others, or the instances are as they were
-abbrev pub Appends : Columns → InstanceOutline → Result (Unit {0}) AllocError → Columns → Type 0
-Appends old one (Ok u) new = (instances_in new ≡ instances_in old ++ outlined one ∷ []) × ((s : Schema) → AreColumns s old → IsOutline s one → AreColumns s new)
-Appends old one (Err e) new = KeepsColumns old new
+-- what is kept of the instances of `more` comes behind the others
+pub record Joins (old more new : Columns) : Type 0 where
+  pub instances : instances_in new ≡ instances_in old ++ instances_in more
+  pub fits : (s : Schema) → AreColumns s old → AreColumns s more → AreColumns s new
 
 -- where the references of the row at a place begin, where those of the first row begin at this place
 abbrev pub start_at : ℕ → List Row → ℕ → ℕ

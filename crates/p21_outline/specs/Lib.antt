@@ -1,6 +1,7 @@
-pub mod Kept
-pub mod InstanceOutline
 pub mod Rows
+pub mod PlacedName
+pub mod Placed
 pub mod Columns
+pub mod OutlineList
 pub mod Outline
 pub mod Faultiness

@@ -1,13 +1,17 @@
--- The outline of some instances, and what adding one more does.
-use Rattle.std.specs.Prelude.{◌≡◌, List, [], ◌∷◌, ◌++◌, Bool, true, false, Result, Ok, Err}
-use Rattle.std.specs.declared.alloc.AllocError.{AllocError}
+-- The outline of some instances, and what adding those of a list does.
+use Rattle.std.specs.Prelude.{◌≡◌, ◌<◌, ◌↔◌, ℕ, List, ◌++◌, Contains, get_or, length, map, take}
 use Rattle.p21_express.specs.Schema.{Schema}
 use Rattle.p21_tree.specs.declared.instances.RawInstance.{RawInstance}
-use Rattle.p21_join.specs.Joined.{IsNamedIn, IsNewIn}
-use Rattle.p21_outline.specs.declared.instance_outline.InstanceOutline.{InstanceOutline}
+use Rattle.p21_join.specs.declared.instance_names.InstanceNames.{InstanceNames}
+use Rattle.p21_join.specs.InstanceNames.{IsAmong}
+use Rattle.p21_join.specs.Joined.{IsNamedIn}
+use Rattle.p21_join.specs.Names.{HaveOwnNames}
+use Rattle.p21_outline.specs.declared.outline.Extended.{Extended}
+use Rattle.p21_outline.specs.declared.outline.Extended.TheVariants.{Whole, Repeated}
 use Rattle.p21_outline.specs.declared.outline.Outline.{Outline}
-use Rattle.p21_outline.specs.InstanceOutline.{IsOutline, outlined}
+use Rattle.p21_outline.specs.declared.outline_list.OutlineList.{OutlineList}
 use Rattle.p21_outline.specs.Columns.{AreColumns, instances_in}
+use Rattle.p21_outline.specs.OutlineList.{AreListed, listed_instances}
 
 -- the instances that are outlined, in order
 abbrev pub outlined_instances : Outline → List RawInstance
@@ -17,13 +21,15 @@ outlined_instances o = instances_in o.columns
 abbrev pub AreOutlined : Schema → Outline → Type 0
 AreOutlined s o = AreColumns s o.columns
 
--- the same instances are outlined
-abbrev pub KeepsOutlines : Outline → Outline → Type 0
-KeepsOutlines old new = (outlined_instances new ≡ outlined_instances old) × ((s : Schema) → AreOutlined s old → AreOutlined s new)
+-- the instance at this place of the second list is the first that has the name of one before it, and these are the names of all before it
+pub record IsFirstRepeated (is js : List RawInstance) (names : InstanceNames) (place : ℕ) : Type 0 where
+  pub within : place < length js
+  pub own_names : HaveOwnNames (is ++ take place js)
+  pub names_are : (name : ℕ) → IsAmong names name ↔ Contains (map (λ i. i.name) (is ++ take place js)) name
+  pub repeated : (d : RawInstance) → IsNamedIn (is ++ take place js) (get_or js place d)
 
--- An instance with a new name goes last. One whose name is there is let go; then, or where a new one finds no memory, the instances are
--- as they were.
-abbrev pub Adds : Outline → InstanceOutline → Result Bool AllocError → Outline → Type 0
-Adds old one (Ok true) new = IsNewIn (outlined_instances old) (outlined one) × (outlined_instances new ≡ outlined_instances old ++ outlined one ∷ []) × ((s : Schema) → AreOutlined s old → IsOutline s one → AreOutlined s new)
-Adds old one (Ok false) new = IsNamedIn (outlined_instances old) (outlined one) × KeepsOutlines old new
-Adds old one (Err e) new = IsNewIn (outlined_instances old) (outlined one) × KeepsOutlines old new
+-- The instances of the list come behind the others, as all have names of their own; or the list is handed back, with the place in it of
+-- the first instance that has not, and the names of all before that.
+abbrev pub Extends : Outline → OutlineList → Extended → Type 0
+Extends old list (Whole new) = (outlined_instances new ≡ outlined_instances old ++ listed_instances list) × ((s : Schema) → AreOutlined s old → AreListed s list → AreOutlined s new)
+Extends old list (Repeated names back place) = (back ≡ list) × IsFirstRepeated (outlined_instances old) (listed_instances list) names place

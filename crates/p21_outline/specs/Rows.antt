@@ -1,5 +1,5 @@
 -- What is kept of instances in rows, and of which.
-use Rattle.std.specs.Prelude.{◌≡◌, ◌<◌, ◌≤◌, ℕ, true, List, [], ◌∷◌, All, get_or, length, slice_range}
+use Rattle.std.specs.Prelude.{◌≡◌, ◌<◌, ◌≤◌, ℕ, ◌+◌, true, List, [], ◌∷◌, All, get_or, length, slice_range}
 use Rattle.std.proofs.Props.{props}
 use Rattle.std.specs.Coded.{Unit-prop, le_prop}
 use Rattle.p21_express.specs.Schema.{Schema}
@@ -65,3 +65,12 @@ RefersAt s references row = Refers s references row.gone.value row.held
 abbrev pub HaveReferences : Schema → List Reference → ℕ → List Row → Type 0
 HaveReferences s references start [] = start ≡ length references
 HaveReferences s references start (row ∷ rows) = (start ≤ row.end) × (row.end ≤ length references) × RefersAt s (slice_range references start row.end) row × HaveReferences s references row.end rows
+
+-- what is held behind others, where what is whole begins at this place
+abbrev pub held_behind : ℕ → Held → Held
+held_behind first (held.Simple entity) = held.Simple entity
+held_behind first (held.Whole place) = held.Whole (place + first)
+
+-- a row behind others, where its references begin at one place, and what is whole at another
+abbrev pub row_behind : ℕ → ℕ → Row → Row
+row_behind start first row = record { held = held_behind first row.held; end = row.end + start; gone = row.gone }

@@ -1,12 +1,10 @@
 //! What is kept of many instances, in columns.
 
-ghost use Rattle.std.specs.Prelude.{◌≡◌, All, IfOk, length};
+ghost use Rattle.std.specs.Prelude.{◌≡◌, ◌++◌, All, IfOk, OnErr, OnOk, length, map};
 ghost use Rattle.p21_schema.specs.Ancestry.{entity_id};
 ghost use Rattle.p21_schema.specs.Place.{IsEntityOf};
-ghost use Rattle.p21_outline.specs.Rows.{IsWithin, AreWithin-prop};
+ghost use Rattle.p21_outline.specs.Rows.{IsWithin, AreWithin-prop, row_behind};
 
-use crate::instance_outline::InstanceOutline;
-use crate::kept::Kept;
 use p21_check::Reference;
 use p21_schema::{EntityId, Schema};
 use p21_tree::RawInstance;
@@ -48,11 +46,11 @@ pub(crate) struct Columns<'a> {
 }
 
 impl<'a> Columns<'a> {
-    ghost use Rattle.std.specs.Prelude.{◌<◌, ◌≤◌, [], OnErr, OnOk, get_or, slice_range};
+    ghost use Rattle.std.specs.Prelude.{◌<◌, ◌≤◌, [], get_or, slice_range};
     ghost use Rattle.p21_outline.specs.Rows.{HaveReferences, RefersAt};
     ghost use Rattle.p21_outline.specs.declared.columns.Row.{Row};
     ghost use Rattle.p21_express.specs.Schema.{Schema};
-    ghost use Rattle.p21_outline.specs.Columns.{Appends, AppendsSimple, AppendsWhole, AreColumns, SameColumns, instances_in, start_at};
+    ghost use Rattle.p21_outline.specs.Columns.{AppendsSimple, AppendsWhole, AreColumns, Joins, instances_in, start_at};
 
     /// Nothing is kept yet. This takes no memory.
     pub(crate) fn new(alloc: Global) -> Columns<'a>
@@ -67,29 +65,23 @@ impl<'a> Columns<'a> {
         }
     }
 
-    /// Puts what is kept of an instance behind the others. It is refused for want of memory alone, as is an instance whose entity, or the
-    /// end of whose references, has a place from 2^32 on, and then the instances are as they were.
-    #[inline(always)]
-    pub(crate) fn push(&mut self, one: InstanceOutline<'a>) -> Result<(), AllocError>
-        ensures { Appends self.old one.entry result self.new }
+    /// The same, with room for so many instances. It is refused for want of memory alone.
+    pub(crate) fn with_capacity(alloc: Global, count: usize) -> Result<Columns<'a>, AllocError>
+        ensures instances { IfOk result (λ columns. instances_in columns ≡ []) }
+        ensures fits { IfOk result (λ columns. (s : Schema) → AreColumns s columns) }
     {
-        let InstanceOutline {
-            name: _,
-            at: _,
-            written,
-            kept,
-        } = one;
-        match kept {
-            Kept::Simple(entity, references, gone) => {
-                self.push_simple(written, entity, references.as_slice(), gone)
-            }
-            Kept::Whole(whole) => self.push_whole(written, whole),
-        }
+        Ok(Columns {
+            rows: Vec::with_capacity(alloc, count)?,
+            references: Vec::with_capacity(alloc, count)?,
+            wholes: Vec::new(alloc),
+            written: 0,
+        })
     }
 
-    /// Puts a simple instance behind the others.
+    /// Puts a simple instance behind the others. It is refused for want of memory alone, as is one whose entity, or the end of whose
+    /// references, has a place from 2^32 on; then the instances are as they were.
     #[inline(always)]
-    fn push_simple(
+    pub(crate) fn push_simple(
         &mut self,
         written: u64,
         entity: EntityId,
@@ -97,7 +89,7 @@ impl<'a> Columns<'a> {
         gone: Snapshot<RawInstance<'a>>,
     ) -> Result<(), AllocError>
         ensures ok { OnOk result (AppendsSimple self.old written entity references.now gone.entry.value self.new) }
-        ensures err { OnErr result (SameColumns self.old self.new) }
+        ensures err { OnErr result (instances_in self.new ≡ instances_in self.old) }
     {
         let entity = short(entity.place())?;
         let end = short(self.references.len().saturating_add(references.len()))?;
@@ -112,10 +104,14 @@ impl<'a> Columns<'a> {
         Ok(())
     }
 
-    /// Puts a complex instance behind the others.
-    fn push_whole(&mut self, written: u64, whole: RawInstance<'a>) -> Result<(), AllocError>
+    /// Puts a complex instance behind the others. It is refused as a simple one is, and behind 2^32 others.
+    pub(crate) fn push_whole(
+        &mut self,
+        written: u64,
+        whole: RawInstance<'a>,
+    ) -> Result<(), AllocError>
         ensures ok { OnOk result (AppendsWhole self.old written whole.entry self.new) }
-        ensures err { OnErr result (SameColumns self.old self.new) }
+        ensures err { OnErr result (instances_in self.new ≡ instances_in self.old) }
     {
         let place = short(self.wholes.len())?;
         let end = short(self.references.len())?;
@@ -129,6 +125,36 @@ impl<'a> Columns<'a> {
             gone,
         });
         Ok(())
+    }
+
+    /// The same with what is kept of other instances behind. It is refused for want of memory alone, as are instances with
+    /// which 2^32 references or whole ones are kept.
+    pub(crate) fn with(self, more: Columns<'a>) -> Result<Columns<'a>, AllocError>
+        ensures { IfOk result (Joins self.entry more.entry) }
+    {
+        let Columns {
+            mut rows,
+            mut references,
+            mut wholes,
+            written,
+        } = self;
+        let Columns {
+            rows: more_rows,
+            references: mut more_references,
+            wholes: mut more_wholes,
+            written: more_written,
+        } = more;
+        let start = short(references.len())?;
+        let first = short(wholes.len())?;
+        references.append(&mut more_references)?;
+        wholes.append(&mut more_wholes)?;
+        push_rows(&mut rows, more_rows, start, first)?;
+        Ok(Columns {
+            rows,
+            references,
+            wholes,
+            written: written.saturating_add(more_written),
+        })
     }
 
     /// The references of the instance at a place, where it is simple.
@@ -161,6 +187,40 @@ impl<'a> Columns<'a> {
             Some(before) => self.rows[before].end as usize,
             None => 0,
         }
+    }
+}
+
+/// Puts rows behind others, where their references begin at one place, and what is whole of them at another.
+fn push_rows<'a>(
+    rows: &mut Vec<Row<'a>>,
+    more: Vec<Row<'a>>,
+    start: u32,
+    first: u32,
+) -> Result<(), AllocError>
+    ensures { OnOk result (rows.new.items ≡ rows.old.items ++ map (row_behind start first) more.entry.items) }
+{
+    rows.reserve(more.len())?;
+    let mut left = more.into_iter();
+    while let Some(row) = left.next() {
+        rows.push(row.behind(start, first)?)?;
+    }
+    left.destroy_empty();
+    Ok(())
+}
+
+impl<'a> Row<'a> {
+    /// The same row where its references begin behind this place, and what is whole behind another.
+    #[inline(always)]
+    fn behind(self, start: u32, first: u32) -> Result<Row<'a>, AllocError>
+        ensures { IfOk result (λ row. row ≡ row_behind start first self.entry) }
+    {
+        let Row { held, end, gone } = self;
+        let held = match held {
+            Held::Simple(entity) => Held::Simple(entity),
+            Held::Whole(place) => Held::Whole(place.checked_add(first).ok_or(AllocError)?),
+        };
+        let end = end.checked_add(start).ok_or(AllocError)?;
+        Ok(Row { held, end, gone })
     }
 }
 

@@ -3,11 +3,10 @@
 
 mod columns;
 mod faults;
-mod instance_outline;
-mod kept;
 mod outline;
+mod outline_list;
 mod tally;
 mod view;
 
-pub use instance_outline::InstanceOutline;
-pub use outline::Outline;
+pub use outline::{Extended, Outline};
+pub use outline_list::{OutlineList, PlacedName};

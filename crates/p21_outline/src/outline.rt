@@ -1,13 +1,16 @@
 //! The outline of the instances of a file.
 
-ghost use Rattle.std.specs.Prelude.{◌≡◌, ◌↔◌, ℕ, [], Contains, IsTrue, length, map};
+ghost use Rattle.std.specs.Prelude.{◌≡◌, ◌↔◌, ℕ, List, [], Contains, IfOk, IsTrue, length, map};
 ghost use Rattle.p21_express.specs.Schema.{Schema};
 ghost use Rattle.p21_join.specs.Names.{HasPlacesOf, HasPlacesOf-prop, HaveOwnNames};
 ghost use Rattle.p21_join.specs.InstanceNames.{IsAmong};
 ghost use Rattle.p21_outline.specs.Columns.{instances_in};
+ghost use Rattle.p21_outline.specs.Placed.{FindsRepeated, IsPlaced};
+ghost use Rattle.p21_outline.specs.PlacedName.{placed_name};
+ghost use Rattle.p21_tree.specs.declared.instances.RawInstance.{RawInstance};
 
 use crate::columns::Columns;
-use crate::instance_outline::InstanceOutline;
+use crate::outline_list::{OutlineList, PlacedName};
 use p21_hash::HashKey;
 use p21_join::{InstanceNames, InstancePlaces};
 use std::alloc::{AllocError, Global};
@@ -24,7 +27,7 @@ pub struct Outline<'a> {
 }
 
 impl<'a> Outline<'a> {
-    ghost use Rattle.p21_outline.specs.Outline.{Adds, AreOutlined, outlined_instances};
+    ghost use Rattle.p21_outline.specs.Outline.{AreOutlined, Extends, outlined_instances};
 
     /// Nothing is outlined yet. This takes no memory. Names are hashed by this key.
     pub fn new(alloc: Global, key: HashKey) -> Outline<'a>
@@ -37,24 +40,23 @@ impl<'a> Outline<'a> {
         }
     }
 
-    /// Puts the outline of an instance behind the others, where its name is new; the answer is whether it is. It is refused for want
-    /// of memory alone, as is the instance behind 2^32 - 1 others, more than a file within the bound holds, one with which more than
-    /// 2^32 - 1 references are kept, and one of an entity behind 2^32 others of the schema. Where it is not put there, the instances are
-    /// as they were.
-    #[inline(always)]
-    pub fn add(&mut self, one: InstanceOutline<'a>) -> Result<bool, AllocError>
-        ensures { Adds self.old one.entry result self.new }
+    /// Puts the outlines of a list behind the others, where all have names of their own. It is refused for want of memory alone, as is the
+    /// instance behind 2^32 - 1 others, more than a file within the bound holds, and one with which more than 2^32 - 1 references are kept.
+    pub fn extend(self, list: OutlineList<'a>) -> Result<Extended<'a>, AllocError>
+        ensures { IfOk result (Extends self.entry list.entry) }
     {
-        let name = one.name;
-        let place = self.len();
-        if !self.places.insert(name, place)? {
-            return Ok(false);
-        }
-        match self.columns.push(one) {
-            Ok(()) => Ok(true),
-            Err(AllocError) => {
-                self.places.remove(name);
-                Err(AllocError)
+        let Outline {
+            mut places,
+            columns,
+        } = self;
+        match place_names(&mut places, list.names(), columns.rows.len())? {
+            None => {
+                let columns = columns.with(list.into_columns())?;
+                Ok(Extended::Whole(Outline { places, columns }))
+            }
+            Some(place) => {
+                let names = InstanceNames::of_places(places);
+                Ok(Extended::Repeated(names, list, place))
             }
         }
     }
@@ -79,4 +81,32 @@ impl<'a> Outline<'a> {
     {
         InstanceNames::of_places(self.places)
     }
+}
+
+/// What outlines are with those of a list.
+#[derive(Drop)]
+pub enum Extended<'a> {
+    /// Those of the list stand behind the others.
+    Whole(Outline<'a>),
+    /// The instance at this place of the list is the first that has the name of one before it. The names of all before it, whose outlines
+    /// are let go; and the list.
+    Repeated(InstanceNames, OutlineList<'a>, usize),
+}
+
+/// Keeps the places of names, which stand one behind the other from a place on, as far as they are new; the answer is which of them is
+/// the first that is not. It is refused for want of memory alone, as is a place from 2^32 - 1 on.
+fn place_names(
+    places: &mut InstancePlaces,
+    names: &[PlacedName],
+    from: usize,
+) -> Result<Option<usize>, AllocError>
+    ensures { IfOk result (λ found. (is js : List RawInstance) → from ≡ length is → names.now ≡ map placed_name js → IsPlaced places.old is → FindsRepeated places.new is js found) }
+{
+    for (index, named) in names.iter().enumerate() {
+        let place = from.checked_add(index).ok_or(AllocError)?;
+        if !places.insert(named.name, place)? {
+            return Ok(Some(index));
+        }
+    }
+    Ok(None)
 }

@@ -9,7 +9,7 @@ use std::time::{Clock, Duration, Instant};
 /// The least time between two lines, in milliseconds.
 const PAUSE: u128 = 100;
 
-/// A worker looks at the clock before each so many-th piece.
+/// A worker looks at the clock where so many pieces were begun since one did.
 const EVERY: u64 = 256;
 
 /// Of each so many bytes of a file the first few are looked at, to tell about how many pieces it has.
@@ -62,6 +62,8 @@ pub struct Progress<C, P> {
     /// How many bytes the file has, and about how many pieces.
     bytes: AtomicU64,
     pieces: AtomicU64,
+    /// From the piece of which number on a worker looks at the clock next.
+    next: AtomicU64,
     line: Mutex<Line<P>>,
 }
 
@@ -83,6 +85,7 @@ impl<C: Clock, P: Write> Progress<C, P> {
             is_shown,
             bytes: AtomicU64::new(0),
             pieces: AtomicU64::new(0),
+            next: AtomicU64::new(0),
             line: Mutex::new(Line {
                 out,
                 program,
@@ -146,7 +149,9 @@ impl<C: Clock, P: Write> Progress<C, P> {
 
 impl<C: Clock, P: Write> Gate for Progress<C, P> {
     fn enter(&self, _lane: u32, number: u64) {
-        if self.is_shown && number % EVERY == 0 {
+        if self.is_shown && number >= self.next.load(Ordering::SeqCst) {
+            self.next
+                .store(number.saturating_add(EVERY), Ordering::SeqCst);
             self.tell_piece(number);
         }
     }

@@ -28,7 +28,7 @@ pub(crate) struct Report {
     pub(crate) text: Vec<u8>,
 }
 
-/// By how many lanes a file is read, how many pieces may be out on one, what a worker passes before each, whether all faults are told
+/// By how many lanes a file is read, how many pieces may be out on one, what a worker passes before each list of them, whether all faults are told
 /// or the first alone, and by what key names are hashed.
 #[derive(Drop)]
 pub(crate) struct Lanes<'g, G> {

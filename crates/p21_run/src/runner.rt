@@ -36,9 +36,9 @@ use std::thread::Threads;
 /// writer, is answered as `Device`; a call that was interrupted, or a write that took no byte, counts and is made again. The
 /// file is not read where the schema is refused.
 ///
-/// The file is read by so many lanes, whose workers pass the gate before each piece; on no lane are more pieces out at a time
-/// than the capacity. What is written hangs on neither. The schema is read under the rules: with `distinct`, no SET and no LIST
-/// OF UNIQUE may name one instance twice. Names and keywords are hashed by a key that is always the same: for inputs from strangers,
+/// The file is read by so many lanes, whose workers pass the gate before each list of pieces, with the number of its first one; for no
+/// worker more pieces wait at a time than the capacity. What is written hangs on neither. The schema is read under the rules: with
+/// `distinct`, no SET and no LIST OF UNIQUE may name one instance twice. Names and keywords are hashed by a key that is always the same: for inputs from strangers,
 /// who may know it and choose names that take long, `run_heard` takes another.
 pub fn run<R: Threads + Wait + Sync, G: Gate + Sync, S: Source, F: Source, K: Sink>(
     rt: &R,

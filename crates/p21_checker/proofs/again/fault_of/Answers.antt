@@ -1,4 +1,4 @@
-use Rattle.std.proofs.Common.{None, Some, sym, ap, subst}
+use Rattle.std.proofs.Common.{None, Some, ap, subst}
 use Rattle.p21_tree.specs.Texts.{HasPieceFault, OnGrammar}
 use Rattle.p21_tree.specs.Views.{plain_instance}
 use Rattle.p21_cut.specs.Cutter.{plain_piece}

@@ -1,16 +1,13 @@
-use Rattle.std.proofs.Common.{◌≡◌, ◌+◌, ◌++◌, [], ◌∷◌, ◌<◌, ◌≤◌, false, true, Bool, List, None, length, drop, get_or, refl, rules, sym, ap, subst, ◌∙◌, arith, append-nil}
-use Rattle.std.specs.Prelude.{All}
+use Rattle.std.proofs.Common.{◌≡◌, ◌+◌, ◌++◌, [], ◌<◌, ◌≤◌, false, true, List, length, drop, get_or, refl, rules, sym, ap, subst, ◌∙◌, arith, append-nil}
 use Rattle.std.proofs.lemmas.List.{drop_all}
-use Rattle.p21_tree.specs.Sentence.{Instance}
 use Rattle.p21_tree.specs.declared.faults.Fault.{Fault}
-use Rattle.p21_cut.specs.Cutter.{GivesNext, file_of, number_of, place_of, plain_piece}
-use Rattle.p21_check.specs.LocalFault.{IsLocalFault}
+use Rattle.p21_cut.specs.Cutter.{file_of, number_of, place_of, plain_piece}
 use Rattle.p21_join.specs.Model.{plain_instances}
 use Rattle.p21_outline.specs.Faultiness.{IsFaultiness}
 use Rattle.p21_outline.specs.Outline.{outlined_instances}
 use Rattle.p21_refs.specs.AllReferenceFaults.{AreReferenceFaults}
 use Rattle.p21_refs.specs.AllReferenceFaults as reference
-use Rattle.p21_checker.specs.Again.{AreTexts, IsFaultOf, IsTextOf}
+use Rattle.p21_checker.specs.Again.{AreTexts}
 use Rattle.p21_checker.proofs.AgainLemmas.{at_place, fault_more, next_text, none_told, no_tail, sound_at, zip_length}
 use Rattle.p21_checker.proofs.again.reference_faults.Goals as goal
 use Rattle.p21_checker.proofs.again.reference_faults.Goals.{then-is_faulty+in_ok-fault_of+in_ok-push, else-is_faulty}

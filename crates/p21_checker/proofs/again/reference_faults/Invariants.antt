@@ -1,4 +1,4 @@
-use Rattle.std.proofs.Common.{◌≡◌, List, ◌++◌, drop}
+use Rattle.std.proofs.Common.{List, ◌++◌, drop}
 use Rattle.p21_tree.specs.declared.faults.Fault.{Fault}
 use Rattle.p21_cut.specs.Cutter.{file_of, number_of, place_of}
 use Rattle.p21_join.specs.Model.{plain_instances}

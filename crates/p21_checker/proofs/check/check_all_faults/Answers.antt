@@ -1,9 +1,10 @@
 use Rattle.p21_tree.specs.Views.{plain_preface}
-use Rattle.p21_reader.specs.Lanes as dealing
+use Rattle.p21_checker.specs.Lists as dealing
+use Rattle.p21_checker.specs.Lists.{pieces_in}
 use Rattle.p21_reader.specs.PiecesOf.{behind_preface}
 use Rattle.p21_checker.specs.Answers as answers
 use Rattle.p21_checker.specs.Checked.{values_of}
-use Rattle.p21_checker.proofs.AgainLemmas.{judged_all}
+use Rattle.p21_checker.proofs.ListLemmas.{judged_all, pieces_dealt}
 use Rattle.p21_checker.proofs.CheckLemmas.{stopped_answer, stopped_pieces, stopped_returned}
 use Rattle.p21_checker.proofs.check.check_all_faults.Goals as goal
 
@@ -17,28 +18,27 @@ pub returns-in-Err-clause-answer : goal.returns-in-Err-clause-answer
 returns-in-Err-clause-answer g c = stopped_answer c.args.schema.now c.args.file.now _ c.stopped.result c.in-Err.ensures.fault c.stopped.ensures
 
 pub conclude-requires-clause-ends : goal.conclude-requires-clause-ends
-conclude-requires-clause-ends g c κs within = c.new-pieces.ensures.within c.in_ok-run.ensures.0 c.in_ok-run.run'.tail c.in_ok-run.ensures.2
+conclude-requires-clause-ends g c κs within = c.new-pieces.ensures.within (pieces_in c.in_ok-run.ensures.0) c.in_ok-run.run'.tail c.in_ok-run.ensures.2
 
 pub conclude-requires-clause-gathered : goal.conclude-requires-clause-gathered
 conclude-requires-clause-gathered g c κs within =
     let all = c.in_ok-run.ensures in
-    (all.0, all.1, all.4, all.3.values, c.new-pieces.ensures.of_file all.0 c.in_ok-run.run'.tail all.2)
+    (all.0, all.1, all.4, all.3.values, c.new-pieces.ensures.of_file (pieces_in all.0) c.in_ok-run.run'.tail all.2)
 
 pub returns-clause-pieces : goal.returns-clause-pieces
 returns-clause-pieces g c =
     let all = c.in_ok-run.ensures in
-    let run = all.3 in
-    let cut = c.new-pieces.ensures.of_file all.0 c.in_ok-run.run'.tail all.2 in
+    let cut = c.new-pieces.ensures.of_file (pieces_in all.0) c.in_ok-run.run'.tail all.2 in
     record {
-      pieces = all.0;
+      lists = all.0;
       of_file = behind_preface c.in-Ok.ensures.begins c.in-Ok.ensures.header cut;
-      as_dealt = dealing.all c.in-Ok.ensures.begins c.in-Ok.ensures.header (record { dealing = run.dealing; one_each = run.receipts_each; shares = run.shares; ended = run.ended });
+      as_dealt = dealing.all c.in-Ok.ensures.begins c.in-Ok.ensures.header (pieces_dealt c.args.schema.now c.args.lanes all.0 all.1 _ _ _ all.3);
     }
 
 pub returns-clause-returned : goal.returns-clause-returned
 returns-clause-returned g c =
     let all = c.in_ok-run.ensures in
-    let cut = c.new-pieces.ensures.of_file all.0 c.in_ok-run.run'.tail all.2 in
+    let cut = c.new-pieces.ensures.of_file (pieces_in all.0) c.in_ok-run.run'.tail all.2 in
     answers.results all.0 all.1 c.in-Ok.ensures.begins c.in-Ok.ensures.header cut all.3 (c.in_ok-answer.ensures all.0 all.1 all.4 all.3.values cut)
 
 pub returns-clause-answer : goal.returns-clause-answer
@@ -47,10 +47,10 @@ returns-clause-answer g c =
     let file = c.args.file.now in
     let all = c.in_ok-run.ensures in
     let tail = c.in_ok-run.run'.tail in
-    let cut = c.new-pieces.ensures.of_file all.0 tail all.2 in
+    let cut = c.new-pieces.ensures.of_file (pieces_in all.0) tail all.2 in
     let answer = c.in_ok-answer.ensures all.0 all.1 all.4 all.3.values cut in
     record {
       full = answer.full;
-      is_reading = c.values_give_all_faults.ensures s file (plain_preface c.in-Ok.preface) all.0 tail (values_of all.1) answer.full c.in-Ok.ensures.begins c.in-Ok.ensures.header cut (judged_all s all.0 all.1 all.3.values) answer.is_answer;
+      is_reading = c.values_give_all_faults.ensures s file (plain_preface c.in-Ok.preface) (pieces_in all.0) tail (values_of all.1) answer.full c.in-Ok.ensures.begins c.in-Ok.ensures.header cut (judged_all s all.0 all.1 all.3.values) answer.is_answer;
       told = answer.told;
     }

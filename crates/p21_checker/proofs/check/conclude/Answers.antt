@@ -5,12 +5,14 @@ use Rattle.p21_join.specs.Model.{plain_instances}
 use Rattle.p21_outline.specs.Outline.{outlined_instances}
 use Rattle.p21_refs.specs.AllReferenceFaults.{AreReferenceFaults}
 use Rattle.p21_reader.specs.AllByValues as by
-use Rattle.p21_checker.specs.Answers.{AnswersTo}
-use Rattle.p21_checker.proofs.AgainLemmas.{kept_all, texts_of}
+use Rattle.p21_checker.specs.Checked.{values_of}
+use Rattle.p21_checker.specs.Lists.{pieces_in}
+use Rattle.p21_checker.proofs.AgainLemmas.{texts_of}
+use Rattle.p21_checker.proofs.ListLemmas.{judged_all, kept_all}
 use Rattle.p21_checker.proofs.check.conclude.Goals as goal
 
 pub returns-in-Err : goal.returns-in-Err
-returns-in-Err g c = λ pieces outs h stated cut.
+returns-in-Err g c = λ lists outs h stated cut.
     let found = rw c.in-Err.is at (c.in_ok-outline.ensures outs h) in
     record { full = _; is_answer = by.values found.0 found.1; told = refl }
 
@@ -23,12 +25,13 @@ reference_faults-requires-clause-outlined g c κs within =
 
 pub reference_faults-requires-clause-texts : goal.reference_faults-requires-clause-texts
 reference_faults-requires-clause-texts g c κs within =
+    let s = c.args.schema.now in
     let given = c.requires.gathered in
     let found = rw c.in-Ok.is at (c.in_ok-outline.ensures given.1 given.2) in
-    texts_of c.args.schema.now c.args.file.now c.args.at c.args.tail given.0 given.1 (plain_instances (outlined_instances c.in-Ok.outline)) given.3 found.0 given.4
+    texts_of s c.args.file.now c.args.at c.args.tail (pieces_in given.0) (values_of given.1) (plain_instances (outlined_instances c.in-Ok.outline)) (judged_all s given.0 given.1 given.3) found.0 given.4
 
 pub returns-then-not-is_empty : goal.returns-then-not-is_empty
-returns-then-not-is_empty g c = λ pieces outs h stated cut.
+returns-then-not-is_empty g c = λ lists outs h stated cut.
     let found = rw c.in-Ok.is at (c.in_ok-outline.ensures outs h) in
     let some : c.in_ok-faults.faults.items ≢ [] = search rules in
     record { full = _; is_answer = by.references found.0 found.2 c.in_ok-faults.ensures some; told = refl }
@@ -41,7 +44,7 @@ tally-requires-after_bounds g c κs within =
     found.1 s (kept_all s given.0 given.1 given.3)
 
 pub returns : goal.returns
-returns g c = λ pieces outs h stated cut.
+returns g c = λ lists outs h stated cut.
     let is = plain_instances (outlined_instances c.in-Ok.outline) in
     let found = rw c.in-Ok.is at (c.in_ok-outline.ensures outs h) in
     let zero : length c.in_ok-faults.faults.items ≡ 0 = search rules in

@@ -1,8 +1,4 @@
-use Rattle.std.proofs.Common.{Err, Result, sym, subst}
-use Rattle.std.specs.declared.vec.Vec.{Vec}
-use Rattle.p21_tree.specs.declared.faults.Fault.{Fault}
-use Rattle.p21_checker.specs.Counts.{HasFaults, IsFirstOf, counts}
-use Rattle.p21_checker.specs.declared.counts.Counts.{Counts}
+use Rattle.p21_checker.specs.Counts.{counts}
 use Rattle.p21_checker.proofs.CheckLemmas.{first_is}
 use Rattle.p21_checker.proofs.check.first_of.Goals as goal
 

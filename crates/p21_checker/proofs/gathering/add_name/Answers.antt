@@ -1,4 +1,4 @@
-use Rattle.std.proofs.Common.{Ok, true, false, subst}
+use Rattle.std.proofs.Common.{Ok, subst}
 use Rattle.p21_join.specs.InstanceNames.{AddsName}
 use Rattle.p21_checker.proofs.NameLemmas.{named_fault, names_kept, names_new, repeated_fault}
 use Rattle.p21_checker.proofs.gathering.add_name.Goals as goal
@@ -14,12 +14,6 @@ returns-then-branch-clause-names c = λ is i e h.
     let old = c.args.names.now in
     let new = c.add.new.self in
     names_new old new is i c.args.name e h (subst (λ b. AddsName old c.args.name (Ok b) new) c.if-branch.true c.in_ok-add.ensures)
-
-pub returns-then-branch-clause-repeated : goal.returns-then-branch-clause-repeated
-returns-then-branch-clause-repeated c = λ among.
-    let old = c.args.names.now in
-    let new = c.add.new.self in
-    absurd ((subst (λ b. AddsName old c.args.name (Ok b) new) c.if-branch.true c.in_ok-add.ensures).0 among)
 
 pub returns-else-branch-clause-fault : goal.returns-else-branch-clause-fault
 returns-else-branch-clause-fault c = λ is i e h.

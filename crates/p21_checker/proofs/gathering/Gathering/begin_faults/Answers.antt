@@ -1,4 +1,4 @@
-use Rattle.std.proofs.Common.{◌≡◌, ◌↔◌, [], List, ℕ, length, map, rules, sym, subst}
+use Rattle.std.proofs.Common.{◌≡◌, ◌↔◌, ℕ, length, map, rules, sym, subst}
 use Rattle.std.specs.Prelude.{Contains}
 use Rattle.std.proofs.lemmas.List.{nil_from_length}
 use Rattle.p21_tree.specs.declared.instances.RawInstance.{RawInstance}
@@ -7,24 +7,16 @@ use Rattle.p21_join.specs.Model.{plain_instances}
 use Rattle.p21_outline.specs.Outline.{outlined_instances}
 use Rattle.p21_outline.specs.declared.outline.Outline.{Outline}
 use Rattle.p21_reader.specs.EveryFault.{HaveFaults}
-use Rattle.p21_checker.specs.Checked.{values_of}
 use Rattle.p21_checker.proofs.GatheringLemmas.{faults_from, sound_gathered}
 use Rattle.p21_checker.proofs.NameLemmas.{names_are}
 use Rattle.p21_checker.proofs.gathering.Gathering.begin_faults.Goals as goal
 
 pub returns-clause-gathered : goal.returns-clause-gathered
-returns-clause-gathered c = λ outs going h.
+returns-clause-gathered c = λ vs ls going h.
     let g = c.args.self.now in
     let zero : length g.faults.items ≡ 0 = search rules in
     let none = nil_from_length g.faults.items zero in
     let old = outlined_instances g.outline in
-    let have = sound_gathered (values_of outs) (plain_instances old) g.names g.faults.items g.ended going none h.faults in
+    let have = sound_gathered vs (plain_instances old) g.names g.faults.items g.ended going none h.faults in
     let same = subst (λ (o : Outline). (n : ℕ) → IsAmong c.into_names.result n ↔ Contains (map (λ (x : RawInstance). x.name) (outlined_instances o)) n) c.replace-outline.ensures.value c.into_names.ensures in
-    subst (HaveFaults (values_of outs) c.into_names.result) (sym none) (faults_from (values_of outs) (plain_instances old) c.into_names.result have (names_are c.into_names.result old same))
-
-pub returns-clause-named : goal.returns-clause-named
-returns-clause-named c = λ i none again.
-    let old = outlined_instances c.args.self.now.outline in
-    let same = subst (λ (o : Outline). (n : ℕ) → IsAmong c.into_names.result n ↔ Contains (map (λ (x : RawInstance). x.name) (outlined_instances o)) n) c.replace-outline.ensures.value c.into_names.ensures in
-    let named = names_are c.into_names.result old same in
-    subst (IsAmong c.into_names.result) again.2 (named.each again.0 again.1)
+    subst (HaveFaults vs c.into_names.result) (sym none) (faults_from vs (plain_instances old) c.into_names.result have (names_are c.into_names.result old same))

@@ -1,32 +1,40 @@
-use Rattle.std.proofs.Common.{◌≡◌, true, false, Bool, Ok, [], ◌∷◌, ◌++◌, List, None, inr, refl, sym, ap, subst, ◌∙◌}
-use Rattle.std.proofs.lemmas.List.{map-append}
-use Rattle.p21_tree.specs.Views.{plain_instance}
-use Rattle.p21_join.specs.Model.{plain_instances}
-use Rattle.p21_outline.specs.InstanceOutline.{outlined}
-use Rattle.p21_outline.specs.Outline.{Adds, outlined_instances}
-use Rattle.p21_reader.specs.InstanceFault as fault
-use Rattle.p21_reader.specs.Values.{Whole}
-use Rattle.p21_checker.specs.declared.checked.Checked.TheVariants as checked
-use Rattle.p21_checker.proofs.GatheringLemmas.{gathered_joined, gathered_kept, gathered_noted, on_ok}
-use Rattle.p21_checker.proofs.NameLemmas.{is_repeated}
+use Rattle.std.proofs.Common.{◌<◌, ◌∷◌, ◌++◌, [], get_or, length, map, refl, sym, subst, take, ap, ◌∙◌}
+use Rattle.std.proofs.lemmas.List.{length-map}
+use Rattle.p21_outline.specs.Outline.{Extends, outlined_instances}
+use Rattle.p21_outline.specs.OutlineList.{listed_instances}
+use Rattle.p21_outline.specs.PlacedName.{placed_name}
+use Rattle.p21_outline.specs.declared.outline.Extended.TheVariants as extended
+use Rattle.p21_outline.specs.declared.outline.Outline.{Outline}
+use Rattle.p21_outline.specs.declared.outline_list.OutlineList.{OutlineList}
+use Rattle.p21_checker.proofs.GatheringLemmas.{faults_before, gathered_joined, on_ok}
+use Rattle.p21_checker.proofs.NameLemmas.{is_among}
 use Rattle.p21_checker.proofs.gathering.Gathering.join.Goals as goal
 
-pub returns-then-branch : goal.returns-then-branch
-returns-then-branch c = λ outs h.
-    let g = c.args.self.now in
-    let adds = subst (λ b. Adds g.outline c.args.one (Ok b) c.add.new.self) c.if-branch.true c.in_ok-add.ensures in
-    gathered_joined g _ outs c.args.one c.requires.going c.requires.sound refl refl h adds
+pub note_repeated-requires-clause-within : goal.note_repeated-requires-clause-within
+note_repeated-requires-clause-within c =
+    let repeated = subst (Extends c.replace-outline.result c.args.list) c.in-Repeated.is c.in_ok-outline.ensures in
+    let names = c.names.ensures ∙ ap (λ (l : OutlineList). map placed_name (listed_instances l)) repeated.0 in
+    subst (λ n. c.in-Repeated.place < n) (sym (ap length names ∙ length-map (listed_instances c.args.list) placed_name)) repeated.1.within
 
-pub returns : goal.returns
-returns c =
+pub returns-in-Whole : goal.returns-in-Whole
+returns-in-Whole c = λ vs ls h.
     let g = c.args.self.now in
-    let one = c.args.one in
-    let w : Whole = record { instance = plain_instance (outlined one); own = None } in
-    let adds = subst (λ b. Adds g.outline one (Ok b) c.add.new.self) c.if-branch.false c.in_ok-add.ensures in
-    let there = is_repeated (outlined_instances g.outline) (outlined one) adds.0 in
-    let same : plain_instances (outlined_instances c.add.new.self) ≡ plain_instances (outlined_instances g.outline) = ap plain_instances adds.1.0 in
-    on_ok c.note.result _ _
-    (λ noted outs h.
-    gathered_noted c.note.new.self outs (checked.Sound one) w refl
-    (noted outs w (sym one.named) (sym one.placed) refl (gathered_kept g _ outs refl refl refl refl h adds.1) (inr (inr (subst (λ is. fault.IsRepeated is w.instance) (sym same) there)))))
-    c.note.ensures
+    let list = c.args.list in
+    let new = c.in-Whole.outline in
+    let joined = subst (λ (o : Outline). Extends o list (extended.Whole new)) c.replace-outline.ensures.value (subst (Extends c.replace-outline.result list) c.in-Whole.is c.in_ok-outline.ensures) in
+    gathered_joined g (record g { outline = new }) vs ls list c.requires.going c.requires.sound refl refl h new.own_names joined
+
+pub returns-in-Repeated : goal.returns-in-Repeated
+returns-in-Repeated c =
+    on_ok c.note_repeated.result _ _
+    (λ noted vs ls h.
+    let g = c.args.self.now in
+    let list = c.args.list in
+    let js = listed_instances list in
+    let names = c.in-Repeated.names in
+    let place = c.in-Repeated.place in
+    let repeated = subst (λ (o : Outline). Extends o list (extended.Repeated names c.in-Repeated.list place)) c.replace-outline.ensures.value (subst (Extends c.replace-outline.result list) c.in-Repeated.is c.in_ok-outline.ensures) in
+    let listed = c.names.ensures ∙ ap (λ (l : OutlineList). map placed_name (listed_instances l)) repeated.0 in
+    let before = faults_before g vs ls js names place c.requires.going c.requires.sound h repeated.1 in
+    noted vs (ls ++ list ∷ []) js listed before (λ d. is_among names (outlined_instances g.outline ++ take place js) (get_or js place d) repeated.1.names_are (repeated.1.repeated d)))
+    c.note_repeated.ensures

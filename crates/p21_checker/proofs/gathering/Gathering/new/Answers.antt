@@ -1,13 +1,9 @@
-use Rattle.std.proofs.Common.{◌≡◌, false, List, [], refl}
-use Rattle.std.specs.Prelude.{All}
-use Rattle.p21_express.specs.Schema.{Schema}
+use Rattle.std.proofs.Common.{◌≡◌, false, List, []}
 use Rattle.p21_tree.specs.declared.faults.Fault.{Fault}
 use Rattle.p21_tree.specs.declared.instances.RawInstance.{RawInstance}
 use Rattle.p21_join.specs.declared.instance_names.InstanceNames.{InstanceNames}
 use Rattle.p21_join.specs.Model.{plain_instances}
-use Rattle.p21_outline.specs.Outline.{AreOutlined}
-use Rattle.p21_checker.specs.Gathering.{FitsWith, GathersFaults}
-use Rattle.p21_checker.specs.declared.gathering.Gathering.{Gathering}
+use Rattle.p21_checker.specs.Gathering.{GathersFaults}
 use Rattle.p21_checker.proofs.GatheringLemmas.{fits_sound, nothing_gathered}
 use Rattle.p21_checker.proofs.gathering.Gathering.new.Goals as goal
 

@@ -1,0 +1,18 @@
+use Rattle.std.proofs.Common.{◌∷◌, ◌++◌, [], sym, ap, subst, ◌∙◌, append_assoc, arith}
+use Rattle.p21_reader.specs.Pieces.{AreGiven}
+use Rattle.p21_checker.proofs.lists.PieceLists.fill.Goals as goal
+
+pub loop-self-preserved : goal.loop-self-preserved
+loop-self-preserved c =
+    let before = c.loop-self.invariant in
+    let piece = c.in-Piece.piece in
+    let less = c.in-Piece.ensures.less in
+    let left = before.1 in
+    let room = before.2 in
+    let same = c.push_reserved.ensures.capacity in (
+      λ ps tail h.
+          let put = ap (λ l. l ++ ps) c.push_reserved.ensures.items ∙ append_assoc c.loop-self.others.items (piece ∷ []) ps in
+          subst (λ l. AreGiven c.args.self.now.pieces l tail) (sym put) (before.0 (piece ∷ ps) tail (c.in-Piece.ensures.next ps tail h)),
+      omega (arith, less, left),
+      omega (arith, room, same),
+    )

@@ -1,0 +1,146 @@
+//! The outlines of some instances on their way into those of a file.
+
+ghost use Rattle.std.specs.Prelude.{◌≡◌, [], None, Some, OnErr, OnOk, map};
+ghost use Rattle.p21_counts.specs.Counts.{capped, record_references};
+ghost use Rattle.p21_check.specs.EntityOf.{IsSimpleEntity};
+ghost use Rattle.p21_check.specs.LocalFault.{IsLocalFault};
+ghost use Rattle.p21_check.specs.Referred.{AreReferencesOf};
+ghost use Rattle.p21_tree.specs.Views.{plain_instance};
+ghost use Rattle.p21_outline.specs.Columns.{Adds, instances_in};
+ghost use Rattle.p21_outline.specs.PlacedName.{placed_name};
+
+use crate::columns::Columns;
+use p21_check::{References, push_references};
+use p21_counts::references_in;
+use p21_schema::{EntityId, Schema};
+use p21_tree::RawInstance;
+use smallvec::SmallVec;
+use std::alloc::{AllocError, Global};
+use std::snapshot::Snapshot;
+
+/// The name of an instance, and where it stands.
+#[derive(Clone, Copy)]
+pub struct PlacedName {
+    /// The number of the name.
+    pub name: u64,
+    /// The place of the name, in bytes from the file's first byte.
+    pub at: u64,
+}
+
+/// The outlines of instances that stand one behind the other in a file, of which two may have one name.
+#[derive(Drop)]
+pub struct OutlineList<'a> {
+    alloc: Global,
+    names: Vec<PlacedName>,
+    pub(crate) columns: Columns<'a>,
+    ghost named: { names.items ≡ map placed_name (instances_in columns) },
+}
+
+impl<'a> OutlineList<'a> {
+    ghost use Rattle.std.specs.Prelude.{◌∷◌, ◌++◌, IfOk};
+    ghost use Rattle.p21_express.specs.Schema.{Schema};
+    ghost use Rattle.p21_outline.specs.OutlineList.{AreListed, listed_instances};
+
+    /// No outline yet, with room for so many. It is refused for want of memory alone.
+    pub fn with_capacity(alloc: Global, count: usize) -> Result<OutlineList<'a>, AllocError>
+        ensures instances { IfOk result (λ list. listed_instances list ≡ []) }
+        ensures fits { IfOk result (λ list. (s : Schema) → AreListed s list) }
+    {
+        Ok(OutlineList {
+            alloc,
+            names: Vec::with_capacity(alloc, count)?,
+            columns: Columns::with_capacity(alloc, count)?,
+        })
+    }
+
+    /// Puts the outline of an instance behind the others. Its entity (`None` of a complex one) is known by the schema, and it has no fault
+    /// by itself. A simple instance is let go; a complex one is kept whole. It is refused for want of memory alone, as is an instance of an
+    /// entity behind 2^32 others of the schema, or one with which 2^32 references are kept; then the instances are as they were.
+    #[inline(always)]
+    pub fn push(
+        &mut self,
+        schema: &Schema,
+        entity: Option<EntityId>,
+        instance: RawInstance<'a>,
+    ) -> Result<(), AllocError>
+        requires entity { IsSimpleEntity schema.now (plain_instance instance) entity }
+        requires local { IsLocalFault schema.now (plain_instance instance) None }
+        ensures instances { OnOk result (listed_instances self.new ≡ listed_instances self.old ++ instance.entry ∷ []) }
+        ensures fits { OnOk result (AreListed schema.now self.old → AreListed schema.now self.new) }
+        ensures refused { OnErr result (listed_instances self.new ≡ listed_instances self.old) }
+    {
+        self.names.reserve(1)?;
+        let named = PlacedName {
+            name: instance.name,
+            at: instance.at,
+        };
+        push_instance(self.alloc, &mut self.columns, schema, entity, instance)?;
+        self.names.push_reserved(named);
+        Ok(())
+    }
+
+    /// The names of the instances, in their order.
+    pub fn names(&self) -> &[PlacedName]
+        ensures { result.now ≡ map placed_name (listed_instances self.now) }
+    {
+        self.names.as_slice()
+    }
+
+    /// What is kept of them.
+    pub(crate) fn into_columns(self) -> Columns<'a>
+        ensures { result ≡ self.entry.columns }
+    {
+        let OutlineList {
+            alloc: _,
+            names: _names,
+            columns,
+        } = self;
+        columns
+    }
+}
+
+/// Puts what is kept of an instance behind others: of a simple one its entity and its references; else the whole instance. Where it is
+/// refused, the instances are as they were.
+#[inline(always)]
+fn push_instance<'a>(
+    alloc: Global,
+    columns: &mut Columns<'a>,
+    schema: &Schema,
+    entity: Option<EntityId>,
+    instance: RawInstance<'a>,
+) -> Result<(), AllocError>
+    requires entity { IsSimpleEntity schema.now (plain_instance instance) entity }
+    requires local { IsLocalFault schema.now (plain_instance instance) None }
+    ensures ok { OnOk result (Adds schema.now columns.old instance.entry columns.new) }
+    ensures err { OnErr result (instances_in columns.new ≡ instances_in columns.old) }
+{
+    let written = references_in(&instance);
+    let Some(own) = entity else {
+        return columns.push_whole(written, instance);
+    };
+    let mut references = SmallVec::new(alloc);
+    push_written(schema, own, written, &instance, &mut references)?;
+    let gone = Snapshot::of(&instance);
+    columns.push_simple(written, own, references.as_slice(), gone)
+}
+
+/// Adds the references of a simple instance of this entity, in which so many instance names are written, to none. Where no name is written,
+/// as in points and directions, the schema is not asked.
+fn push_written(
+    schema: &Schema,
+    own: EntityId,
+    written: u64,
+    instance: &RawInstance<'_>,
+    into: &mut References,
+) -> Result<(), AllocError>
+    requires own { IsSimpleEntity schema.now (plain_instance instance.now) (Some own) }
+    requires local { IsLocalFault schema.now (plain_instance instance.now) None }
+    requires counted { written ≡ capped (record_references (plain_instance instance.now).records) }
+    requires empty { into.old.items ≡ [] }
+    ensures { OnOk result (AreReferencesOf schema.now (plain_instance instance.now) into.new.items) }
+{
+    if written == 0 {
+        return Ok(());
+    }
+    push_references(schema, own, instance, into)
+}
