@@ -4,15 +4,16 @@ from __future__ import annotations
 
 import argparse
 import os
+import re
 import subprocess
 import sys
 import time
-from typing import Dict, List
+from typing import Dict, List, Tuple
 
 from . import page, tables
 from .engine import Engine, Progress, require_parallel
 from .find import Part, Search
-from .model import FAULTY, UNTRIED, Finding, Findings, bytes_of, text_of
+from .model import FAULTY, UNTRIED, Bounds, Finding, Findings, bytes_of, text_of
 from .plan import processors
 from .run import LOG, Asked, Base, Plan, Refused, Run
 from .schemas import schemas_of
@@ -20,6 +21,7 @@ from .schemas import schemas_of
 TOP = os.path.dirname(os.path.dirname(os.path.realpath(__file__)))
 REPORT = 'report.html'
 USAGE, FAILED, INTERRUPTED = 2, 4, 130
+UNITS = {'K': 1 << 10, 'M': 1 << 20, 'G': 1 << 30, 'T': 1 << 40}
 STATUSES = '''
 Status:
   0    all files were read
@@ -30,19 +32,30 @@ Status:
 '''
 
 
+def is_number(text: str) -> bool:
+    """Whether a text is a number, of digits alone and not absurdly many."""
+    return re.fullmatch('[0-9]{1,18}', text) is not None
+
+
 def part(text: str) -> Part:
     """The part that is written I/N."""
     number, slash, count = text.partition('/')
-    if not (slash and number.isdigit() and count.isdigit() and 1 <= int(number) <= int(count)):
+    if not (slash and is_number(number) and is_number(count) and 1 <= int(number) <= int(count)):
         raise argparse.ArgumentTypeError('%r is no I/N, as 1/16' % text)
     return Part(int(number), int(count))
 
 
-def jobs(text: str) -> int:
-    """How many runs side by side, 1 at least."""
-    if not text.isdigit() or not int(text):
+def count(text: str) -> int:
+    """A number from 1."""
+    if not is_number(text) or not int(text):
         raise argparse.ArgumentTypeError('%r is no number from 1' % text)
     return int(text)
+
+
+def size(text: str) -> int:
+    """A number of bytes, which may be written with a unit, as 500M or 4G."""
+    unit = UNITS.get(text[-1:].upper(), 1)
+    return count(text if unit == 1 else text[:-1]) * unit
 
 
 def options(words: List[str]) -> argparse.Namespace:
@@ -52,7 +65,9 @@ def options(words: List[str]) -> argparse.Namespace:
         formatter_class=argparse.RawDescriptionHelpFormatter, allow_abbrev=False)
     parser.add_argument('folders', metavar='FOLDER', nargs='+', help='folder to search for STEP files')
     parser.add_argument('--schemas', metavar='FOLDER', required=True, help='folder with the EXPRESS schemas, *.exp')
-    parser.add_argument('--jobs', metavar='N', type=jobs, help='number of files to check at a time on each machine [default: its number of processors]')
+    parser.add_argument('--limit', metavar='SIZE', type=size, default=Bounds.bytes, help='most bytes that a compressed file may have when it is decompressed, as 500M or 8G [default: 4G]')
+    parser.add_argument('--seconds', metavar='N', type=count, default=Bounds.seconds, help='most seconds for one file [default: %(default)s]')
+    parser.add_argument('--jobs', metavar='N', type=count, help='number of files to check at a time on each machine [default: its number of processors]')
     parser.add_argument('--hosts', metavar='FILE', help='file with the hosts to use, one per line, as GNU parallel reads them')
     parser.add_argument('--transfer', action='store_true', help='send the files, the schemas and the program to hosts that share no folder with this machine')
     parser.add_argument('--part', metavar='I/N', type=part, default=Part(1, 1), help='check only part I of N of the files')
@@ -84,15 +99,15 @@ def library() -> str:
     return os.fsdecode(ran.stdout[:-1])
 
 
-def base(folder: str) -> Base:
-    """What workers need, with the schemas of a folder."""
+def base(folder: str) -> Tuple[Base, List[Finding]]:
+    """What workers need, with the schemas of a folder, and what is told of those that are refused."""
     try:
-        schemas = schemas_of(os.fsencode(folder))
+        schemas, refused = schemas_of(os.fsencode(folder))
     except (OSError, ValueError) as error:
         raise Refused(str(error)) from None
     if not schemas:
-        raise Refused('no schema is in %s' % folder)
-    return Base(os.fsencode(TOP), os.fsencode(program()), os.fsencode(library()), schemas)
+        raise Refused(' '.join(['no schema is in %s' % folder, *('(%s: %s)' % (tables.escaped(it.file), it.sentence) for it in refused)]))
+    return Base(os.fsencode(TOP), os.fsencode(program()), os.fsencode(library()), schemas), refused
 
 
 def machines(hosts: str) -> int:
@@ -106,24 +121,24 @@ def machines(hosts: str) -> int:
 
 def begun(run: Run, asked: Asked, wanted: argparse.Namespace) -> Plan:
     """The plan of a run that begins."""
-    laid = base(wanted.schemas)
+    laid, refused = base(wanted.schemas)
     search = Search(wanted.part)
     search.run([os.fsencode(it) for it in wanted.folders])
     count = (wanted.jobs or processors()) * (machines(wanted.hosts) if wanted.hosts else 1)
-    return run.begin(asked, search.files, search.refused, max(1, count), laid)
+    return run.begin(asked, search.files, search.refused + refused, max(1, count), laid)
 
 
 def planned(run: Run, wanted: argparse.Namespace) -> Plan:
     """The plan of the run: one that begins here, or the one that is taken up."""
     asked = Asked([text_of(os.path.abspath(os.fsencode(it))) for it in wanted.folders], text_of(os.path.abspath(os.fsencode(wanted.schemas))),
-                  list(wanted.part), wanted.transfer)
+                  list(wanted.part), wanted.transfer, Bounds(wanted.limit, wanted.seconds))
     if not run.is_begun():
         return begun(run, asked, wanted)
     if not wanted.resume:
         raise Refused('%s has a run: --resume goes on with it' % run.folder)
     made = run.plan()
     if made.asked != asked:
-        raise Refused('%s has a run of other folders, schemas or parts, or with files sent otherwise' % run.folder)
+        raise Refused('%s has a run of other folders, schemas, parts or bounds, or with files sent otherwise' % run.folder)
     return made
 
 

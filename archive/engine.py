@@ -4,6 +4,8 @@ from __future__ import annotations
 
 import ctypes
 import os
+import re
+import shlex
 import signal
 import subprocess
 import sys
@@ -24,6 +26,14 @@ RSYNC_OPTIONS, RSYNC = 'PARALLEL_RSYNC_OPTS', '-rLR'
 # Where the workers of this machine find the interpreter that this one runs.
 PYTHON = 'P21ARCHIVE_PYTHON'
 SET_SIGNAL_OF_PARENT = 1
+PLAIN = re.compile('[A-Za-z0-9/.]')
+
+
+def entered(folder: str) -> str:
+    """Enters a folder, in words in which neither parallel nor a shell finds anything of its own: each byte that is no letter, digit, / or . is spelled
+    in octal. The x keeps a line end at the end of the name."""
+    spelled = ''.join(chr(it) if PLAIN.match(chr(it)) else '\\%03o' % it for it in os.fsencode(folder))
+    return 'folder="$(printf \'%sx\')" && cd -- "${folder%%x}"' % spelled
 
 
 class Engine(NamedTuple):
@@ -36,11 +46,13 @@ class Engine(NamedTuple):
         """The command that runs the batches of a phase."""
         jobs = 1 if phase.name == 'great' else self.jobs or ('100%' if self.hosts else processors())
         words = [*PARALLEL, '--jobs', str(jobs), '--retries', str(RETRIES), '--joblog', phase.joblog, '--resume']
-        if self.hosts:
-            words += ['--ssh', SSH, '--sshloginfile', self.hosts]
-            words += ['--workdir', plan.workdir if plan.asked.transfer else run.folder]
-            words += ['--basefile', BASE, '--transferfile', '{}'] * plan.asked.transfer
-        return [*words, 'python3' if self.hosts else '"$%s"' % PYTHON, '-I', '-S', SCRIPT, '--work', '{}']
+        work = ['-I', '-S', SCRIPT, '--work', '{}']
+        if not self.hosts:
+            return [*words, '"$%s"' % PYTHON, *work]
+        words += ['--ssh', SSH, '--sshloginfile', self.hosts]
+        if plan.asked.transfer:
+            return [*words, '--workdir', plan.workdir, '--basefile', BASE, '--transferfile', '{}', 'python3', *work]
+        return [*words, 'sh', '-c', shlex.quote('%s && exec python3 "$@"' % entered(run.folder)), 'sh', *work]
 
     def run(self, run: Run, plan: Plan, phase: Phase, told: Callable[[Findings], None]) -> None:
         """Runs the batches of a phase that parallel's log does not have, keeps what workers find, and tells it."""

@@ -8,7 +8,7 @@ import zlib
 from typing import List, NamedTuple
 
 from .model import File, Finding, Untried, text_of
-from .sources import PACKED
+from .sources import PACKED, is_packed, unpacked_size
 
 
 class Part(NamedTuple):
@@ -71,7 +71,8 @@ class Search:
             self._refuse(path, Untried.by(error))
             return
         if stat.S_ISREG(status.st_mode):
-            self.files.append(File(text_of(path), text_of(os.path.abspath(path)), status.st_size))
+            unpacked = unpacked_size(path, status.st_size) if is_packed(path) else status.st_size
+            self.files.append(File(text_of(path), text_of(os.path.abspath(path)), status.st_size, unpacked))
         else:
             self._refuse(path, Untried.no_file())
 

@@ -53,13 +53,22 @@ class Untried(Exception):
         return cls('NoSchemaName', 'It names no schema.')
 
 
+@dataclasses.dataclass(frozen=True)
+class Bounds:
+    """What one file may take: so many bytes once it is unpacked, and so many seconds."""
+
+    bytes: int = 1 << 32
+    seconds: int = 600
+
+
 @dataclasses.dataclass
 class File:
-    """A file that was found: the name that it is told by, the path that a worker opens, and its size in bytes."""
+    """A file that was found: the name that it is told by, the path that a worker opens, its size in bytes, and about how many it unpacks to."""
 
     name: str
     source: str
     bytes: int
+    unpacked: int
 
 
 @dataclasses.dataclass
@@ -92,11 +101,12 @@ def explain(finding: Finding, explanation: str) -> None:
 
 @dataclasses.dataclass
 class Batch:
-    """Files for one worker, and by how many lanes it reads each; 0 stands for as many as it has processors. One that is sent has its files
-    in its folder."""
+    """Files for one worker, by how many lanes it reads each, where 0 stands for as many as it has processors, and what each may take. One that is sent
+    has its files in its folder."""
 
     lanes: int
     files: List[File]
+    bounds: Bounds
     is_sent: bool = False
 
     def write(self, folder: str) -> None:
@@ -109,7 +119,7 @@ class Batch:
         """The batch of a folder."""
         with open(os.path.join(folder, BATCH), encoding='ascii') as file:
             read = json.load(file)
-        return cls(**{**read, 'files': [File(**it) for it in read['files']]})
+        return cls(**{**read, 'files': [File(**it) for it in read['files']], 'bounds': Bounds(**read['bounds'])})
 
 
 @dataclasses.dataclass

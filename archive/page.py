@@ -8,7 +8,7 @@ import math
 from typing import Dict, Iterable, Iterator, List, NamedTuple, Tuple
 
 from .model import FAULTY, STATUSES, UNTRIED, Finding
-from .tables import FAULTS, RESULTS, escaped
+from .tables import FAULTS, RESULTS, escaped, readable, replaced
 
 # The most rows of the table of files; the files tell the rest.
 ROWS = 5000
@@ -79,7 +79,7 @@ def time(seconds: float) -> str:
 
 def shown(text: str) -> str:
     """A text of a page."""
-    return html.escape(text)
+    return html.escape(readable(text))
 
 
 def number(count: int) -> str:
@@ -178,7 +178,7 @@ def drawing(findings: List[Finding]) -> str:
 
 def write(path: str, findings: List[Finding], seconds: float) -> None:
     """Writes the page of a run that took so long."""
-    with open(path, 'w', encoding='utf-8') as file:
+    with replaced(path) as file:
         file.write(PAGE.format(
             style=STYLE, summary=summary(findings), size=size(sum(it.bytes for it in findings)), seconds=time(seconds), results=RESULTS, faults=FAULTS,
             kinds=''.join(kinds(findings)), schemas=''.join(schemas(findings)), drawing=drawing(findings), faulty=faulty(findings)))

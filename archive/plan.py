@@ -5,12 +5,11 @@ from __future__ import annotations
 import os
 from typing import Iterator, List, Tuple
 
-from .model import Batch, File, bytes_of
-from .sources import is_packed
+from .model import Batch, Bounds, File
 
 MEGABYTE = 1 << 20
-# How much longer a file is than it is packed, about; in how many bytes read a worker opens one; and how much memory p21check takes by its file.
-PACKED, OPEN, MEMORY = 8, MEGABYTE // 16, 3
+# In how many bytes read a worker opens a file; and how much memory p21check takes by its file.
+OPEN, MEMORY = MEGABYTE // 16, 3
 LEAST_GREAT = 16 * MEGABYTE
 # A file that is no longer is held whole by a worker.
 WHOLE = LEAST_GREAT
@@ -25,7 +24,7 @@ def processors() -> int:
 
 def cost(file: File) -> int:
     """What a file costs, as bytes that are read, about."""
-    return OPEN + file.bytes * (PACKED if is_packed(bytes_of(file.name)) else 1)
+    return OPEN + file.unpacked
 
 
 def split(files: List[File], jobs: int) -> Tuple[List[File], List[File]]:
@@ -41,14 +40,14 @@ def split(files: List[File], jobs: int) -> Tuple[List[File], List[File]]:
     return files, []
 
 
-def batches(files: List[File], jobs: int) -> Iterator[Batch]:
+def batches(files: List[File], jobs: int, bounds: Bounds) -> Iterator[Batch]:
     """Batches of files that are read by one lane each, ever smaller ones."""
     left = sum(map(cost, files))
     taken: List[File] = []
     room = 0
     for file in files:
         if taken and cost(file) > room:
-            yield Batch(1, taken)
+            yield Batch(1, taken, bounds)
             taken = []
         if not taken:
             room = min(MOST, max(LEAST, left // (jobs * PART)))
@@ -56,10 +55,10 @@ def batches(files: List[File], jobs: int) -> Iterator[Batch]:
         room -= cost(file)
         left -= cost(file)
     if taken:
-        yield Batch(1, taken)
+        yield Batch(1, taken, bounds)
 
 
-def plan(files: List[File], jobs: int) -> Tuple[List[Batch], List[Batch]]:
+def plan(files: List[File], jobs: int, bounds: Bounds) -> Tuple[List[Batch], List[Batch]]:
     """The batches of the great files, one each for all lanes, and those of the others."""
     great, others = split(files, jobs)
-    return [Batch(0, [it]) for it in great], list(batches(others, jobs))
+    return [Batch(0, [it], bounds) for it in great], list(batches(others, jobs, bounds))

@@ -12,7 +12,7 @@ import sys
 from typing import Dict, Iterator, List
 
 from .library import LIBRARY, PACKAGE
-from .model import Batch, File, Finding, Findings, bytes_of
+from .model import Batch, Bounds, File, Finding, Findings, bytes_of
 from .plan import plan
 from .work import PROGRAM, SCHEMAS
 
@@ -28,12 +28,14 @@ class Refused(Exception):
 
 @dataclasses.dataclass
 class Asked:
-    """What was asked for: the folders to look through, that of the schemas, which part of the files, and whether they are sent to hosts."""
+    """What was asked for: the folders to look through, that of the schemas, which part of the files, whether they are sent to hosts, and what each
+    may take."""
 
     folders: List[str]
     schemas: str
     part: List[int]
     transfer: bool
+    bounds: Bounds
 
 
 @dataclasses.dataclass
@@ -127,7 +129,7 @@ class Run:
     def begin(self, asked: Asked, files: List[File], refused: List[Finding], jobs: int, base: Base) -> Plan:
         """Writes the batches and what workers need; the plan comes last, so that without it nothing was begun."""
         base.lay(os.fsencode(self.folder))
-        great, others = plan(files, jobs)
+        great, others = plan(files, jobs, asked.bounds)
         names = ['batches/%06d' % it for it in range(1, len(great) + len(others) + 1)]
         for name, batch in zip(names, great + others):
             batch.is_sent = asked.transfer
@@ -158,7 +160,7 @@ class Run:
         """The plan that was written."""
         with open(self.path(RUN), encoding='ascii') as file:
             read = json.load(file)
-        read['asked'] = Asked(**read['asked'])
+        read['asked'] = Asked(**{**read['asked'], 'bounds': Bounds(**read['asked']['bounds'])})
         read['refused'] = [Finding(**it) for it in read['refused']]
         return Plan(**read)
 

@@ -4,45 +4,78 @@ from __future__ import annotations
 
 import os
 import re
-from typing import Dict, Optional, Tuple
+from typing import Dict, List, Optional, Tuple
 
-from .model import text_of
+from .model import Finding, Untried, text_of
 from .sources import Source
 
-# A comment and a string of a file; what is left over of one that the end of a front cuts; the end of the header; and the name.
-SEPARATORS = rb'(?:[\t-\r ]|/\*[^*]*\*+(?:[^/*][^*]*\*+)*/)*'
-HEADER = re.compile(rb"/\*[^*]*\*+(?:[^/*][^*]*\*+)*/|'[^']*'|(?P<cut>/\*|')|\b(?P<end>ENDSEC)\b"
-                    + rb'|(?<![!A-Z0-9_])FILE_SCHEMA' + (SEPARATORS + rb'\(') * 2 + SEPARATORS + rb"'(?P<name>[^']*)'")
-# A file is looked at up to here for the name, first its front alone.
-FRONTS = (1 << 16, 1 << 24)
+# What a header is searched for: the begin of a comment or a string, its end, and the entity that has the name; and what is white.
+MARKS = re.compile(rb"/\*|'|\bENDSEC\b|(?<![!A-Z0-9_])FILE_SCHEMA\b")
+WHITE = re.compile(rb'[\t-\r ]*')
+# A file is looked at up to here for the name, first its front alone; and the most characters of a name that are told.
+FRONTS, NAME = (1 << 16, 1 << 24), 256
+# The most bytes of a schema.
+MOST = 1 << 24
 # White bytes, a remark to the end of its line, the begin of one that nests, or a word.
 EXPRESS = re.compile(rb'\s+|--[^\n]*|(?P<remark>\(\*)|(?P<word>[A-Za-z]\w*)')
 NESTED = re.compile(rb'(\(\*)|\*\)')
 MARK = b'\xef\xbb\xbf'
 
 
+def after_white(front: bytes, place: int) -> int:
+    """The place after the white bytes and comments that stand at a place; the end where that cuts a comment."""
+    place = WHITE.match(front, place).end()
+    while front.startswith(b'/*', place):
+        end = front.find(b'*/', place + 2)
+        if end < 0:
+            return len(front)
+        place = WHITE.match(front, end + 2).end()
+    return place
+
+
+def first_string(front: bytes, place: int) -> Optional[bytes]:
+    """The first string of the list that stands in parentheses at a place, if one does."""
+    for bracket in b'((':
+        place = after_white(front, place)
+        if place == len(front) or front[place] != bracket:
+            return None
+        place += 1
+    place = after_white(front, place)
+    end = front.find(b"'", place + 1)
+    return front[place + 1:end] if front.startswith(b"'", place) and end >= 0 else None
+
+
 def name_in(front: bytes) -> Optional[str]:
     """The name of the schema in the front of a file, in upper case: what FILE_SCHEMA has before the first blank or brace, line ends left out.
     '' where the header ends without, and None where the front does not say."""
-    for token in HEADER.finditer(front):
-        if token['name'] is not None:
-            return re.split(rb'[ {]', re.sub(rb'[\t\n\r]', b'', token['name']))[0].upper().decode('ascii', 'backslashreplace')
-        if token['end']:
+    mark = MARKS.search(front)
+    while mark:
+        place = mark.end()
+        if mark[0] == b'ENDSEC':
             return ''
-        if token['cut']:
-            break
+        if mark[0] == b'FILE_SCHEMA':
+            name = first_string(front, place)
+            if name is not None:
+                return re.split(rb'[ {]', re.sub(rb'[\t\n\r]', b'', name))[0].upper().decode('ascii', 'backslashreplace')
+        else:
+            end = b'*/' if mark[0] == b'/*' else b"'"
+            place = front.find(end, place) + len(end)
+            if place < len(end):
+                return None
+        mark = MARKS.search(front, place)
     return None
 
 
 def read_front(source: Source) -> Tuple[bytes, str]:
-    """What had to be read of a file to know the schema that it names, and that name; '' where there is none."""
-    front, name = b'', None
+    """What had to be read of a file to know the schema that it names, and that name; '' where there is none. Untried where a longer front would have to
+    be read than is."""
+    front = b''
     for size in FRONTS:
         front += source.read(size - len(front))
         name = name_in(front)
         if name is not None or len(front) < size:
-            break
-    return front, name or ''
+            return front, name or ''
+    raise Untried('LongHeader', 'Its first %d bytes do not say which schema it names.' % len(front))
 
 
 def end_of_remark(text: bytes, begin: int) -> int:
@@ -68,18 +101,23 @@ def name_of_schema(text: bytes) -> Optional[str]:
     return words[1] if words[0] == 'SCHEMA' else None
 
 
-def schemas_of(folder: bytes) -> Dict[str, bytes]:
-    """The path of each schema of a folder by its name. What ends in .exp and begins with no SCHEMA is passed over; of two with one name
-    a ValueError says which they are."""
+def schemas_of(folder: bytes) -> Tuple[Dict[str, bytes], List[Finding]]:
+    """The path of each schema of a folder by its name, and what is told of those that are too long. What ends in .exp and begins with no SCHEMA is
+    skipped; of two with one name a ValueError says which they are."""
     found: Dict[str, bytes] = {}
+    refused: List[Finding] = []
     for name in sorted(os.listdir(folder)):
         path = os.path.join(folder, name)
         if not name.lower().endswith(b'.exp') or not os.path.isfile(path):
             continue
+        size = os.stat(path).st_size
+        if size > MOST:
+            refused.append(Finding(text_of(path), size, kind='SchemaRefused', sentence='A schema has at most %d bytes.' % MOST))
+            continue
         with open(path, 'rb') as file:
-            schema = name_of_schema(file.read())
+            schema = name_of_schema(file.read(MOST))
         if schema in found:
             raise ValueError('two schemas have the name %s: %s and %s' % (schema, text_of(found[schema]), text_of(path)))
         if schema:
             found[schema] = path
-    return found
+    return found, refused

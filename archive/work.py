@@ -6,16 +6,18 @@ import json
 import os
 import re
 import shutil
+import signal
 import subprocess
 import sys
 import tempfile
+import threading
 import time
 from typing import BinaryIO, Dict, Iterator, List, NamedTuple
 
 from .library import Library
-from .model import FAULTY, READ, WRONG_SCHEMA, Batch, File, Finding, Findings, Untried, explain
+from .model import FAULTY, READ, WRONG_SCHEMA, Batch, Bounds, File, Finding, Findings, Untried, explain
 from .plan import WHOLE, processors
-from .schemas import FRONTS, read_front
+from .schemas import FRONTS, NAME, read_front
 from .sources import Source, sources
 
 PROGRAM, SCHEMAS = 'base/p21check', 'base/schemas.json'
@@ -54,24 +56,30 @@ def feed(pipe: BinaryIO, front: bytes, source: Source) -> None:
         pass
 
 
-def run_packed(words: List[str], front: bytes, source: Source, **files: BinaryIO) -> int:
-    """The status of a run over a file that is unpacked into its standard input."""
-    with subprocess.Popen(words, stdin=subprocess.PIPE, **files) as running:
+def ended(words: List[str], front: bytes, source: Source, seconds: int, **files: BinaryIO) -> int:
+    """The status of a run over a file, which is unpacked into its standard input where it is packed, and ended where it takes too many seconds."""
+    begun = time.monotonic()
+    with subprocess.Popen(words, stdin=source.rewound() if source.is_plain else subprocess.PIPE, **files) as running:
+        timer = threading.Timer(seconds, running.kill)
+        timer.start()
         try:
-            feed(running.stdin, front, source)
+            if not source.is_plain:
+                feed(running.stdin, front, source)
+            status = running.wait()
         except Untried:
             running.kill()
             raise
-    return running.returncode
+        finally:
+            timer.cancel()
+    if status == -signal.SIGKILL and time.monotonic() - begun >= seconds:
+        raise Untried('TooSlow', 'It was not read in %d seconds.' % seconds)
+    return status
 
 
-def run(words: List[str], front: bytes, source: Source) -> Ran:
-    """Runs p21check over a file of which the front has been read."""
+def run(words: List[str], front: bytes, source: Source, seconds: int) -> Ran:
+    """Runs p21check over a file of which the front has been read, for so many seconds at most."""
     with tempfile.TemporaryFile() as report, tempfile.TemporaryFile() as errors:
-        if source.is_plain:
-            status = subprocess.call(words, stdin=source.rewound(), stdout=report, stderr=errors)
-        else:
-            status = run_packed(words, front, source, stdout=report, stderr=errors)
+        status = ended(words, front, source, seconds, stdout=report, stderr=errors)
         report.seek(0)
         errors.seek(0)
         return Ran(status, report.read(REPORT), errors.read(ERRORS))
@@ -101,26 +109,28 @@ def tell(finding: Finding, ran: Ran) -> None:
 
 
 class Worker:
-    """Finds what is wrong with files, by so many lanes and these schemas, a path for each name: by libp21 where one lane reads a file that may be held
-    whole, else by p21check."""
+    """Finds what is wrong with files, by so many lanes and these schemas, a path for each name, within bounds: by libp21 where one lane reads a file that
+    may be held whole, else by p21check."""
 
-    def __init__(self, lanes: int, schemas: Dict[str, str]):
+    def __init__(self, lanes: int, schemas: Dict[str, str], bounds: Bounds):
         self.lanes = lanes
         self.schemas = schemas
+        self.bounds = bounds
         self.library = Library() if lanes == 1 else None
 
     def path(self, schema: str) -> str:
         """The path of the schema of this name; where a file names none any will do, since whatever is wrong with a file before its schema is
         asked for hangs on none."""
         if schema and schema not in self.schemas:
-            raise Untried('NoSchema', 'No schema has the name %s.' % schema)
+            raise Untried('NoSchema', 'No schema has the name %s.' % schema[:NAME])
         return self.schemas[schema or min(self.schemas)]
 
     def look(self, finding: Finding, source: Source) -> None:
         """Puts what there is to say of a file into a finding."""
         with source:
-            front, finding.schema = read_front(source)
-            path = self.path(finding.schema)
+            front, name = read_front(source)
+            finding.schema = name[:NAME]
+            path = self.path(name)
             begun = time.monotonic()
             try:
                 self.check(finding, path, front, source)
@@ -134,7 +144,7 @@ class Worker:
             if len(front) <= WHOLE:
                 self.library.tell(finding, path, front)
                 return
-        ran = run([PROGRAM, path, '-', '--explain=1', '--lanes', str(self.lanes)], front, source)
+        ran = run([PROGRAM, path, '-', '--explain=1', '--lanes', str(self.lanes)], front, source, self.bounds.seconds)
         if not finding.schema and (ran.status == 3 or WRONG_SCHEMA.encode() in ran.report):
             raise Untried.no_schema_name()
         tell(finding, ran)
@@ -151,7 +161,7 @@ class Worker:
     def findings(self, file: File) -> Iterator[Finding]:
         """What is found of each STEP file in what was found."""
         try:
-            yield from (self.finding(it) for it in sources(file))
+            yield from (self.finding(it) for it in sources(file, self.bounds))
         except Untried as why:
             yield Finding(file.name, file.bytes, kind=why.kind, sentence=why.sentence)
 
@@ -162,7 +172,7 @@ def main(words: List[str]) -> int:
     batch = Batch.read(folder)
     with open(SCHEMAS, encoding='ascii') as file:
         schemas = json.load(file)
-    worker = Worker(batch.lanes or min(MOST_LANES, processors()), schemas)
+    worker = Worker(batch.lanes or min(MOST_LANES, processors()), schemas, batch.bounds)
     found = [it for file in batch.files for it in worker.findings(file)]
     findings = Findings(os.path.basename(folder), len(batch.files), sum(it.bytes for it in batch.files), found)
     sys.stdout.write(findings.to_line())
