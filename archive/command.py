@@ -8,7 +8,7 @@ import re
 import subprocess
 import sys
 import time
-from typing import Dict, List, Tuple
+from typing import Dict, Iterator, List, Tuple
 
 from . import page, tables
 from .engine import Engine, Progress, require_parallel
@@ -20,14 +20,17 @@ from .schemas import schemas_of
 
 TOP = os.path.dirname(os.path.dirname(os.path.realpath(__file__)))
 REPORT = 'report.html'
+VERSION = '0.1.0'
 USAGE, FAILED, INTERRUPTED = 2, 4, 130
+# How many endings of ignored files are told, the commonest first.
+ENDINGS = 8
 UNITS = {'K': 1 << 10, 'M': 1 << 20, 'G': 1 << 30, 'T': 1 << 40}
 STATUSES = '''
 Status:
   0    all files were read
   1    some files have a fault
   2    usage error
-  4    some files could not be checked, or the table could not be written
+  4    some files could not be checked, none was found, or the table could not be written
   130  interrupted
 '''
 
@@ -61,9 +64,10 @@ def size(text: str) -> int:
 def options(words: List[str]) -> argparse.Namespace:
     """What the words ask for."""
     parser = argparse.ArgumentParser(
-        prog='p21archive', description='Checks all STEP files in some folders and their subfolders, each against the schema that it names.', epilog=STATUSES,
+        prog='p21archive', usage='%(prog)s [OPTIONS] FOLDER.. --schemas FOLDER',
+        description='Checks all STEP files in some folders and their subfolders, each against the schema that it names.', epilog=STATUSES,
         formatter_class=argparse.RawDescriptionHelpFormatter, allow_abbrev=False)
-    parser.add_argument('folders', metavar='FOLDER', nargs='+', help='folder to search for STEP files')
+    parser.add_argument('folders', metavar='FOLDER', nargs='+', help='folder to search for STEP files, or one such file')
     parser.add_argument('--schemas', metavar='FOLDER', required=True, help='folder with the EXPRESS schemas, *.exp')
     parser.add_argument('--limit', metavar='SIZE', type=size, default=Bounds.bytes, help='most bytes that a compressed file may have when it is decompressed, as 500M or 8G [default: 4G]')
     parser.add_argument('--seconds', metavar='N', type=count, default=Bounds.seconds, help='most seconds for one file [default: %(default)s]')
@@ -72,6 +76,7 @@ def options(words: List[str]) -> argparse.Namespace:
     parser.add_argument('--transfer', action='store_true', help='send the files, the schemas and the program to hosts that share no folder with this machine')
     parser.add_argument('--part', metavar='I/N', type=part, default=Part(1, 1), help='check only part I of N of the files')
     parser.add_argument('--out', metavar='FOLDER', default='p21archive.out', help='folder for the results [default: %(default)s]')
+    parser.add_argument('--version', action='version', version='%%(prog)s %s' % VERSION, help='print the version')
     parser.add_argument('--resume', action='store_true', help='continue the interrupted run in that folder')
     return parser.parse_intermixed_args(words)
 
@@ -125,7 +130,7 @@ def begun(run: Run, asked: Asked, wanted: argparse.Namespace) -> Plan:
     search = Search(wanted.part)
     search.run([os.fsencode(it) for it in wanted.folders])
     count = (wanted.jobs or processors()) * (machines(wanted.hosts) if wanted.hosts else 1)
-    return run.begin(asked, search.files, search.refused + refused, max(1, count), laid)
+    return run.begin(asked, search, refused, max(1, count), laid)
 
 
 def planned(run: Run, wanted: argparse.Namespace) -> Plan:
@@ -179,13 +184,23 @@ def write(run: Run, findings: List[Finding], seconds: float) -> None:
     page.write(run.path(REPORT), findings, seconds)
 
 
+def closing(run: Run, plan: Plan, findings: List[Finding]) -> Iterator[str]:
+    """What is told at the end: what was found and where it stands, and what was left out."""
+    yield '%s: %s' % (run.path(tables.RESULTS), page.summary(findings) if findings else 'no STEP file was found')
+    yield '%s: the same as a page' % run.path(REPORT)
+    endings = sorted(plan.ignored.items(), key=lambda it: (-it[1], it[0]))
+    if endings:
+        told = ', '.join('%d %s' % (count, tables.escaped(ending) or 'without an ending') for ending, count in endings[:ENDINGS])
+        yield 'ignored by its name: %d files: %s%s' % (sum(plan.ignored.values()), told, ', ..' if len(endings) > ENDINGS else '')
+
+
 def archive(wanted: argparse.Namespace) -> int:
     """Does what is wanted, and gives the status."""
     begun_at = time.monotonic()
     require_parallel()
-    for folder in wanted.folders:
-        if not os.path.isdir(folder):
-            raise Refused('no folder: %s' % tables.escaped(text_of(os.fsencode(folder))))
+    for path in wanted.folders:
+        if not os.path.lexists(path):
+            raise Refused('%s does not exist' % tables.escaped(text_of(os.fsencode(path))))
     if wanted.transfer and not wanted.hosts:
         raise Refused('--transfer sends files to the hosts of --hosts')
     hosts = os.path.abspath(wanted.hosts) if wanted.hosts else None
@@ -193,9 +208,10 @@ def archive(wanted: argparse.Namespace) -> int:
     plan = planned(run, wanted)
     findings = all_findings(run, plan, work(run, plan, Engine(wanted.jobs, hosts)))
     write(run, findings, time.monotonic() - begun_at)
-    print('%s: %s' % (run.path(tables.RESULTS), page.summary(findings)))
+    for line in closing(run, plan, findings):
+        print(line)
     statuses = {it.status for it in findings}
-    return FAILED if UNTRIED in statuses else 1 if FAULTY in statuses else 0
+    return FAILED if UNTRIED in statuses or not findings else 1 if FAULTY in statuses else 0
 
 
 def main(words: List[str]) -> int:

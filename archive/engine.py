@@ -115,7 +115,7 @@ class Progress:
         now = time.monotonic()
         if now - self._told >= (self.OFTEN if self._on_terminal else self.SELDOM):
             self._told = now
-            self._write('p21archive: %d of %d files, %d of %d MB, %d faulty, %d untried, %d s' % (
+            self._write('p21archive: %d of %d files, %d of %d MB, %d faulty, %d not checked, %d s' % (
                 self._files, self._plan.files, self._bytes // 1000000, self._plan.bytes // 1000000, self._faulty, self._untried, now - self._begun))
 
     def end(self) -> None:

@@ -7,11 +7,13 @@ import html
 import math
 from typing import Dict, Iterable, Iterator, List, NamedTuple, Tuple
 
-from .model import FAULTY, STATUSES, UNTRIED, Finding
+from .model import FAULTY, READ, STATUSES, UNTRIED, Finding
 from .tables import FAULTS, RESULTS, escaped, readable, replaced
 
 # The most rows of the table of files; the files tell the rest.
 ROWS = 5000
+# How a person is told a status.
+WORDS = {READ: 'read', FAULTY: 'faulty', UNTRIED: 'not checked'}
 UNITS = ((1e9, 'GB'), (1e6, 'MB'), (1e3, 'kB'), (1, 'B'))
 # The drawing in pixels, the sides of a cell in it, and what is left of its edges for the numbers.
 WIDTH, HEIGHT, CELL = 880, 360, 4
@@ -61,7 +63,7 @@ PAGE = '''<!DOCTYPE html>
 def summary(findings: List[Finding]) -> str:
     """How many files there are of each status."""
     counts = collections.Counter(it.status for it in findings)
-    return '%d files: %s' % (len(findings), ', '.join('%d %s' % (counts[it], it) for it in STATUSES))
+    return '%d files: %s' % (len(findings), ', '.join('%d %s' % (counts[it], WORDS[it]) for it in STATUSES))
 
 
 def size(count: float) -> str:

@@ -11,6 +11,7 @@ import secrets
 import sys
 from typing import Dict, Iterator, List
 
+from .find import Search
 from .library import LIBRARY, PACKAGE
 from .model import Batch, Bounds, File, Finding, Findings, bytes_of
 from .plan import plan
@@ -53,7 +54,8 @@ class Phase:
 
 @dataclasses.dataclass
 class Plan:
-    """What is to be done: how many files with how many bytes, in which batches; what was refused before; and the folder on a host."""
+    """What is to be done: how many files with how many bytes, in which batches; what was refused before; how many files were ignored, by their endings; and
+    the folder on a host."""
 
     asked: Asked
     files: int
@@ -61,6 +63,7 @@ class Plan:
     great: List[str]
     others: List[str]
     refused: List[Finding]
+    ignored: Dict[str, int]
     workdir: str
 
     @property
@@ -126,16 +129,17 @@ class Run:
         """Whether there is a run to go on with."""
         return os.path.exists(self.path(RUN))
 
-    def begin(self, asked: Asked, files: List[File], refused: List[Finding], jobs: int, base: Base) -> Plan:
+    def begin(self, asked: Asked, search: Search, refused: List[Finding], jobs: int, base: Base) -> Plan:
         """Writes the batches and what workers need; the plan comes last, so that without it nothing was begun."""
         base.lay(os.fsencode(self.folder))
-        great, others = plan(files, jobs, asked.bounds)
+        great, others = plan(search.files, jobs, asked.bounds)
         names = ['batches/%06d' % it for it in range(1, len(great) + len(others) + 1)]
         for name, batch in zip(names, great + others):
             batch.is_sent = asked.transfer
             self._lay_batch(name, batch)
-        size = sum(it.bytes for it in files)
-        made = Plan(asked, len(files), size, names[:len(great)], names[len(great):], refused, '.p21archive-%s' % secrets.token_hex(8))
+        size = sum(it.bytes for it in search.files)
+        made = Plan(asked, len(search.files), size, names[:len(great)], names[len(great):], search.refused + refused, search.ignored,
+                    '.p21archive-%s' % secrets.token_hex(8))
         with open(self.path(RUN + '.part'), 'w', encoding='ascii') as file:
             json.dump(dataclasses.asdict(made), file)
         os.replace(self.path(RUN + '.part'), self.path(RUN))

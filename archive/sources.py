@@ -2,6 +2,7 @@
 
 from __future__ import annotations
 
+import bz2
 import gzip
 import io
 import lzma
@@ -9,6 +10,7 @@ import os
 import re
 import stat
 import struct
+import subprocess
 import zipfile
 import zlib
 from typing import BinaryIO, Callable, Iterator, List, Optional
@@ -16,8 +18,10 @@ from typing import BinaryIO, Callable, Iterator, List, Optional
 from .model import Bounds, File, Untried, bytes_of
 
 # What is looked for in a folder, and what in a zip.
-PACKED = re.compile(rb'\.(?:stp|step|p21|ifc)(?:\.(?:gz|xz|zip))?\Z|\.ifczip\Z', re.IGNORECASE)
+PACKED = re.compile(rb'\.(?:stp|step|p21|ifc)(?:\.(?:gz|xz|bz2|zst|zip))?\Z|\.(?:ifczip|stpz)\Z', re.IGNORECASE)
 ZIPS = (b'.zip', b'.ifczip')
+# What is packed. An .stpz is a zip, or else packed by gzip.
+ENDINGS = (*ZIPS, b'.stpz', b'.gz', b'.xz', b'.bz2', b'.zst')
 MEMBER = re.compile(r'\.(?:stp|step|p21|ifc)\Z', re.IGNORECASE)
 # How much longer a file is than it is packed, about; and how many times as long it may be, unless it has no more than so many bytes.
 ABOUT_TIMES, MOST_TIMES, ALWAYS = 8, 200, 1 << 26
@@ -31,7 +35,7 @@ DAMAGES = (gzip.BadGzipFile, lzma.LZMAError, zipfile.BadZipFile, zlib.error, EOF
 
 def is_packed(name: bytes) -> bool:
     """Whether a file of this name has to be unpacked."""
-    return not MEMBER.search(name.decode('latin-1'))
+    return os.path.splitext(name)[1].lower() in ENDINGS
 
 
 def untried(error: Exception) -> Untried:
@@ -129,6 +133,8 @@ class Source:
     def __enter__(self) -> Source:
         try:
             self._stream = self._opener()
+        except Untried:
+            raise
         except (OSError, *DAMAGES) as error:
             raise untried(error) from None
         return self
@@ -196,6 +202,33 @@ def step_files(file: BinaryIO) -> List[zipfile.ZipInfo]:
     return found
 
 
+class Zstd(io.RawIOBase):
+    """The bytes of a file packed by Zstandard, as the program zstd unpacks it."""
+
+    def __init__(self, packed: BinaryIO):
+        super().__init__()
+        try:
+            self._running = subprocess.Popen(['zstd', '-dcq', '--memory=%d' % MOST_DICTIONARY], stdin=packed, stdout=subprocess.PIPE,
+                                             stderr=subprocess.PIPE, env={**os.environ, 'LC_ALL': 'C'})
+        except FileNotFoundError:
+            raise Untried('NoUnpacker', 'The program zstd is not installed.') from None
+
+    def readable(self) -> bool:
+        return True
+
+    def readinto(self, into: memoryview) -> int:
+        count = self._running.stdout.readinto(into)
+        if not count and self._running.wait():
+            raise EOFError(self._running.stderr.read(200).decode(errors='replace').strip() or 'zstd failed')
+        return count
+
+    def close(self) -> None:
+        if not self.closed:
+            self._running.kill()
+            self._running.communicate()
+        super().close()
+
+
 def members(name: str, file: BinaryIO, unpacked: Unpacked) -> Iterator[Source]:
     """Each STEP file of a zip, told by the name of the zip, two slashes and its own."""
     found = step_files(file)
@@ -221,16 +254,26 @@ def unpacked_size(path: bytes, size: int) -> int:
     return max(size, min(told, max(ALWAYS, size * MOST_TIMES)))
 
 
+# What unpacks a file, by its ending.
+UNPACKERS = {
+    b'.gz': lambda packed: gzip.GzipFile(fileobj=packed),
+    b'.xz': lambda packed: io.BufferedReader(Xz(packed)),
+    b'.bz2': bz2.BZ2File,
+    b'.zst': lambda packed: io.BufferedReader(Zstd(packed)),
+}
+
+
 def sources(file: File, bounds: Bounds) -> Iterator[Source]:
     """Each STEP file in what was found."""
     with open_plain(bytes_of(file.source)) as plain:
         size = os.fstat(plain.fileno()).st_size
         suffix = os.path.splitext(bytes_of(file.name))[1].lower()
+        if suffix == b'.stpz':
+            suffix = b'.zip' if plain.read(2) == b'PK' else b'.gz'
+            plain.seek(0)
         if suffix in ZIPS:
             yield from members(file.name, plain, Unpacked(bounds))
-        elif suffix == b'.gz':
-            yield Source(file.name, size, lambda: gzip.GzipFile(fileobj=plain), Unpacked(bounds))
-        elif suffix == b'.xz':
-            yield Source(file.name, size, lambda: io.BufferedReader(Xz(plain)), Unpacked(bounds))
+        elif suffix in UNPACKERS:
+            yield Source(file.name, size, lambda: UNPACKERS[suffix](plain), Unpacked(bounds))
         else:
             yield Source(file.name, size, lambda: plain)
