@@ -1,17 +1,20 @@
-"""The page that shows a run: counts, a drawing of sizes and times, and the files that were not read, with what is wrong."""
+"""The page that shows a run: counts, the files that were not read in groups of which the same is wrong, and a drawing of sizes and times."""
 
 from __future__ import annotations
 
 import collections
 import html
 import math
+import re
 from typing import Dict, Iterable, Iterator, List, NamedTuple, Tuple
 
 from .model import FAULTY, READ, STATUSES, UNTRIED, Finding
 from .tables import FAULTS, RESULTS, escaped, readable, replaced
 
-# The most rows of the table of files; the files tell the rest.
-ROWS = 5000
+# The most files that are shown, and of one group; the tables tell the rest.
+ROWS, ROWS_OF_GROUP = 5000, 500
+# What a sentence has of one file alone.
+OF_ONE_FILE = re.compile(r"'(?:[^']|'')*'|#?\d+")
 # How a person is told a status.
 WORDS = {READ: 'read', FAULTY: 'faulty', UNTRIED: 'not checked'}
 UNITS = ((1e9, 'GB'), (1e6, 'MB'), (1e3, 'kB'), (1, 'B'))
@@ -21,26 +24,52 @@ LEFT, RIGHT, TOP, BOTTOM = 70, 30, 10, 40
 LEAST_SECONDS = 1e-4
 
 STYLE = '''
-body { font: 15px/1.45 system-ui, sans-serif; color: #222; background: #fff; max-width: 1100px; margin: 2em auto; padding: 0 1em }
-a { color: inherit } h1 { font-size: 1.5em } h2 { font-size: 1.15em; margin-top: 2em }
-table { border-collapse: collapse } td, th { padding: .25em .8em .25em 0; text-align: left; vertical-align: top; border-bottom: 1px solid #e4e4e4 }
-.beside { display: flex; flex-wrap: wrap; gap: 0 5em } td.number { text-align: right; font-variant-numeric: tabular-nums }
-pre { margin: .3em 0 0; font-size: 12px; color: #555; overflow-x: auto; max-width: 700px }
-td.file { overflow-wrap: anywhere; min-width: 14em }
-.read { color: #2b6cb0; fill: #2b6cb0 } .faulty { color: #c53030; fill: #c53030 } .untried { color: #975a16; fill: #975a16 }
-text { font-size: 12px; fill: #444 } line { stroke: #ddd }
+:root { color-scheme: light dark; --text: #222; --soft: #555; --back: #fff; --line: #e0e0e0; --read: #2b6cb0; --faulty: #c53030; --untried: #975a16 }
+@media (prefers-color-scheme: dark) {
+  :root { --text: #e4e4e4; --soft: #aaa; --back: #161616; --line: #3a3a3a; --read: #63a4e8; --faulty: #f27878; --untried: #d9a441 }
+}
+body { font: 15px/1.45 system-ui, sans-serif; color: var(--text); background: var(--back); max-width: 1100px; margin: 1.5em auto; padding: 0 1em }
+a { color: inherit } h1 { font-size: 1.5em } h2 { font-size: 1.15em; margin-top: 2em } summary { cursor: pointer; padding: .35em 0; overflow-wrap: anywhere }
+table { border-collapse: collapse } td, th { padding: .25em .8em .25em 0; text-align: left; vertical-align: top; border-bottom: 1px solid var(--line) }
+.beside { display: flex; flex-wrap: wrap; gap: 0 4em } td.number { text-align: right; font-variant-numeric: tabular-nums }
+details { border-bottom: 1px solid var(--line) } details div { margin: 0 0 .6em 1em; overflow-wrap: anywhere }
+pre { margin: .2em 0 0; font-size: 12px; color: var(--soft); overflow-x: auto } .hidden { display: none }
+input { font: inherit; width: 100%; max-width: 30em; box-sizing: border-box; padding: .3em .5em; margin: .3em 0 .8em }
+svg { max-width: 100%; height: auto } text { font-size: 12px; fill: var(--soft) } line { stroke: var(--line) }
+.read { color: var(--read); fill: var(--read) } .faulty { color: var(--faulty); fill: var(--faulty) } .untried { color: var(--untried); fill: var(--untried) }
+'''
+
+# Shows the files and groups alone in which the words of the search field stand.
+SCRIPT = '''
+const field = document.getElementById('search');
+field.addEventListener('input', () => {
+  const words = field.value.toLowerCase().split(/\\s+/).filter(it => it);
+  for (const group of document.querySelectorAll('details')) {
+    const title = group.firstElementChild.textContent.toLowerCase();
+    let found = 0;
+    for (const file of group.querySelectorAll('div')) {
+      const text = title + ' ' + file.textContent.toLowerCase();
+      const has = words.every(it => text.includes(it));
+      file.classList.toggle('hidden', !has);
+      found += has;
+    }
+    group.classList.toggle('hidden', !found);
+  }
+});
 '''
 
 PAGE = '''<!DOCTYPE html>
 <html lang="en">
 <head>
 <meta charset="utf-8">
+<meta name="viewport" content="width=device-width, initial-scale=1">
+<meta http-equiv="Content-Security-Policy" content="default-src 'none'; style-src 'unsafe-inline'; script-src 'unsafe-inline'">
 <title>STEP files: {summary}</title>
 <style>{style}</style>
 </head>
 <body>
 <h1>{summary}</h1>
-<p>{size} in {seconds}. All rows stand in <a href="{results}">{results}</a>, all that is wrong in <a href="{faults}">{faults}</a>.</p>
+<p>{size} in {seconds}. All rows are in <a href="{results}">{results}</a>, all that is wrong in <a href="{faults}">{faults}</a>.</p>
 <div class="beside">
 <div><h2>By status and kind</h2>
 <table>
@@ -48,13 +77,13 @@ PAGE = '''<!DOCTYPE html>
 {kinds}</table></div>
 <div><h2>By schema</h2>
 <table>
-<tr><th>Schema</th><th>Read</th><th>Faulty</th><th>Untried</th></tr>
+<tr><th>Schema</th><th>Read</th><th>Faulty</th><th>Not checked</th></tr>
 {schemas}</table></div>
 </div>
+<h2>What is wrong</h2>
+{faulty}
 <h2>Sizes and times</h2>
 {drawing}
-<h2>Files that were not read</h2>
-{faulty}
 </body>
 </html>
 '''
@@ -93,7 +122,7 @@ def kinds(findings: Iterable[Finding]) -> Iterator[str]:
     """The rows of the table of kinds, the largest number of each status first."""
     counted = collections.Counter((it.status, it.kind) for it in findings)
     for (status, kind), count in sorted(counted.items(), key=lambda it: (STATUSES.index(it[0][0]), -it[1], it[0])):
-        yield '<tr><td class="%s">%s</td><td>%s</td>%s</tr>\n' % (status, status, shown(kind), number(count))
+        yield '<tr><td class="%s">%s</td><td>%s</td>%s</tr>\n' % (status, WORDS[status], shown(kind), number(count))
 
 
 def schemas(findings: Iterable[Finding]) -> Iterator[str]:
@@ -105,21 +134,46 @@ def schemas(findings: Iterable[Finding]) -> Iterator[str]:
         yield '<tr><td>%s</td>%s</tr>\n' % (shown(escaped(schema)) or '(none)', ''.join(number(counted[schema][it]) for it in STATUSES))
 
 
+def shape(finding: Finding) -> Tuple[str, str, str]:
+    """What makes files one group: the status, the kind, and the sentence without what stands for one file alone: numbers, and what is quoted."""
+    return finding.status, finding.kind, OF_ONE_FILE.sub('', finding.sentence)
+
+
 def faulty_row(finding: Finding) -> str:
-    """The row of a file that was not read."""
+    """A file that was not read, as a row of its group."""
     place = '' if finding.line is None else ':%d:%d' % (finding.line, finding.column)
     line = '<pre>%s</pre>' % shown(finding.shown) if finding.shown else ''
-    return '<tr><td class="file">%s%s</td><td class="%s">%s</td><td>%s%s</td></tr>\n' % (
-        shown(escaped(finding.file)), place, finding.status, shown(finding.kind), shown(finding.sentence), line)
+    return '<div>%s%s: %s%s</div>\n' % (shown(escaped(finding.file)), place, shown(finding.sentence), line)
+
+
+def group(rows: List[Finding], files: int) -> str:
+    """Files of which the same is wrong, of which at most so many are shown, below the first of them."""
+    first = rows[0]
+    more = '<p>%d more are in %s.</p>' % (len(rows) - files, FAULTS) if len(rows) > files else ''
+    files_told = '%d file%s%s' % (len(rows), 's' * (len(rows) > 1), ', for example' * any(it.sentence != first.sentence for it in rows))
+    return '<details><summary><span class="%s">%s</span>: %s: %s</summary>\n%s%s</details>\n' % (
+        first.status, shown(first.kind), files_told, shown(first.sentence),
+        ''.join(map(faulty_row, rows[:files])), more)
 
 
 def faulty(findings: List[Finding]) -> str:
-    """The table of the files that were not read."""
-    rows = [it for status in (FAULTY, UNTRIED) for it in findings if it.status == status]
-    if not rows:
-        return '<p>None.</p>'
-    more = '<p>%d more stand in %s.</p>' % (len(rows) - ROWS, FAULTS) if len(rows) > ROWS else ''
-    return '<table>\n<tr><th>File</th><th>Kind</th><th>What is wrong</th></tr>\n%s</table>%s' % (''.join(map(faulty_row, rows[:ROWS])), more)
+    """The files that were not read, in groups, the largest first, the faulty ones before the others."""
+    groups: Dict[Tuple[str, str, str], List[Finding]] = {}
+    for it in findings:
+        if it.status != READ:
+            groups.setdefault(shape(it), []).append(it)
+    if not groups:
+        return '<p>Nothing.</p>'
+    ordered = sorted(groups.values(), key=lambda rows: (STATUSES.index(rows[0].status), -len(rows)))
+    told, left = [], ROWS
+    for rows in ordered:
+        if left <= 0:
+            break
+        told.append(group(rows, min(left, ROWS_OF_GROUP)))
+        left -= min(len(rows), ROWS_OF_GROUP)
+    more = '<p>%d more groups are in %s.</p>' % (len(ordered) - len(told), FAULTS) if len(ordered) > len(told) else ''
+    return '<input id="search" type="search" placeholder="Search files and faults" aria-label="Search files and faults">\n%s%s\n<script>%s</script>' % (
+        ''.join(told), more, SCRIPT)
 
 
 class Scale(NamedTuple):
@@ -169,7 +223,7 @@ def drawing(findings: List[Finding]) -> str:
     """The times of the files that were tried, by their sizes."""
     tried = [(it.bytes, max(it.seconds, LEAST_SECONDS), it.status) for it in findings if it.status != UNTRIED and it.bytes]
     if not tried:
-        return '<p>No file was tried.</p>'
+        return '<p>No file was checked.</p>'
     sizes = Scale.over([it[0] for it in tried], LEFT, WIDTH - LEFT - RIGHT)
     times = Scale.over([it[1] for it in tried], HEIGHT - BOTTOM, TOP + BOTTOM - HEIGHT)
     points = ((sizes.at(it[0]), times.at(it[1]), it[2]) for it in tried)
