@@ -10,11 +10,13 @@ import zipfile
 HERE = pathlib.Path(__file__).resolve().parent
 NAME, VERSION = 'p21', '0.1.0'
 TAG = 'py3-none-linux_x86_64'
+LICENCES = 'LICENSE', 'LICENSE-MIT', 'LICENSE-APACHE', 'THIRD-PARTY.md'
 INFO = '%s-%s.dist-info' % (NAME, VERSION)
-METADATA = """Metadata-Version: 2.1
+METADATA = """Metadata-Version: 2.4
 Name: p21
 Version: %s
 Summary: Reads STEP physical files (ISO 10303-21), checked against the EXPRESS schema that they name
+License-Expression: MIT OR Apache-2.0
 Requires-Python: >=3.9
 """ % VERSION
 WHEEL = 'Wheel-Version: 1.0\nGenerator: p21\nRoot-Is-Purelib: false\nTag: %s\n' % TAG
@@ -33,6 +35,11 @@ def _modules():
     return {'%s/%s' % (NAME, it.name): it.read_bytes() for it in sorted((HERE / NAME).iterdir()) if it.suffix in ('.py', '.typed')}
 
 
+def _licences():
+    """The licence and the notices, which lie in the checkout."""
+    return {INFO + '/licenses/' + it: (HERE.parent / it).read_bytes() for it in LICENCES if (HERE.parent / it).exists()}
+
+
 def _write(folder, files) -> str:
     name = '%s-%s-%s.whl' % (NAME, VERSION, TAG)
     files = {**files, INFO + '/METADATA': METADATA.encode(), INFO + '/WHEEL': WHEEL.encode()}
@@ -47,7 +54,7 @@ def _write(folder, files) -> str:
 
 
 def build_wheel(wheel_directory, config_settings=None, metadata_directory=None):
-    return _write(wheel_directory, {**_modules(), NAME + '/libp21.so': _library()})
+    return _write(wheel_directory, {**_modules(), **_licences(), NAME + '/libp21.so': _library()})
 
 
 def build_sdist(sdist_directory, config_settings=None):
