@@ -69,6 +69,7 @@ def options(words: List[str]) -> argparse.Namespace:
         formatter_class=argparse.RawDescriptionHelpFormatter, allow_abbrev=False)
     parser.add_argument('folders', metavar='FOLDER', nargs='+', help='folder to search for STEP files, or one such file')
     parser.add_argument('--schemas', metavar='FOLDER', required=True, help='folder with the EXPRESS schemas, *.exp')
+    parser.add_argument('--rules', action='store_true', help='also check rules UNIQUE and INVERSE attributes, as p21check --rules does')
     parser.add_argument('--limit', metavar='SIZE', type=size, default=Bounds.bytes, help='most bytes that a compressed file may have when it is decompressed, as 500M or 8G [default: 4G]')
     parser.add_argument('--seconds', metavar='N', type=count, default=Bounds.seconds, help='most seconds for one file [default: %(default)s]')
     parser.add_argument('--jobs', metavar='N', type=count, help='number of files to check at a time on each machine [default: its number of processors]')
@@ -136,14 +137,14 @@ def begun(run: Run, asked: Asked, wanted: argparse.Namespace) -> Plan:
 def planned(run: Run, wanted: argparse.Namespace) -> Plan:
     """The plan of the run: one that begins here, or the one that is taken up."""
     asked = Asked([text_of(os.path.abspath(os.fsencode(it))) for it in wanted.folders], text_of(os.path.abspath(os.fsencode(wanted.schemas))),
-                  list(wanted.part), wanted.transfer, Bounds(wanted.limit, wanted.seconds))
+                  list(wanted.part), wanted.transfer, Bounds(wanted.limit, wanted.seconds), wanted.rules)
     if not run.is_begun():
         return begun(run, asked, wanted)
     if not wanted.resume:
         raise Refused('%s has a run: --resume goes on with it' % run.folder)
     made = run.plan()
     if made.asked != asked:
-        raise Refused('%s has a run of other folders, schemas, parts or bounds, or with files sent otherwise' % run.folder)
+        raise Refused('%s has a run with other arguments or options' % run.folder)
     return made
 
 

@@ -101,13 +101,14 @@ def explain(finding: Finding, explanation: str) -> None:
 
 @dataclasses.dataclass
 class Batch:
-    """Files for one worker, by how many lanes it reads each, where 0 stands for as many as it has processors, and what each may take. One that is sent
-    has its files in its folder."""
+    """Files for one worker, by how many lanes it reads each, where 0 stands for as many as it has processors, what each may take, and whether it is looked
+    at by the rules of its schema. One that is sent has its files in its folder."""
 
     lanes: int
     files: List[File]
     bounds: Bounds
     is_sent: bool = False
+    by_rules: bool = False
 
     def write(self, folder: str) -> None:
         """Puts the batch into its folder."""

@@ -29,14 +29,15 @@ class Refused(Exception):
 
 @dataclasses.dataclass
 class Asked:
-    """What was asked for: the folders to look through, that of the schemas, which part of the files, whether they are sent to hosts, and what each
-    may take."""
+    """What was asked for: the folders to look through, that of the schemas, which part of the files, whether they are sent to hosts, what each may take, and
+    whether they are looked at by the rules of their schemas."""
 
     folders: List[str]
     schemas: str
     part: List[int]
     transfer: bool
     bounds: Bounds
+    rules: bool
 
 
 @dataclasses.dataclass
@@ -135,7 +136,7 @@ class Run:
         great, others = plan(search.files, jobs, asked.bounds)
         names = ['batches/%06d' % it for it in range(1, len(great) + len(others) + 1)]
         for name, batch in zip(names, great + others):
-            batch.is_sent = asked.transfer
+            batch.is_sent, batch.by_rules = asked.transfer, asked.rules
             self._lay_batch(name, batch)
         size = sum(it.bytes for it in search.files)
         made = Plan(asked, len(search.files), size, names[:len(great)], names[len(great):], search.refused + refused, search.ignored,

@@ -110,13 +110,14 @@ def tell(finding: Finding, ran: Ran) -> None:
 
 class Worker:
     """Finds what is wrong with files, by so many lanes and these schemas, a path for each name, within bounds: by libp21 where one lane reads a file that
-    may be held whole, else by p21check."""
+    may be held whole, and its rules are not asked for, else by p21check."""
 
-    def __init__(self, lanes: int, schemas: Dict[str, str], bounds: Bounds):
+    def __init__(self, lanes: int, schemas: Dict[str, str], bounds: Bounds, by_rules: bool):
         self.lanes = lanes
         self.schemas = schemas
         self.bounds = bounds
-        self.library = Library() if lanes == 1 else None
+        self.more = ['--rules'] * by_rules
+        self.library = Library() if lanes == 1 and not by_rules else None
 
     def path(self, schema: str) -> str:
         """The path of the schema of this name; where a file names none any will do, since whatever is wrong with a file before its schema is
@@ -144,7 +145,7 @@ class Worker:
             if len(front) <= WHOLE:
                 self.library.tell(finding, path, front)
                 return
-        ran = run([PROGRAM, path, '-', '--explain=1', '--lanes', str(self.lanes)], front, source, self.bounds.seconds)
+        ran = run([PROGRAM, path, '-', '--explain=1', '--lanes', str(self.lanes), *self.more], front, source, self.bounds.seconds)
         if not finding.schema and (ran.status == 3 or WRONG_SCHEMA.encode() in ran.report):
             raise Untried.no_schema_name()
         tell(finding, ran)
@@ -172,7 +173,7 @@ def main(words: List[str]) -> int:
     batch = Batch.read(folder)
     with open(SCHEMAS, encoding='ascii') as file:
         schemas = json.load(file)
-    worker = Worker(batch.lanes or min(MOST_LANES, processors()), schemas, batch.bounds)
+    worker = Worker(batch.lanes or min(MOST_LANES, processors()), schemas, batch.bounds, batch.by_rules)
     found = [it for file in batch.files for it in worker.findings(file)]
     findings = Findings(os.path.basename(folder), len(batch.files), sum(it.bytes for it in batch.files), found)
     sys.stdout.write(findings.to_line())
