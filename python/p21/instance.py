@@ -1,6 +1,6 @@
 """Instances, and the values of their attributes."""
 
-from typing import TYPE_CHECKING, Any, Callable, Dict, Iterator, Optional, Tuple, Type, Union
+from typing import TYPE_CHECKING, Any, Callable, Dict, Iterator, List, Optional, Tuple, Type, Union
 
 from . import _library as library
 from ._library import room
@@ -46,7 +46,7 @@ class Typed:
         return hash((self._type, self.wrappedValue))
 
     def __repr__(self):
-        return "%s(%r)" % (self._type, self.wrappedValue)
+        return "%s(%s)" % (self._type, _shown(self.wrappedValue))
 
 
 def value_at(model, place: int, record, depth: int, step: int) -> Value:
@@ -60,7 +60,7 @@ def value_at(model, place: int, record, depth: int, step: int) -> Value:
     if kind == _STRING or kind == _ENUMERATION:
         return text[: view.length].decode("utf-8", "replace") if view.length <= size else _text(model, place, record, depth)
     if kind == _REFERENCE:
-        return model.by_id(view.number)
+        return model._named(view.number)
     if kind == _REAL:
         return view.real
     if kind == _LIST:
@@ -69,7 +69,7 @@ def value_at(model, place: int, record, depth: int, step: int) -> Value:
     if kind <= library.DERIVED:
         return None
     if kind == library.INTEGER:
-        return view.integer if view.exact else int(_text(model, place, record, depth))
+        return view.integer if view.exact else _integer(_text(model, place, record, depth))
     if kind == library.LOGICAL:
         return _LOGICAL[view.number]
     if kind == library.BINARY:
@@ -88,17 +88,33 @@ def _text(model, place, record, depth) -> str:
     return room.bytes[:length].decode("utf-8", "replace")
 
 
+# More digits than this int() and repr() may refuse.
+_DIGITS = 4000
+
+
+def _integer(text: str) -> int:
+    """The integer of a text, however many digits it has."""
+    if len(text) <= _DIGITS:
+        return int(text)
+    if text[0] in "+-":
+        return -_integer(text[1:]) if text[0] == "-" else _integer(text[1:])
+    behind = len(text) // 2
+    return _integer(text[:-behind]) * 10**behind + _integer(text[-behind:])
+
+
 def _bits(digits: str, count: int) -> str:
     """The bits of a binary: its digits but the first, without the padding in front."""
     return bin(int("1" + digits[1:], 16))[3:][-count:] if count else ""
 
 
 def _shown(value: Value) -> str:
-    """A value in the text of its instance: of a reference only the name."""
+    """A value in the text of its instance: of a reference only the name; an integer that is too long for repr() to the base 16."""
     if isinstance(value, Instance):
         return "#%d" % value.id
     if isinstance(value, tuple):
         return "(%s)" % ",".join(_shown(it) for it in value)
+    if isinstance(value, int) and value.bit_length() > 3 * _DIGITS:
+        return hex(value)
     return repr(value)
 
 
@@ -140,8 +156,10 @@ class Instance:
         other = model._entity(name)
         return other is not None and any(model._is_a(entity, other) for entity in model._entities_of(self._place))
 
-    def __getitem__(self, key: Union[int, str]) -> Value:
-        """An attribute by its place, or by its name."""
+    def __getitem__(self, key: Union[int, str, slice]) -> Union[Value, List[Value]]:
+        """An attribute by its place, or by its name; a list of those at the places of a slice."""
+        if isinstance(key, slice):
+            return [read(self) for read in self._readers[key]]
         read = self._attributes[key] if isinstance(key, str) else self._readers[key]
         return read(self)
 

@@ -2,6 +2,7 @@
 
 import array
 import ctypes
+import operator
 from typing import Dict, Iterator, List, Optional, Tuple, Type, Union
 
 from . import _library as library
@@ -12,6 +13,15 @@ from .instance import Instance, class_of
 
 # What stands for the entity of a complex instance.
 _NO_ENTITY = (1 << 64) - 1
+
+
+def _number(key) -> Optional[int]:
+    """The number that a key is; None where it can be that of no instance."""
+    try:
+        number = operator.index(key)
+    except TypeError:
+        return None
+    return number if 0 <= number < 1 << 64 else None
 
 
 class Model:
@@ -52,19 +62,28 @@ class Model:
 
     def __getitem__(self, key: Union[int, str]) -> Instance:
         """The instance of a number, or of a GlobalId; KeyError if there is none."""
+        if isinstance(key, slice):
+            raise TypeError("a model has no slices: its instances go by their numbers, as in model[767], or by their GlobalIds")
         try:
             return self.by_guid(key) if isinstance(key, str) else self.by_id(key)
         except RuntimeError:
             raise KeyError(key) from None
 
     def __contains__(self, key) -> bool:
-        return library.number(library.find, self._open(), int(key.id if isinstance(key, Instance) else key)) is not None
+        """Whether this is an instance of the model, or the number or the GlobalId of one."""
+        if isinstance(key, Instance):
+            return key._model is self
+        if isinstance(key, str):
+            return key in self._by_guid()
+        number = _number(key)
+        return number is not None and library.number(library.find, self._open(), number) is not None
 
     def by_id(self, number: int) -> Instance:
         """The instance of a number: 767 for #767; RuntimeError if there is none."""
-        if library.find(self._handle or self._open(), number, room.number_at):
-            raise RuntimeError("there is no instance #%d" % number)
-        return self._at(room.number.value)
+        found = _number(number)
+        if found is None:
+            raise RuntimeError("there is no instance #%s" % (number,))
+        return self._named(found)
 
     def by_type(self, name: str, include_subtypes: bool = True) -> List[Instance]:
         """The instances of the entity of this name, and of its subtypes; RuntimeError if the schema has no such entity."""
@@ -75,18 +94,15 @@ class Model:
 
     def by_guid(self, guid: str) -> Instance:
         """The instance with this GlobalId; RuntimeError if there is none."""
-        if self._guids is None:
-            self._guids = {}
-            for instance in self:
-                if "GlobalId" in instance._attributes:
-                    self._guids.setdefault(instance.GlobalId, instance._place)
-        if guid not in self._guids:
+        place = self._by_guid().get(guid)
+        if place is None:
             raise RuntimeError("there is no instance with the GlobalId %s" % guid)
-        return self._at(self._guids[guid])
+        return self._at(place)
 
     def inverse(self, of: Union[int, Instance]) -> List[Instance]:
         """The instances that refer to this one, by itself or by its number."""
-        return self._all(library.next_naming, library.u64(int(of.id if isinstance(of, Instance) else of)))
+        number = _number(of.id if isinstance(of, Instance) else of)
+        return [] if number is None else self._all(library.next_naming, library.u64(number))
 
     get_inverse = inverse
 
@@ -125,6 +141,22 @@ class Model:
             found.append(self._at(place.value))
             place.value += 1
         return found
+
+    def _named(self, number: int) -> Instance:
+        """The instance of a number of 64 bits."""
+        if library.find(self._handle or self._open(), number, room.number_at):
+            raise RuntimeError("there is no instance #%d" % number)
+        return self._at(room.number.value)
+
+    def _by_guid(self) -> Dict[str, int]:
+        """The place of the first instance of each GlobalId."""
+        self._open()
+        if self._guids is None:
+            self._guids = {}
+            for instance in self:
+                if "GlobalId" in instance._attributes:
+                    self._guids.setdefault(instance.GlobalId, instance._place)
+        return self._guids
 
     def _entity(self, name: str) -> Optional[int]:
         if name not in self._by_name:
@@ -170,10 +202,12 @@ class Model:
         return self._classes[key]
 
     def _places(self, entities: tuple, own: int) -> Dict[str, Tuple[int, int]]:
-        """The record and the position of each attribute, by its name; where own is 1, of the own attributes of the entity of each record."""
-        places = {}
+        """The record and the position of each attribute, by its name; where own is 1, of the own attributes of the entity of each record. An own
+        attribute with the name of one in a record before it has that of its entity in front, as the library has it in one record."""
+        places: Dict[str, Tuple[int, int]] = {}
         for record, entity in enumerate(entities):
             for position in range(library.number(library.attribute_count, self._open(), entity, own)):
                 name = library.text(library.attribute_name, self._open(), entity, own, position)
-                places[name] = record, position
+                taken = name.lower() in (it.lower() for it in places)
+                places["%s.%s" % (self._entity_name(entity), name) if taken else name] = record, position
         return places

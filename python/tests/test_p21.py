@@ -29,6 +29,12 @@ ENTITY Red SUPERTYPE OF (Round); Shade : Label; END_ENTITY;
 ENTITY Round SUBTYPE OF (Red); Radius : Length; END_ENTITY;
 ENTITY Product; id : STRING; Notes : LIST OF STRING; END_ENTITY;
 ENTITY Nested; Levels : %s INTEGER; END_ENTITY;
+ENTITY Link; Owner : SELECTED; Number : INTEGER; END_ENTITY;
+TYPE SELECTED = SELECT (Links); END_TYPE;
+TYPE Links = LIST OF Link; END_TYPE;
+ENTITY Thing SUPERTYPE OF (Left ANDOR Right); END_ENTITY;
+ENTITY Left SUBTYPE OF (Thing); Mark : INTEGER; END_ENTITY;
+ENTITY Right SUBTYPE OF (Thing); mark : STRING; END_ENTITY;
 END_SCHEMA;
 """ % (b'LIST OF ' * 63)
 
@@ -103,6 +109,40 @@ class Package(unittest.TestCase):
             wall.Name = 'other'
         product = self.schema.read_bytes(of_data(b"#5=PRODUCT('P-1',());"))[5]
         self.assertEqual((product.id, product['id'], product[0], product.get_info()['id']), (5, 'P-1', 'P-1', 5))
+
+    def test_records_with_one_name(self):
+        """Of two records of a complex instance the second has the name of its entity in front."""
+        both = self.schema.read_bytes(of_data(b"#5=(LEFT(1)RIGHT('r')THING());"))[5]
+        self.assertEqual(both.attributes(), {'Mark': 1, 'Right.mark': 'r'})
+        self.assertEqual((len(both), list(both)), (2, [1, 'r']))
+
+    def test_references_in_typed_values(self):
+        """What is printed of an instance has of another the name alone."""
+        model = self.schema.read_bytes(of_data(b'#1=LINK(LINKS((#1,#2)),1);#2=LINK(LINKS((#1,#2)),2);'))
+        self.assertEqual(repr(model[1]), '#1=Link(Links((#1,#2)),1)')
+        self.assertEqual(repr(model[1].Owner), 'Links((#1,#2))')
+
+    def test_long_integers(self):
+        """An integer of more digits than Python reads at once."""
+        digits = b'1234567890' * 1000
+        for sign, factor in ((b'', 1), (b'-', -1), (b'+', 1)):
+            door = self.schema.read_bytes(of_data(b"#5=DOOR('',$,$,%s%s,$,());" % (sign, digits)))[5]
+            self.assertEqual(door.Panels, factor * 1234567890 * ((10**10000 - 1) // (10**10 - 1)))
+            self.assertIn('0x', repr(door))
+
+    def test_keys(self):
+        model = self.model
+        self.assertTrue('guid-10' in model and 'guid-13' not in model and model[10] in model)
+        self.assertFalse(any(key in model for key in (1.5, 10.5, None, (10,), -1, (1 << 64) + 10, 1 << 64)))
+        for key in (-1, 1 << 64, (1 << 64) + 10, 1.5, None, 'guid-13'):
+            self.assertRaises(KeyError, lambda: model[key])
+        self.assertRaises(RuntimeError, model.by_id, (1 << 64) + 10)
+        self.assertEqual(model.inverse((1 << 64) + 12), [])
+        self.assertNotIn(self.schema.read_bytes(FILE)[10], model)
+        self.assertRaises(TypeError, lambda: model[1:3])
+        self.assertEqual((model[10][0:2], model[10][-1:]), (['guid-10', 'Wand-ä'], [True]))
+        self.assertRaises(IndexError, lambda: model[10][6])
+        self.assertRaises(KeyError, lambda: model[10]['Width'])
 
     def test_long_texts(self):
         """Texts that are longer than the room for them was, among others."""
