@@ -3,7 +3,6 @@
 import ctypes
 import os
 import pathlib
-import threading
 
 OK, FAULT, NONE, MEMORY, HANDLE = range(5)
 ABSENT, DERIVED, INTEGER, REAL, STRING, ENUMERATION, LOGICAL, BINARY, REFERENCE, LIST, TYPED = range(11)
@@ -83,10 +82,24 @@ _free = ctypes.CDLL(None).free
 _free.argtypes, _free.restype = (_PLACE,), None
 
 
-def free(handle) -> None:
-    """Lets go of a schema or a model."""
-    _clear(handle)
-    _free(handle)
+class Handle(_PLACE):
+    """A schema or a model of the library, with what it reads where that is. It goes when nothing refers to it any more: a call that uses it does, so that
+    whoever closes a model only forgets its handle."""
+
+    def __init__(self, place: int, *read):
+        super().__init__(place)
+        self._read = read
+
+    def __del__(self, clear=_clear, free=_free):
+        clear(self)
+        free(self)
+
+
+class Kept:
+    """What holds a handle, of which there is one, so that it cannot be copied."""
+
+    def __reduce_ex__(self, _):
+        raise TypeError("a %s cannot be copied or pickled" % type(self).__name__)
 
 
 # A path has a step for each parenthesis that is open where the value stands, of which a file may have so many; and its size by the depth of its last step.
@@ -94,8 +107,8 @@ STEPS = 64
 SIZES = [_size(depth + 1) for depth in range(STEPS)]
 
 
-class Room(threading.local):
-    """Room for what a call hands out, and for the path of a value, each thread's own."""
+class Room:
+    """Room for what a call hands out, and for the path of a value."""
 
     def __init__(self):
         self.number = _U64()
@@ -115,22 +128,40 @@ class Room(threading.local):
         self.all = self.value, self._path, self.bytes, size, self.path_at, *self.text_and_view
 
 
-room = Room()
+# Rooms that no call uses. Each call takes one and gives it back, so that a call of another thread, or of a signal handler, has its own.
+_rooms = [Room()]
+
+
+def take() -> Room:
+    """A room that no other call uses."""
+    try:
+        return _rooms.pop()
+    except IndexError:
+        return Room()
+
+
+give = _rooms.append
 
 
 def text(call, *words) -> str:
     """The text that a call hands out."""
+    room = take()
     while call(*words, room.bytes_at, room.size, room.number_at) == OK:
         length = room.number.value
         if length <= room.size:
-            return room.bytes[:length].decode("utf-8", "replace")
+            told = room.bytes[:length].decode("utf-8", "replace")
+            give(room)
+            return told
         room.fit(length)
     raise LookupError
 
 
 def number(call, *words):
     """The number that a call hands out; None where there is none."""
-    return room.number.value if call(*words, room.number_at) == OK else None
+    room = take()
+    told = room.number.value if call(*words, room.number_at) == OK else None
+    give(room)
+    return told
 
 
 def version() -> str:

@@ -45,6 +45,9 @@ class SchemaFault(Error):
         super().__init__("schema fault: %s at %d" % (kind, at))
         self.kind, self.at = kind, at
 
+    def __reduce__(self):
+        return SchemaFault, (self.kind, self.at)
+
 
 class Fault(Error):
     """The first fault of a file.
@@ -64,6 +67,9 @@ class Fault(Error):
         self.explanation: str = explanation
         place = re.search(r":(\d+):(\d+): fault at ", explanation)
         self.line, self.column = (int(place[1]), int(place[2])) if place else (None, None)
+
+    def __reduce__(self):
+        return Fault, (self.kind, self.at, self.record, self.attribute, self.name, self.explanation)
 
 
 def fault_of(view, explanation: str) -> Fault:

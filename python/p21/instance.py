@@ -3,12 +3,11 @@
 from typing import TYPE_CHECKING, Any, Callable, Dict, Iterator, List, Optional, Tuple, Type, Union
 
 from . import _library as library
-from ._library import room
 
 Value = Union[None, int, float, str, bool, Tuple[Any, ...], "Instance", "Typed"]
 
 _LOGICAL = (False, True, "UNKNOWN")
-_value, _SIZES = library.value, library.SIZES
+_value, _SIZES, _take, _give = library.value, library.SIZES, library.take, library.give
 _STRING, _ENUMERATION, _REFERENCE, _REAL, _LIST = library.STRING, library.ENUMERATION, library.REFERENCE, library.REAL, library.LIST
 
 
@@ -49,8 +48,8 @@ class Typed:
         return "%s(%s)" % (self._type, _shown(self.wrappedValue))
 
 
-def value_at(model, place: int, record, depth: int, step: int) -> Value:
-    """The value in a record to which this step leads, after those to that depth which are in this thread's path."""
+def value_at(room, model, place: int, record, depth: int, step: int) -> Value:
+    """The value in a record to which this step leads, after those to that depth which are in the room's path."""
     view, path, text, size, path_at, text_at, size_of_text, view_at = room.all
     path[depth] = step
     code = _value(model._handle, place, record, path_at, _SIZES[depth], text_at, size_of_text, view_at)
@@ -58,28 +57,28 @@ def value_at(model, place: int, record, depth: int, step: int) -> Value:
         model._refuse(code)
     kind = view.kind
     if kind == _STRING or kind == _ENUMERATION:
-        return text[: view.length].decode("utf-8", "replace") if view.length <= size else _text(model, place, record, depth)
+        return text[: view.length].decode("utf-8", "replace") if view.length <= size else _text(room, model, place, record, depth)
     if kind == _REFERENCE:
         return model._named(view.number)
     if kind == _REAL:
         return view.real
     if kind == _LIST:
         inner = depth + 1
-        return tuple([value_at(model, place, record, inner, index) for index in range(view.number)])
+        return tuple([value_at(room, model, place, record, inner, index) for index in range(view.number)])
     if kind <= library.DERIVED:
         return None
     if kind == library.INTEGER:
-        return view.integer if view.exact else _integer(_text(model, place, record, depth))
+        return view.integer if view.exact else _integer(_text(room, model, place, record, depth))
     if kind == library.LOGICAL:
         return _LOGICAL[view.number]
     if kind == library.BINARY:
         bits = view.number
-        return _bits(_text(model, place, record, depth), bits)
-    name = _text(model, place, record, depth)
-    return Typed(name, value_at(model, place, record, depth + 1, 0))
+        return _bits(_text(room, model, place, record, depth), bits)
+    name = _text(room, model, place, record, depth)
+    return Typed(name, value_at(room, model, place, record, depth + 1, 0))
 
 
-def _text(model, place, record, depth) -> str:
+def _text(room, model, place, record, depth) -> str:
     """The text of the value that was asked for last."""
     length = room.value.length
     if length > room.size:
@@ -123,7 +122,10 @@ def _reader(record: int, position: int) -> Callable[["Instance"], Value]:
     number = library.u64(record)
 
     def read(instance):
-        return value_at(instance._model, instance._place, number, 0, position)
+        room = _take()
+        value = value_at(room, instance._model, instance._place, number, 0, position)
+        _give(room)
+        return value
 
     return read
 

@@ -6,7 +6,6 @@ import operator
 from typing import Dict, Iterator, List, Optional, Tuple, Type, Union
 
 from . import _library as library
-from ._library import room
 from .errors import Error, OutOfMemory
 from .instance import Instance, class_of
 
@@ -24,17 +23,16 @@ def _number(key) -> Optional[int]:
     return number if 0 <= number < 1 << 64 else None
 
 
-class Model:
+class Model(library.Kept):
     """The instances of a file that conforms to its schema, in the order of the file."""
 
-    def __init__(self, handle, schema, data: bytes):
-        # The library reads the schema and the bytes where they are, so they live as long as the model.
-        self._handle, self._schema, self._data = library.pointer(handle), schema, data
+    def __init__(self, handle: library.Handle):
+        self._handle: Optional[library.Handle] = handle
         count = library.number(library.count, handle)
         self._names = array.array("Q", bytes(8 * count))
         self._entities = array.array("Q", bytes(8 * count))
         names, entities = self._names.buffer_info(), self._entities.buffer_info()
-        library.instances(handle, 0, *names, *entities, room.number_at)
+        library.number(library.instances, handle, 0, *names, *entities)
         self._by_name: Dict[str, Optional[int]] = {}
         self._spelled: Dict[int, str] = {}
         self._below: Dict[tuple, bool] = {}
@@ -107,20 +105,14 @@ class Model:
     get_inverse = inverse
 
     def close(self) -> None:
-        """Lets go of the model. Its instances may not be used any more."""
-        if self._handle is not None:
-            library.free(self._handle)
-            self._handle = None
+        """Lets go of the model, once the calls of other threads are over that use it. Its instances may not be used any more."""
+        self._handle = None
 
     def __enter__(self) -> "Model":
         return self
 
     def __exit__(self, *_) -> None:
         self.close()
-
-    def __del__(self):
-        if getattr(self, "_handle", None) is not None:
-            self.close()
 
     # ---- what the package calls
 
@@ -144,9 +136,10 @@ class Model:
 
     def _named(self, number: int) -> Instance:
         """The instance of a number of 64 bits."""
-        if library.find(self._handle or self._open(), number, room.number_at):
+        place = library.number(library.find, self._handle or self._open(), number)
+        if place is None:
             raise RuntimeError("there is no instance #%d" % number)
-        return self._at(room.number.value)
+        return self._at(place)
 
     def _by_guid(self) -> Dict[str, int]:
         """The place of the first instance of each GlobalId."""

@@ -11,12 +11,11 @@ from .model import Model
 Path = Union[str, "os.PathLike[str]"]
 
 
-class Schema:
+class Schema(library.Kept):
     """An EXPRESS schema, against which files are checked."""
 
     def __init__(self, text: bytes):
         """Reads the text of a schema; raises SchemaFault if it is refused."""
-        self._handle = None
         handle, fault = ctypes.c_void_p(), library.FaultView()
         key = int.from_bytes(os.urandom(8), "little")
         code = library.schema_read(text, len(text), key, ctypes.addressof(handle), ctypes.addressof(fault))
@@ -24,7 +23,7 @@ class Schema:
             raise SchemaFault(KINDS.get(fault.kind, str(fault.kind)), fault.at)
         if code != library.OK:
             raise OutOfMemory("the schema")
-        self._handle = handle.value
+        self._handle = library.Handle(handle.value)
 
     @classmethod
     def open(cls, path: Path) -> "Schema":
@@ -48,12 +47,7 @@ class Schema:
             raise fault_of(fault, library.text(library.explain, *words))
         if code != library.OK:
             raise OutOfMemory("the model")
-        return Model(handle.value, self, data)
-
-    def __del__(self):
-        if getattr(self, "_handle", None) is not None:
-            library.free(self._handle)
-            self._handle = None
+        return Model(library.Handle(handle.value, self._handle, data))
 
 
 _open = open

@@ -1,10 +1,17 @@
 """Tries the package over a small schema and file: python -m unittest discover -s python/tests"""
 
+import copy
 import gc
+import multiprocessing
+import os
 import pathlib
+import pickle
+import random
+import signal
 import sys
 import tempfile
 import threading
+import time
 import unittest
 
 sys.path.insert(0, str(pathlib.Path(__file__).resolve().parent.parent))
@@ -62,6 +69,23 @@ END-ISO-10303-21;
 def of_data(instances):
     """A file with these instances."""
     return FILE[: FILE.index(b'#1=')] + instances + b'\n' + FILE[FILE.index(b'ENDSEC;\nEND-ISO') :]
+
+
+def instances_in(data):
+    """How many instances a file has, as another process counts them."""
+    return len(p21.Schema(SCHEMA).read_bytes(data))
+
+
+def read_until_closed(model, wrong):
+    """Reads of a model until it is closed, and tells whatever else happens."""
+    try:
+        while True:
+            model.reference_count(), model.inverse(7), model.by_type('Door'), model[5].GlobalId, model[6].is_a('Door')
+    except p21.Error as error:
+        if str(error) != 'the model is closed':
+            wrong.append(error)
+    except BaseException as error:
+        wrong.append(error)
 
 
 class Package(unittest.TestCase):
@@ -143,6 +167,63 @@ class Package(unittest.TestCase):
         self.assertEqual((model[10][0:2], model[10][-1:]), (['guid-10', 'Wand-ä'], [True]))
         self.assertRaises(IndexError, lambda: model[10][6])
         self.assertRaises(KeyError, lambda: model[10]['Width'])
+
+    def test_close_beside_calls(self):
+        """A model that is closed while other threads read of it goes when their calls are over, and each later call says that it is closed."""
+        text = of_data(b''.join(b"#%d=DOOR('guid-%d',$,$,1,$,());" % (it, it) for it in range(1, 2001)))
+        for _ in range(20):
+            model, wrong = self.schema.read_bytes(text), []
+            threads = [threading.Thread(target=read_until_closed, args=(model, wrong)) for _ in range(3)]
+            for thread in threads:
+                thread.start()
+            time.sleep(random.random() / 50)
+            model.close()
+            for thread in threads:
+                thread.join()
+            self.assertEqual(wrong, [])
+
+    def test_no_copies(self):
+        """A schema or a model is not copied, since there is one of it in the library."""
+        for it in (self.schema, self.model):
+            for copied in (copy.copy, copy.deepcopy, pickle.dumps):
+                self.assertRaisesRegex(TypeError, 'cannot be copied or pickled', copied, it)
+        self.assertRaises((TypeError, pickle.PicklingError), pickle.dumps, self.model[10])
+        self.assertEqual(self.model[10].Name, 'Wand-ä')
+
+    def test_faults_are_pickled(self):
+        """A fault reaches another process whole."""
+        for read in (lambda: self.schema.read_bytes(b'nothing', 'x.stp'), lambda: p21.Schema(b'nothing')):
+            with self.assertRaises(p21.Error) as caught:
+                read()
+            other = pickle.loads(pickle.dumps(caught.exception))
+            self.assertEqual((type(other), str(other), vars(other)), (type(caught.exception), str(caught.exception), vars(caught.exception)))
+        with multiprocessing.get_context('fork').Pool(2) as pool:
+            self.assertRaises(p21.Fault, pool.map, instances_in, [FILE, b'nothing'])
+
+    def test_signals_beside_calls(self):
+        """A handler that reads while a read is under way changes none of its values."""
+        wanted = [list(it) for it in self.model]
+
+        def read(*_):
+            self.assertEqual([list(it) for it in self.model], wanted)
+
+        before = signal.signal(signal.SIGALRM, read)
+        signal.setitimer(signal.ITIMER_REAL, 0.0005, 0.0005)
+        try:
+            for _ in range(300):
+                read()
+        finally:
+            signal.setitimer(signal.ITIMER_REAL, 0)
+            signal.signal(signal.SIGALRM, before)
+
+    def test_fork(self):
+        """A process that is forked reads of the models that there were."""
+        wanted = list(self.model[10])
+        child = os.fork()
+        if not child:
+            is_right = list(self.model[10]) == wanted and len(self.schema.read_bytes(FILE)) == len(self.model)
+            os._exit(0 if is_right else 1)
+        self.assertEqual(os.waitpid(child, 0)[1], 0)
 
     def test_long_texts(self):
         """Texts that are longer than the room for them was, among others."""
