@@ -1,7 +1,7 @@
 //! An export into a database.
 
 use crate::beside::{Beside, log_name};
-use crate::program::{is_no_file, refused};
+use crate::command_line::{is_no_file, refused};
 use crate::words::{PROGRAM, Wanted};
 use p21_database::{Database, io_error};
 use p21_export::{How, Outcome, Source, Stream};

@@ -1,4 +1,4 @@
-//! The program, over its words.
+//! The program, over its arguments.
 
 use crate::beside::Beside;
 use crate::database::export_database;
@@ -15,17 +15,17 @@ use std::thread::Threads;
 use std::time::Clock;
 
 /// What the system gives a run besides files, threads and the clock.
-pub(crate) struct Around<'a, I, O, E> {
-    pub(crate) input: &'a mut I,
-    pub(crate) output: &'a mut O,
-    pub(crate) errors: &'a mut E,
+pub struct Around<'a, I, O, E> {
+    pub input: &'a mut I,
+    pub output: &'a mut O,
+    pub errors: &'a mut E,
     /// Whether the errors are a terminal.
-    pub(crate) is_terminal: bool,
+    pub is_terminal: bool,
 }
 
 /// Does what the words ask for, and answers the status to end with. How far it is is told on a line of `progress`. `host` is `rt` for
 /// the writer of databases, which takes no other.
-pub(crate) fn program<R, I, O, E, P>(
+pub fn program<R, I, O, E, P>(
     rt: &R,
     host: &HostRuntime,
     alloc: Global,
@@ -71,7 +71,7 @@ where
 }
 
 /// What the program ends with where its words could not be read.
-pub(crate) fn unreadable_words<E: Write>(errors: &mut E) -> u8 {
+pub fn unreadable_words<E: Write>(errors: &mut E) -> u8 {
     let _ = writeln!(
         errors,
         "p21export: invalid UTF-8 was detected in one or more arguments"
