@@ -7,7 +7,7 @@ use Rattle.std.proofs.lemmas.List.{append-nil, get_or_append_left, get_or_past, 
 use Rattle.std.proofs.lemmas.Slice.Eq.{bytes_eq-Decides}
 use Rattle.p21_express.specs.Schema.{Schema, Entity, Attribute}
 use Rattle.p21_express.specs.WellFormed.{Origin, new_explicit, with_new}
-use Rattle.p21_schema.specs.Place.{no_entity, entity_at, entity_name, IsEntityOf}
+use Rattle.p21_schema.specs.Place.{no_entity, entity_name}
 use Rattle.p21_schema.specs.Row.{attributes_of, own_attributes}
 use Rattle.p21_schema.specs.declared.ids.EntityId.{EntityId}
 use Rattle.p21_schema.specs.Row.{IsRow}

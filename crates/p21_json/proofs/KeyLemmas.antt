@@ -1,15 +1,14 @@
 -- The keys of the attributes of a record differ.
-use Rattle.std.proofs.Common.{◌≡◌, ◌≢◌, ◌⊎◌, ◌<◌, ◌≤◌, ℕ, zero, suc, Bool, true, false, List, [], ◌∷◌, ◌++◌, Option, Some, None, map, refl, sym, ap, subst, ◌∙◌, inl, inr, ⊎_elim, arith}
+use Rattle.std.proofs.Common.{◌≡◌, ◌⊎◌, ◌≤◌, ℕ, zero, suc, Bool, true, false, List, [], ◌∷◌, ◌++◌, Some, map, refl, sym, ap, subst, ◌∙◌, inl, inr, ⊎_elim, arith}
 use Rattle.std.specs.Prelude.{◌||◌, if◌then◌else◌, not, slice_get, take}
 use Rattle.std.specs.List.{AllByRecursion, filter}
 use Rattle.std.specs.Str.{bytes_eq}
 use Rattle.std.proofs.lemmas.Bool.{cases_Bool, false≢true}
 use Rattle.std.proofs.lemmas.Slice.Eq.{bytes_eq-Decides}
-use Rattle.std.proofs.lemmas.List.{append_assoc, append-nil}
 use Rattle.p21_text.specs.Spelling.{IsName, IsUpper, IsDigit}
 use Rattle.p21_express.specs.Schema.{Schema, Entity}
 use Rattle.p21_express.specs.WellFormed.{IsIn, AreDistinct, IsWellFormed, Origin, new_explicit, new_derived, new_names}
-use Rattle.p21_graph.specs.MemberLaws.{in_either, in_map, distinct_left, from_map}
+use Rattle.p21_graph.specs.MemberLaws.{in_either, distinct_left, from_map}
 use Rattle.p21_schema.specs.Row.{IsRow, AreRows, own_attributes, first_places, same_origin}
 use Rattle.p21_schema.specs.Row as rows
 use Rattle.p21_json.specs.Keys.{HasNames}
@@ -225,6 +224,7 @@ no_name_twice (n ∷ ns) e (suc p) o d h =
     found [] q k = cc
     found (m ∷ ms) zero k = let same : of_entity e m ≡ o = cc in inl (ap (λ (x : Origin). x.name) same)
     found (m ∷ ms) (suc q) k = inr (found ms q k)
+
     differ : (b : Bool) → bytes_eq n o.name ≡ b → bytes_eq n o.name ≡ false
     differ true q = absurd (d.0 (subst (λ (l : List ℕ). IsIn ns l) (sym ((bytes_eq-Decides n o.name).0 q)) (found ns p h)))
     differ false q = q

@@ -1,19 +1,16 @@
 -- The members of objects by their keys.
-use Rattle.std.proofs.Common.{◌≡◌, ◌≢◌, ◌⊎◌, ◌<◌, ℕ, Bool, true, false, List, [], ◌∷◌, ◌++◌, Option, Some, None, map, refl, sym, ap, subst, ◌∙◌, inl, inr, ⊎_elim, arith}
+use Rattle.std.proofs.Common.{◌≡◌, ◌≢◌, ◌⊎◌, ℕ, Bool, true, false, List, [], ◌∷◌, ◌++◌, Option, Some, None, map, refl, sym, ap, subst, ◌∙◌, inl, inr, ⊎_elim, arith}
 use Rattle.std.specs.Prelude.{if◌then◌else◌}
 use Rattle.std.specs.List.{AllByRecursion}
 use Rattle.std.specs.Char.{to_ascii_lowercase}
 use Rattle.std.specs.Str.{bytes_eq}
-use Rattle.std.proofs.lemmas.Bool.{false≢true}
 use Rattle.std.proofs.lemmas.Slice.Eq.{bytes_eq-Decides}
 use Rattle.json.specs.Token.{Token}
-use Rattle.json.specs.Token as json
 use Rattle.p21_tree.specs.Tree.{Tree, Trees, nil, cons, absent, derived, int, real, str, enumeration, binary, reference, items, typed}
 use Rattle.p21_tree.specs.Sentence.{Instance}
-use Rattle.p21_express.specs.Schema.{Schema, Entity}
+use Rattle.p21_express.specs.Schema.{Schema}
 use Rattle.p21_express.specs.WellFormed.{IsIn, AreDistinct, IsWellFormed, Origin}
 use Rattle.p21_graph.specs.MemberLaws.{from_map}
-use Rattle.p21_schema.specs.Row.{own_attributes}
 use Rattle.p21_check.specs.Attributes.{AreAttributes}
 use Rattle.p21_check.specs.Attributes as attributes
 use Rattle.p21_json.specs.Instances.{member_parts, members_parts}

@@ -1,8 +1,7 @@
 -- The entities of complex instances with the same tokens, whatever stands in their records.
-use Rattle.std.proofs.Common.{◌≡◌, ◌≢◌, ◌⊎◌, ℕ, zero, suc, Bool, true, false, List, [], ◌∷◌, ◌++◌, map, refl, sym, ap, subst, ◌∙◌, inl, inr, ⊎_elim, arith}
+use Rattle.std.proofs.Common.{◌≡◌, ◌≢◌, ◌⊎◌, ℕ, zero, suc, Bool, true, false, List, [], ◌∷◌, ◌++◌, map, refl, sym, ap, subst, ◌∙◌, inl, inr, ⊎_elim}
 use Rattle.std.specs.Prelude.{◌==◌, ◌-◌, ◌^◌, if◌then◌else◌, drop, min, slice_index, codes}
 use Rattle.std.specs.List.{AllByRecursion}
-use Rattle.std.proofs.lemmas.List.{append_assoc}
 use Rattle.json.specs.Token.{Token}
 use Rattle.json.specs.Token as json
 use Rattle.p21_text.specs.Spelling.{bits_of}
@@ -11,7 +10,7 @@ use Rattle.p21_tree.specs.Grammar.{Entry}
 use Rattle.p21_tree.specs.Sentence.{Instance}
 use Rattle.p21_express.specs.Schema.{Schema}
 use Rattle.p21_express.specs.WellFormed.{Origin}
-use Rattle.p21_json.specs.Instances.{member_parts, members_parts, record_parts, AreRecordsParts}
+use Rattle.p21_json.specs.Instances.{member_parts, members_parts, AreRecordsParts}
 use Rattle.p21_json.specs.Keys.{key_of}
 use Rattle.p21_json.specs.Parts.{Part, exactly, number, string, name, key, item, label, decimal_part, IsTokenOf, AreTokensOf, logical_token, value_parts, values_parts}
 use Rattle.p21_json.specs.Spelled.{IsSpelled, text_of}

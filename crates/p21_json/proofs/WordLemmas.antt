@@ -1,12 +1,12 @@
 -- The names of a schema that a text declares.
-use Rattle.std.proofs.Common.{◌≡◌, ◌⊎◌, ◌<◌, ◌≤◌, ℕ, zero, suc, Bool, true, false, List, [], ◌∷◌, ◌++◌, Option, Some, None, map, inl, inr, ⊎_elim, subst, sym}
+use Rattle.std.proofs.Common.{◌⊎◌, ℕ, Bool, List, [], ◌∷◌, ◌++◌, Option, Some, None, inl, inr}
 use Rattle.std.specs.List.{AllByRecursion}
 use Rattle.p21_text.specs.Spelling.{IsName, IsUpper}
 use Rattle.p21_text.specs.Spelling as spelling
 use Rattle.p21_express.specs.Schema.{Schema, Entity, Attribute, Derived, Defined, Underlying, Expr, Aggregate}
 use Rattle.p21_express.specs.WellFormed.{new_explicit, with_new}
 use Rattle.p21_express.specs.Word.{Word, name, integer, string, symbol}
-use Rattle.p21_express.specs.Words.{AreWords, UpperWords, Front, IsLetter, IsDigit, IsNamePart}
+use Rattle.p21_express.specs.Words.{UpperWords, Front, IsNamePart}
 use Rattle.p21_express.specs.Grammar.{Many, UpTo, Ends, IfName, Group, IfGroup, BoundsAre, IfBounds, AggregateIs, SimpleIs, ExprIs, NextName, NamesAre, Naming, NamingIs, NextNaming, AttributesAre, DerivedIs, DerivesAre, RulesEnd, SupertypeIs, SubtypeIs, EntityIs, UnderIs, TypeEnds, TypeIs, Declaration, DeclarationIs, SchemaIs, joined, attributes_of, entities_of}
 use Rattle.p21_express.specs.Grammar as grammar
 use Rattle.p21_express.specs.Reading.{IsReading}

@@ -33,11 +33,17 @@ pub(crate) fn all_declared<'s>(
     let entities = schema.declared().entities.as_slice();
     let mut all = Vec::new(alloc);
     for place in 0..entities.len() {
-        if let Some(entity) = schema.entity_at(place) {
-            push_own(&mut all, entity, &entities[place])?;
-        }
+        push_own(&mut all, entity_at(schema, place), &entities[place])?;
     }
     Ok(all)
+}
+
+/// The entity at a place that is one of the schema.
+fn entity_at(schema: &Schema, place: usize) -> EntityId
+    requires { place < length schema.now.entities }
+    ensures { IsEntityOf schema.now result × (result.index ≡ place) }
+{
+    schema.entity_at(place).unwrap()
 }
 
 /// Adds the attributes that an entity newly declares.

@@ -147,11 +147,7 @@ impl<'s> Terms<'s> {
     }
 
     /// Makes a text of the full name of an attribute: `Entity.attribute`, by the entity that declares it.
-    pub fn write_full_name(
-        &self,
-        text: &mut String,
-        attribute: AttrId,
-    ) -> Result<(), AllocError>
+    pub fn write_full_name(&self, text: &mut String, attribute: AttrId) -> Result<(), AllocError>
         requires { IsAttributeOf self.now attribute }
         ensures { OnOk result (IsSpelled (string_bytes text.new) (full_name (attribute_at self.now attribute))) }
     {

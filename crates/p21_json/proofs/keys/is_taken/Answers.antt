@@ -1,8 +1,7 @@
-use Rattle.std.proofs.Common.{◌≡◌, ◌+◌, ◌<◌, ◌∙◌, ◌≤◌, ℕ, List, Some, arith, length, slice_get, subst, sym, ⊎_elim}
+use Rattle.std.proofs.Common.{◌≡◌, ◌<◌, ◌∙◌, ℕ, Some, arith, length, slice_get, subst, sym, ⊎_elim}
 use Rattle.std.proofs.lemmas.Bool.{cases_eq, false≢true}
 use Rattle.std.proofs.lemmas.Option.{slice_get_within}
 use Rattle.std.proofs.lemmas.Slice.Eq.{bytes_eq-Decides}
-use Rattle.p21_express.specs.WellFormed.{Origin}
 use Rattle.p21_json.proofs.DeclaredLemmas.{has_at, has_none, there}
 use Rattle.p21_json.proofs.keys.is_taken.Goals as goal
 

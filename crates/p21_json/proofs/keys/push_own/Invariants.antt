@@ -1,4 +1,4 @@
-use Rattle.std.proofs.Common.{◌≡◌, ◌++◌, List, ℕ, map, take}
+use Rattle.std.proofs.Common.{◌≡◌, ◌++◌, map, take}
 use Rattle.p21_express.specs.Schema.{Schema}
 use Rattle.p21_express.specs.WellFormed.{Origin, new_explicit}
 use Rattle.p21_express.specs.Plain.{plain_entity}

@@ -1,4 +1,4 @@
-use Rattle.std.proofs.Common.{◌≡◌, ◌≢◌, ◌↔◌, ◌∙◌, IsTrue, Some, refl, slice_get, sym, subst, take}
+use Rattle.std.proofs.Common.{◌≡◌, ◌≢◌, ◌↔◌, ◌∙◌, IsTrue, Some, sym, subst, take}
 use Rattle.std.proofs.lemmas.Result.{on_ok_weaker}
 use Rattle.p21_express.specs.WellFormed.{Origin}
 use Rattle.p21_tree.specs.Tree.{derived}

@@ -1,5 +1,4 @@
-use Rattle.std.proofs.Common.{◌≡◌, sym, subst}
-use Rattle.p21_express.specs.Schema.{Schema}
+use Rattle.std.proofs.Common.{subst}
 use Rattle.p21_express.specs.WellFormed.{IsWellFormed}
 use Rattle.p21_json.proofs.AttributeLemmas.{own_alone, of_row}
 use Rattle.p21_json.proofs.terms.Terms.is_repeated.Goals as goal
