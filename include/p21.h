@@ -156,10 +156,11 @@ int p21_is_a(const p21_model *model, uint64_t entity, uint64_t other, uint32_t *
  * (own is 1) its own ones alone. */
 int p21_attribute_count(const p21_model *model, uint64_t entity, uint32_t own, uint64_t *count);
 
-/* The name of one of them, as the schema spells it: GlobalId. */
+/* The name of one of them, as the schema spells it: GlobalId; if one before it has this name, by another supertype, then behind that of the entity
+ * that declares it and a point: document.name. */
 int p21_attribute_name(const p21_model *model, uint64_t entity, uint32_t own, uint64_t position, uint8_t *room, size_t room_size, uint64_t *length);
 
-/* The place of the one of a name, from 0 on, whatever the case of letters. */
+/* The place of the one of such a name, from 0 on, whatever the case of letters. */
 int p21_attribute(const p21_model *model, uint64_t entity, uint32_t own, const uint8_t *name, size_t name_size, uint64_t *position);
 
 /* ---- instances: they have places, from 0 on, in the order of the file ---- */

@@ -39,6 +39,9 @@ ENTITY Nested; Levels : %s INTEGER; END_ENTITY;
 ENTITY Link; Owner : SELECTED; Number : INTEGER; END_ENTITY;
 TYPE SELECTED = SELECT (Links); END_TYPE;
 TYPE Links = LIST OF Link; END_TYPE;
+ENTITY Sheet; Name : STRING; Size : INTEGER; END_ENTITY;
+ENTITY Document; id : STRING; name : STRING; END_ENTITY;
+ENTITY Drawing SUBTYPE OF (Sheet, Document); Size : REAL; END_ENTITY;
 ENTITY Thing SUPERTYPE OF (Left ANDOR Right); END_ENTITY;
 ENTITY Left SUBTYPE OF (Thing); Mark : INTEGER; END_ENTITY;
 ENTITY Right SUBTYPE OF (Thing); mark : STRING; END_ENTITY;
@@ -134,8 +137,18 @@ class Package(unittest.TestCase):
         product = self.schema.read_bytes(of_data(b"#5=PRODUCT('P-1',());"))[5]
         self.assertEqual((product.id, product['id'], product[0], product.get_info()['id']), (5, 'P-1', 'P-1', 5))
 
-    def test_records_with_one_name(self):
-        """Of two records of a complex instance the second has the name of its entity in front."""
+    def test_attributes_of_one_name(self):
+        """The first has the name, and each later one that of its entity in front."""
+        drawing = self.schema.read_bytes(of_data(b"#5=DRAWING('A1',7,'D-5','Plan',0.5);"))[5]
+        names = ['Name', 'Size', 'id', 'Document.name', 'Drawing.Size']
+        self.assertEqual((len(drawing), list(drawing)), (5, ['A1', 7, 'D-5', 'Plan', 0.5]))
+        self.assertEqual([drawing.attribute_name(place) for place in range(5)], names)
+        self.assertEqual([drawing[name] for name in names], list(drawing))
+        self.assertEqual([drawing[place] for place in range(5)], list(drawing))
+        self.assertEqual((drawing.Name, drawing.Size, getattr(drawing, 'Drawing.Size')), ('A1', 7, 0.5))
+        self.assertEqual(list(drawing.attributes()), names)
+        self.assertEqual(drawing.get_info(), {'Name': 'A1', 'Size': 7, 'id': 5, 'type': 'Drawing', 'Document.name': 'Plan', 'Drawing.Size': 0.5})
+        self.assertEqual(repr(drawing), "#5=Drawing('A1',7,'D-5','Plan',0.5)")
         both = self.schema.read_bytes(of_data(b"#5=(LEFT(1)RIGHT('r')THING());"))[5]
         self.assertEqual(both.attributes(), {'Mark': 1, 'Right.mark': 'r'})
         self.assertEqual((len(both), list(both)), (2, [1, 'r']))

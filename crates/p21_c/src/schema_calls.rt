@@ -3,12 +3,13 @@
 ghost use Rattle.std.specs.Prelude.{IfSome};
 ghost use Rattle.p21_schema.specs.Place.{IsEntityOf};
 
-use crate::codes::{HANDLE, NONE, OK};
+use crate::codes::{HANDLE, MEMORY, NONE, OK};
 use crate::handle::Handle;
 use crate::models::model_in;
-use p21_json::{attribute, attribute_count};
+use p21_json::attribute_count;
 use p21_query::{attribute_named, copy_front};
 use p21_schema::{EntityId, Schema};
+use std::alloc::Global;
 
 /// The entity of a number.
 pub(crate) fn entity_at(schema: &Schema, number: u64) -> Option<EntityId>
@@ -99,9 +100,10 @@ pub extern "C" fn p21_attribute_count(
     OK
 }
 
-/// The name of one of them.
+/// The key of one of them: its name, or where one before it has this name, that of the entity that declares it in front.
 #[unsafe(no_mangle)]
 pub extern "C" fn p21_attribute_name(
+    alloc: Global,
     model: Handle,
     entity: u64,
     own: u32,
@@ -119,13 +121,17 @@ pub extern "C" fn p21_attribute_name(
     if position >= attribute_count(schema, own != 0, entity) {
         return NONE;
     }
-    let found = attribute(schema, own != 0, entity, position);
-    hand_text(held.terms.attribute(found).as_bytes(), room, length)
+    let mut key = String::new(alloc);
+    match held.terms.write_key(&mut key, own != 0, entity, position) {
+        Ok(()) => hand_text(key.as_bytes(), room, length),
+        Err(_) => MEMORY,
+    }
 }
 
-/// The place of the one that has a name.
+/// The place of the one that has a key.
 #[unsafe(no_mangle)]
 pub extern "C" fn p21_attribute(
+    alloc: Global,
     model: Handle,
     entity: u64,
     own: u32,
@@ -138,11 +144,14 @@ pub extern "C" fn p21_attribute(
     let Some(entity) = entity_at(held.terms.schema(), entity) else {
         return NONE;
     };
-    let Some(found) = attribute_named(&held.terms, own != 0, entity, name) else {
-        return NONE;
-    };
-    *position = found as u64;
-    OK
+    match attribute_named(alloc, &held.terms, own != 0, entity, name) {
+        Ok(Some(found)) => {
+            *position = found as u64;
+            OK
+        }
+        Ok(None) => NONE,
+        Err(_) => MEMORY,
+    }
 }
 
 /// Hands out as much of a text as there is room for, and how long it is.

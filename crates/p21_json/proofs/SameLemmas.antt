@@ -79,7 +79,8 @@ tag (binary v) = 98
 tag (reference n) = 114
 tag (typed k t) = 116
 
-either : {P : Type 0} {u a b : Token} (f : Token → ℕ) (n : ℕ) → IsEither P u a b → f a ≡ n → f b ≡ n → f u ≡ n
+-- what holds of both holds of the one that it is
+pub either : {P : Type 0} {u a b : Token} (f : Token → ℕ) (n : ℕ) → IsEither P u a b → f a ≡ n → f b ≡ n → f u ≡ n
 either {P} {u} {a} {b} f n h p q = decide (f u == n) refl where
   decide : (t : Bool) → (f u == n) ≡ t → f u ≡ n
   decide true e = eqb-true (f u) n e
