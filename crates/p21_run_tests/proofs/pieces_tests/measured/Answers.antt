@@ -1,7 +1,7 @@
 use Rattle.std.proofs.Common.{List, ℕ, length, sym, subst, ◌≡◌}
 use Rattle.std.specs.List.{AllZip}
 use Rattle.p21_tree.specs.declared.pieces.Piece.{Piece}
-use Rattle.p21_reader_tests.proofs.pieces_tests.measured.Goals as goal
+use Rattle.p21_run_tests.proofs.pieces_tests.measured.Goals as goal
 
 pub returns : goal.returns
 returns g c =

@@ -1,9 +1,9 @@
-//! All faults by example: each row is a file, read by one lane and by two.
+//! Readings by lanes that tell all faults.
 
 ghost use Rattle.std.specs.Prelude.{◌<◌};
 
 use crate::files::{EIGHT, TAIL, TWO, file, toy};
-use p21_crew::{Gate, OpenGate};
+use p21_crew::Gate;
 use p21_crew_tests::Meeting;
 use p21_desk::LaneCount;
 use p21_lanes::Capacity;
@@ -64,49 +64,6 @@ pub(crate) fn read_in<G: Gate + Sync, R: Threads + Wait + Sync>(
 
 pub(crate) fn fault(kind: FaultKind, at: u64) -> Option<Fault> {
     Some(Fault { kind, at })
-}
-
-#[test]
-fn all_faults(rt: HostRuntime) -> Result<(), Fail> {
-    let alloc = rt.alloc();
-    let schema = toy(alloc)?;
-    let bad = FaultKind::BadAttribute { rec: 0, attr: 0 };
-    let rows: [(&[u8], Three); 4] = [
-        (
-            b"#1=MARK($);#1=MARK('a');#2=MARK('a';",
-            [
-                fault(bad, 118),
-                fault(FaultKind::DuplicateName, 129),
-                fault(FaultKind::Unexpected, 153),
-            ],
-        ),
-        (
-            b"#1=MARK('a');#1=MARK($);#1=MARK('a');",
-            [
-                fault(FaultKind::DuplicateName, 131),
-                fault(FaultKind::DuplicateName, 142),
-                None,
-            ],
-        ),
-        (
-            b"#1=MARK('a';#2=MARK($);#3=MARK('a';",
-            [fault(FaultKind::Unexpected, 129), None, None],
-        ),
-        (
-            b"#1=MARK($);ENDSEC;#2=MARK($);",
-            [fault(bad, 118), fault(FaultKind::Unexpected, 136), None],
-        ),
-    ];
-    for (between, want) in rows {
-        let file = file(alloc, between, TAIL)?;
-        for lanes in [1, 2] {
-            assert_eq!(rt;
-                read_in(&rt, alloc, &schema, &OpenGate, &file, lanes)?,
-                Answer::Faults(want)
-            );
-        }
-    }
-    Ok(())
 }
 
 /// What is read where each piece meets all others at a gate.

@@ -4,9 +4,9 @@ use denote.Ref.{NamedLft}
 use Rattle.std.proofs.Crossing.{crosses}
 use Rattle.p21_crew_tests.specs.contracts.meeting.Meeting as Meeting
 use Rattle.p21_reader.specs.contracts.judged.LocalReader as LocalReader
-use Rattle.p21_reader_tests.specs.contracts.judges.MeetingReader as MeetingReader
+use Rattle.p21_run_tests.specs.contracts.judges.MeetingReader as MeetingReader
 use Rattle.p21_schema.proofs.Crossing.{Schema-sync}
-use Rattle.p21_reader_tests.proofs.lanes_tests.read_meeting_within.Goals as goal
+use Rattle.p21_run_tests.proofs.lanes_tests.read_meeting_within.Goals as goal
 
 -- A judge that meets others may be asked by several threads at once: so may the two that are its fields.
 LocalReader-sync : (α : NamedLft) → IsSync (LocalReader.the_field α).row

@@ -1,6 +1,6 @@
 //! Reading where a request for memory is refused.
 
-use crate::all_tests::{Answer as All, fault, read_in};
+use crate::all_faults_tests::{Answer as All, fault, read_in};
 use crate::files::Answer::{Instances, Memory};
 use crate::files::answered;
 use p21_crew::OpenGate;
@@ -75,7 +75,7 @@ pub(crate) fn toy(alloc: Global) -> Option<Schema> {
     Schema::build(alloc, declarations, Rules::default()).ok()
 }
 
-/// Its answer is right also where a request for memory is refused, which `tests/refused_memory` does in turn.
+/// Its answer is right also where a request for memory is refused, which `tests/refused_memory_of_libraries` does in turn.
 #[test]
 fn memory_or_the_answer(rt: HostRuntime) {
     let Some(schema) = toy(rt.alloc()) else {

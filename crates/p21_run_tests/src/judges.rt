@@ -3,7 +3,7 @@
 ghost use Rattle.std.specs.Prelude.{IfOk};
 ghost use Rattle.p21_tree.specs.declared.pieces.Piece.{Piece};
 ghost use Rattle.p21_reader.specs.declared.judged.Judged.{Judged};
-ghost use Rattle.p21_reader_tests.specs.Judges.{MissesNoFault};
+ghost use Rattle.p21_run_tests.specs.Judges.{MissesNoFault};
 
 use p21_crew::Gate;
 use p21_crew_tests::Meeting;
