@@ -1,15 +1,16 @@
 //! Faults explained to whoever runs the program, and how far it is.
 
 use crate::progress::{Progress, Stage};
+use crate::rules::{broken_inverse, broken_unique, counts_of, unchecked};
 use p21_explain::{
-    Format, RuleCounts, Spellings, Subject, explain_device, explain_fault, explain_inverse_count,
+    Format, Spellings, Subject, explain_device, explain_fault, explain_inverse_count,
     explain_not_unique, explain_passed_over, explain_schema_fault, rule_summary, spell_names,
     summary,
 };
 use p21_express::SchemaError;
 use p21_render::{fault_line, schema_fault_line};
 use p21_rule_run::{RuleFault, RuleListener};
-use p21_rule_text::{RuleKind, Rules};
+use p21_rule_text::Rules;
 use p21_run::{Listener, Outcome};
 use p21_schema::Schema;
 use p21_tree::Fault;
@@ -144,11 +145,18 @@ impl<'a, C: Clock, P: Write> Explainer<'a, C, P> {
     ) -> Result<String, AllocError> {
         let (alloc, format) = (self.alloc, self.format);
         match fault {
-            RuleFault::NotUnique(fault) => explain_not_unique(alloc, subject, rules, fault, format),
+            RuleFault::NotUnique(fault) => {
+                if let Some(broken) = broken_unique(rules, fault) {
+                    return explain_not_unique(alloc, subject, &broken, format);
+                }
+            }
             RuleFault::InverseCount(fault) => {
-                explain_inverse_count(alloc, subject, &self.text, rules, fault, format)
+                if let Some(broken) = broken_inverse(rules, fault) {
+                    return explain_inverse_count(alloc, subject, &self.text, &broken, format);
+                }
             }
         }
+        Ok(String::new(alloc))
     }
 
     /// Adds the first faults by the rules, in text of several a summary, and the rules that were not checked.
@@ -172,7 +180,7 @@ impl<'a, C: Clock, P: Write> Explainer<'a, C, P> {
         }
         if faults.len() > 1 && self.format == Format::Text {
             let counts = counts_of(self.alloc, rules, faults)?;
-            let told = rule_summary(self.alloc, &self.text, &spellings, rules, &counts)?;
+            let told = rule_summary(self.alloc, &self.text, &spellings, counts)?;
             say(&mut self.said, told)?;
         }
         self.add_passed_over(&spellings, rules)
@@ -182,7 +190,8 @@ impl<'a, C: Clock, P: Write> Explainer<'a, C, P> {
     fn add_passed_over(&mut self, spellings: &Spellings, rules: &Rules) -> Result<(), AllocError> {
         for rule in &rules.passed_over {
             let (path, text) = (self.names.schema, self.text.as_slice());
-            let told = explain_passed_over(self.alloc, path, text, spellings, rule, self.format)?;
+            let rule = unchecked(rule);
+            let told = explain_passed_over(self.alloc, path, text, spellings, &rule, self.format)?;
             say(&mut self.said, told)?;
         }
         Ok(())
@@ -246,18 +255,6 @@ impl<C: Clock, P: Write> RuleListener for Explainer<'_, C, P> {
             let _ = self.add_ruled(schema, rules, file, faults);
         }
     }
-}
-
-/// How many faults break each rule.
-fn counts_of(alloc: Global, rules: &Rules, faults: &[RuleFault]) -> Result<RuleCounts, AllocError> {
-    let mut counts = RuleCounts::none(alloc, rules)?;
-    for fault in faults {
-        match fault {
-            RuleFault::NotUnique(fault) => counts.add(RuleKind::Unique, fault.rule),
-            RuleFault::InverseCount(fault) => counts.add(RuleKind::Inverse, fault.rule),
-        }
-    }
-    Ok(counts)
 }
 
 /// Adds a text to what is said.

@@ -7,6 +7,7 @@ mod key;
 mod opened;
 mod program_error;
 mod progress;
+mod rules;
 mod watched;
 mod words;
 
