@@ -2,18 +2,16 @@
 
 ghost use Rattle.std.specs.Prelude.{◌≤◌, length, IfOk};
 ghost use Rattle.std.specs.String.{string_bytes};
-ghost use Rattle.p21_explain.specs.Printed.{IsPrinted};
+ghost use Rattle.p21_printed.specs.Printed.{IsPrinted};
 
 use crate::attributes::Attribute;
-use crate::excerpt::paragraph;
 use crate::faults::say_instance_fault;
 use crate::grammar::{say_bad_token, say_truncated, say_unexpected};
 use crate::header::{say_header_entities, say_wrong_schema};
 use crate::instance::Instance;
-use crate::json::object;
-use crate::said::Said;
 use p21_cut::{Cut, Cutter};
 use p21_express::EntityDecl;
+use p21_printed::{Finding, Format, Said, in_text, print_finding};
 use p21_schema::Schema;
 use p21_spelling::Spellings;
 use p21_tree::{Fault, FaultKind};
@@ -56,16 +54,6 @@ impl<'a> Subject<'a> {
     }
 }
 
-/// How a fault is explained.
-#[derive(Clone, Copy, Debug, PartialEq, Eq)]
-pub enum Format {
-    /// Lines of text: the path with the line and the column of the place to look at, and the fault's own place as the report gives it;
-    /// that line of the file, in 120 columns, with a caret under the place; and what is wrong.
-    Text,
-    /// A line with an object of JSON.
-    Json,
-}
-
 /// A fault of a file, explained. `kind` is the name of its kind in the report.
 ///
 /// The file is the one that the schema was asked about, and the fault is one of it; of another file or fault less is said. No byte of the
@@ -97,22 +85,14 @@ pub(crate) fn printed(
 ) -> Result<String, AllocError>
     ensures { IfOk result (λ text. IsPrinted (string_bytes text)) }
 {
-    let (path, file) = (subject.path, subject.file);
-    let at = looked_at.min(file.len());
-    match format {
-        Format::Text => paragraph(alloc, path, file, at, reported, said),
-        Format::Json => object(alloc, path, file, at, kind, said),
-    }
-}
-
-/// A place in a text; its end where it is not so long.
-pub(crate) fn in_text(text: &[u8], at: u64) -> usize
-    ensures { result ≤ length text.now }
-{
-    match usize::try_from(at) {
-        Ok(at) => at.min(text.len()),
-        Err(_) => text.len(),
-    }
+    let found = Finding {
+        path: subject.path,
+        text: subject.file,
+        at: looked_at,
+        reported,
+        kind,
+    };
+    print_finding(alloc, &found, said, format)
 }
 
 /// The instance that begins at a place.

@@ -4,10 +4,9 @@ ghost use Rattle.std.specs.Prelude.{◌≤◌, length};
 
 use crate::instances::{data_start, last_before};
 use crate::mistakes::{instead_of_file, meant_by_bytes, meant_by_token};
-use crate::place::place_of;
-use crate::said::{Front, Said};
 use crate::walk::Walk;
 use memchr::{memchr, memchr_iter};
+use p21_printed::{Front, Said, place_of};
 use p21_text::{Lexed, Token, next_token};
 use p21_tree::{TreeError, read_whole};
 use std::alloc::{AllocError, Global};

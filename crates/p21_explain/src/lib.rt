@@ -3,7 +3,6 @@
 
 mod attributes;
 mod complex;
-mod excerpt;
 mod explained;
 mod faults;
 mod grammar;
@@ -11,27 +10,23 @@ mod groups;
 mod header;
 mod instance;
 mod instances;
-mod json;
 mod mistakes;
 mod names;
-mod place;
 mod redeclared;
 mod references;
 mod refused;
 mod rule;
 mod rule_counts;
 mod rules;
-mod said;
-mod shown;
 mod types;
 mod values;
 mod walk;
 
-pub use explained::{Format, Subject, explain_fault};
+pub use explained::{Subject, explain_fault};
 pub use groups::summary;
+pub use p21_printed::{Format, Place, explain_device, place_of};
 pub use p21_spelling::{Spellings, spell_names};
-pub use place::{Place, place_of};
-pub use refused::{explain_device, explain_schema_fault};
+pub use refused::explain_schema_fault;
 pub use rule::{BrokenInverse, BrokenUnique, Reason, Rule, RuleCount, RuleForm, UncheckedRule};
 pub use rule_counts::rule_summary;
 pub use rules::{explain_inverse_count, explain_not_unique, explain_passed_over};

@@ -1,8 +1,8 @@
 //! Names that are near a name.
 
 use crate::explained::Subject;
-use crate::said::Said;
 use p21_express::EntityDecl;
+use p21_printed::Said;
 use std::alloc::{AllocError, Global};
 use strsim::generic_levenshtein;
 

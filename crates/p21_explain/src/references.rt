@@ -3,8 +3,7 @@
 use crate::explained::Subject;
 use crate::instance::Instance;
 use crate::instances::find;
-use crate::place::place_of;
-use crate::said::{Said, article};
+use p21_printed::{Said, article, place_of};
 use std::alloc::AllocError;
 
 /// Adds what the first instance of a name is and where it stands: `an IfcWall at line 12`.

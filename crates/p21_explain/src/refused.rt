@@ -1,17 +1,12 @@
-//! A fault of a schema or of a device, explained.
+//! A fault of a schema, explained.
 
 ghost use Rattle.std.specs.Prelude.{◌≤◌, length, IfOk};
 ghost use Rattle.std.specs.String.{string_bytes};
-ghost use Rattle.p21_explain.specs.Printed.{IsPrinted};
+ghost use Rattle.p21_printed.specs.Printed.{IsPrinted};
 
-use crate::excerpt::{paragraph, push_line};
-use crate::explained::{Format, in_text};
-use crate::json::object;
 use crate::mistakes::instead_of_schema;
-use crate::place::place_of;
-use crate::said::{Front, Said};
-use crate::shown::new_text;
 use p21_express::SchemaError;
+use p21_printed::{Finding, Format, Front, Said, in_text, place_of, print_finding};
 use p21_spelling::next_word;
 use std::alloc::{AllocError, Global};
 
@@ -39,44 +34,14 @@ pub fn explain_schema_fault(
     let at = in_text(text, place);
     let mut said = Said::new(alloc);
     say_rule(&mut said, text, at, error)?;
-    match format {
-        Format::Text => paragraph(alloc, path, text, at, place, &said),
-        Format::Json => object(alloc, path, text, at, kind, &said),
-    }
-}
-
-/// A device that failed, in a line: its path or name, and what the system says of it. Memory alone can fail.
-pub fn explain_device<'a>(
-    alloc: Global,
-    path: &'a str,
-    words: &'a str,
-    format: Format,
-) -> Result<String, AllocError>
-    ensures { IfOk result (λ text. IsPrinted (string_bytes text)) }
-{
-    let mut said = Said::new(alloc);
-    said.say((path, ": ", words))?;
-    in_a_line(alloc, path, b"", 0, b"Device", &said, format)
-}
-
-/// What is said in a line of a file, or of a place in its text.
-pub(crate) fn in_a_line(
-    alloc: Global,
-    path: &str,
-    text: &[u8],
-    place: u64,
-    kind: &[u8],
-    said: &Said,
-    format: Format,
-) -> Result<String, AllocError>
-    ensures { IfOk result (λ text. IsPrinted (string_bytes text)) }
-{
-    if format == Format::Json {
-        return object(alloc, path, text, in_text(text, place), kind, said);
-    }
-    let mut line = new_text(alloc);
-    push_line(&mut line, said.bytes())?;
-    Ok(line)
+    let found = Finding {
+        path,
+        text,
+        at,
+        reported: place,
+        kind,
+    };
+    print_finding(alloc, &found, &said, format)
 }
 
 /// The words of forms that are not supported, and what to do about each.

@@ -2,14 +2,12 @@
 
 ghost use Rattle.std.specs.Prelude.{OnOk, IfOk};
 ghost use Rattle.std.specs.String.{string_bytes};
-ghost use Rattle.p21_explain.specs.Printed.{IsPrinted};
+ghost use Rattle.p21_printed.specs.Printed.{IsPrinted};
 
-use crate::excerpt::push_line;
 use crate::groups::say_count;
 use crate::rule::{Rule, RuleCount, RuleForm};
 use crate::rules::{spelled, spelling};
-use crate::said::Said;
-use crate::shown::new_text;
+use p21_printed::{Said, new_text, push_line};
 use p21_spelling::Spellings;
 use std::alloc::{AllocError, Global};
 

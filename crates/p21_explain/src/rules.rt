@@ -2,15 +2,14 @@
 
 ghost use Rattle.std.specs.Prelude.{IfOk};
 ghost use Rattle.std.specs.String.{string_bytes};
-ghost use Rattle.p21_explain.specs.Printed.{IsPrinted};
+ghost use Rattle.p21_printed.specs.Printed.{IsPrinted};
 
-use crate::explained::{Format, Subject, in_text, instance_at, printed};
+use crate::explained::{Subject, instance_at, printed};
 use crate::faults::say_record;
 use crate::instance::{Instance, Spot};
 use crate::references::say_named;
-use crate::refused::in_a_line;
 use crate::rule::{BrokenInverse, BrokenUnique, Reason, RuleForm, UncheckedRule};
-use crate::said::{Front, Said};
+use p21_printed::{Finding, Format, Front, Said, in_text, print_line};
 use p21_schema::AttrId;
 use p21_spelling::{Spellings, next_word};
 use std::alloc::{AllocError, Global};
@@ -184,15 +183,14 @@ pub fn explain_passed_over(
     said.entity = said.since(from);
     said.say(" was not checked: ")?;
     say_reason(&mut said, text, unchecked)?;
-    in_a_line(
-        alloc,
+    let found = Finding {
         path,
         text,
-        unchecked.at,
-        b"NotChecked",
-        &said,
-        format,
-    )
+        at: in_text(text, unchecked.at),
+        reported: unchecked.at,
+        kind: b"NotChecked",
+    };
+    print_line(alloc, &found, &said, format)
 }
 
 /// Adds why a rule was not checked.

@@ -1,8 +1,8 @@
 //! Types in EXPRESS.
 
 use crate::explained::Subject;
-use crate::said::{Said, article};
 use p21_express::{Declarations, TypeDecl, TypeExpr, Under};
+use p21_printed::{Said, article};
 use p21_schema::{Bounds, Resolved, ResolvedExpr, Schema, Width};
 use std::alloc::AllocError;
 

@@ -2,8 +2,8 @@
 
 ghost use Rattle.std.specs.Prelude.{◌≤◌, length};
 
-use crate::said::{Front, Said};
 use crate::walk::Walk;
+use p21_printed::{Front, Said};
 use p21_text::{Lexed, Token, binary_bits, next_token, string_len};
 use std::alloc::AllocError;
 

@@ -1,12 +1,7 @@
 //! `p21export SCHEMA FILE --json OUT`, or `--sqlite OUT`: checks a STEP file against an EXPRESS schema, and writes its model as JSON or as a database.
 #![tactic(auto)]
 
-mod beside;
-mod database;
-mod program;
-mod words;
-
-use program::{Around, program, unreadable_words};
+use p21_exporter::{Around, program, unreadable_words};
 use std::env;
 use std::io::IsTerminal;
 use std::process::ExitCode;

@@ -1,5 +1,5 @@
 use Rattle.std.specs.String.{string_bytes}
-use Rattle.p21_explain.specs.Printed.{IsPrinted}
+use Rattle.p21_printed.specs.Printed.{IsPrinted}
 use Rattle.p21_explain.proofs.rule_counts.rule_summary.Given as goal
 
 abbrev pub invariant-loop-counted : goal.invariant-loop-counted

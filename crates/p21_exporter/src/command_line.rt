@@ -1,0 +1,327 @@
+//! The program, over its arguments.
+
+use crate::beside::Beside;
+use crate::database::export_database;
+use crate::words::{Onto, Refusal, Wanted, what_is_wanted};
+use p21_export::{How, Outcome, Source, Stream, export};
+use p21_report::{
+    Explainer, LastError, Names, Opened, Program, Progress, Stage, Watched, drawn_key,
+};
+use std::alloc::Global;
+use std::fs::{self, File, Files};
+use std::io::{self, Read, Write};
+use std::sync::Wait;
+use std::thread::Threads;
+use std::time::Clock;
+
+/// What the system gives a run besides files, threads and the clock.
+pub struct Around<'a, I, O, E> {
+    pub input: &'a mut I,
+    pub output: &'a mut O,
+    pub errors: &'a mut E,
+    /// Whether the errors are a terminal.
+    pub is_terminal: bool,
+}
+
+/// Does what the words ask for, and answers the status to end with. How far it is is told on a line of `progress`. `host` is `rt` for
+/// the writer of databases, which takes no other.
+pub fn program<R, I, O, E, P>(
+    rt: &R,
+    host: &HostRuntime,
+    alloc: Global,
+    words: &[String],
+    around: Around<'_, I, O, E>,
+    progress: P,
+) -> u8
+where
+    R: Files + Threads + Wait + Clock + Sync,
+    I: Read,
+    O: Write,
+    E: Write,
+    P: Write + Send + Drop,
+{
+    let Around {
+        input,
+        output,
+        errors,
+        is_terminal,
+    } = around;
+    match what_is_wanted(alloc, words, is_terminal) {
+        Ok(wanted) => {
+            let is_shown = is_terminal || wanted.options.progress;
+            let progress = Progress::new(rt, progress, Program::Export, is_shown);
+            let mut said = String::new(alloc);
+            let outcome = export_wanted(
+                rt, host, alloc, &wanted, &progress, input, output, &mut said,
+            );
+            let status = status_of(outcome, errors);
+            let _ = errors.write_all(said.as_bytes());
+            status
+        }
+        Err(Refusal::Memory) => status_of(Outcome::Memory, errors),
+        Err(Refusal::Words(error)) if error.use_stderr() => {
+            let _ = write!(errors, "{error}");
+            2
+        }
+        Err(Refusal::Words(error)) => match write!(output, "{error}") {
+            Ok(()) => 0,
+            Err(_) => status_of(Outcome::Device, errors),
+        },
+    }
+}
+
+/// What the program ends with where its words could not be read.
+pub fn unreadable_words<E: Write>(errors: &mut E) -> u8 {
+    let _ = writeln!(
+        errors,
+        "p21export: invalid UTF-8 was detected in one or more arguments"
+    );
+    2
+}
+
+/// The status of a run, which is told where it wrote no report.
+fn status_of<E: Write>(outcome: Outcome, errors: &mut E) -> u8 {
+    match outcome {
+        Outcome::Complete => 0,
+        Outcome::Faulty => 1,
+        Outcome::SchemaRefused => 3,
+        Outcome::Device => {
+            let _ = writeln!(errors, "p21export: input or output failed");
+            4
+        }
+        Outcome::Memory => {
+            let _ = writeln!(errors, "p21export: out of memory");
+            5
+        }
+    }
+}
+
+/// Exports from the paths that are wanted, tells how far it is, and keeps what is to be said of faults, and of devices that failed.
+fn export_wanted<R, I, O, P>(
+    rt: &R,
+    host: &HostRuntime,
+    alloc: Global,
+    wanted: &Wanted<'_>,
+    progress: &Progress<&R, P>,
+    input: &mut I,
+    output: &mut O,
+    said: &mut String,
+) -> Outcome
+where
+    R: Files + Threads + Wait + Clock + Sync,
+    I: Read,
+    O: Write,
+    P: Write + Send + Drop,
+{
+    progress.tell(Stage::Schema);
+    let names = Names {
+        program: Program::Export.name(),
+        schema: wanted.schema,
+        file: wanted.file,
+        output: wanted.out_name(),
+    };
+    let options = &wanted.options;
+    let mut explainer = Explainer::new(alloc, progress, names, options.explained, options.format);
+    let outcome = if wanted.file == "-" {
+        let file = Stream::new(input);
+        export_from(
+            rt,
+            host,
+            alloc,
+            wanted,
+            progress,
+            file,
+            output,
+            &mut explainer,
+        )
+    } else {
+        let file = Opened::new(rt, wanted.file);
+        export_from(
+            rt,
+            host,
+            alloc,
+            wanted,
+            progress,
+            file,
+            output,
+            &mut explainer,
+        )
+    };
+    *said = explainer.into_said();
+    outcome
+}
+
+/// Exports to where it is wanted.
+fn export_from<R, F, O, P>(
+    rt: &R,
+    host: &HostRuntime,
+    alloc: Global,
+    wanted: &Wanted<'_>,
+    progress: &Progress<&R, P>,
+    file: F,
+    output: &mut O,
+    explainer: &mut Explainer<'_, &R, P>,
+) -> Outcome
+where
+    R: Files + Threads + Wait + Clock + Sync,
+    F: Source + LastError + Drop,
+    O: Write,
+    P: Write + Send + Drop,
+{
+    let mut fault = Vec::new(alloc);
+    let outcome = match wanted.onto {
+        Onto::Json("-") => {
+            export_to(
+                rt,
+                alloc,
+                wanted,
+                progress,
+                file,
+                &mut *output,
+                &mut fault,
+                explainer,
+            )
+        }
+        Onto::Json(path) => export_json(
+            rt, alloc, wanted, path, progress, file, &mut fault, explainer,
+        ),
+        Onto::Sqlite(path) => export_database(
+            rt, host, alloc, wanted, path, progress, file, &mut fault, explainer,
+        ),
+    };
+    match output.write_all(fault.as_slice()) {
+        Ok(()) => outcome,
+        Err(_) => Outcome::Device,
+    }
+}
+
+/// Exports JSON to a path.
+fn export_json<R, F, P>(
+    rt: &R,
+    alloc: Global,
+    wanted: &Wanted<'_>,
+    path: &str,
+    progress: &Progress<&R, P>,
+    file: F,
+    fault: &mut Vec<u8>,
+    explainer: &mut Explainer<'_, &R, P>,
+) -> Outcome
+where
+    R: Files + Threads + Wait + Clock + Sync,
+    F: Source + LastError + Drop,
+    P: Write + Send + Drop,
+{
+    if is_no_file(rt, path) {
+        match File::create(rt, path) {
+            Ok(onto) => export_to(rt, alloc, wanted, progress, file, onto, fault, explainer),
+            Err(error) => refused(explainer, error),
+        }
+    } else {
+        match Beside::create(rt, alloc, path) {
+            Ok(beside) => {
+                export_beside(
+                    rt, alloc, wanted, path, progress, file, beside, fault, explainer,
+                )
+            }
+            Err(error) => refused(explainer, error),
+        }
+    }
+}
+
+/// What a run ends with that cannot write where it is wanted.
+pub(crate) fn refused<R: Clock, P: Write>(
+    explainer: &mut Explainer<'_, &R, P>,
+    error: io::Error,
+) -> Outcome {
+    let outcome = if error.kind() == io::ErrorKind::OutOfMemory {
+        Outcome::Memory
+    } else {
+        Outcome::Device
+    };
+    explainer.hear_end(outcome, [None, None, Some(error)]);
+    outcome
+}
+
+/// Whether something stands at the path that is no regular file, as a device or a pipe: nothing may take its place.
+pub(crate) fn is_no_file<R: Files>(rt: &R, path: &str) -> bool {
+    match fs::metadata(rt, path) {
+        Ok(found) => !found.is_file(),
+        Err(_) => false,
+    }
+}
+
+/// Exports into a new file beside the path that is wanted, which takes its name when it is whole.
+fn export_beside<R, F, P>(
+    rt: &R,
+    alloc: Global,
+    wanted: &Wanted<'_>,
+    path: &str,
+    progress: &Progress<&R, P>,
+    file: F,
+    beside: Beside<'_, R>,
+    fault: &mut Vec<u8>,
+    explainer: &mut Explainer<'_, &R, P>,
+) -> Outcome
+where
+    R: Files + Threads + Wait + Clock + Sync,
+    F: Source + LastError + Drop,
+    P: Write + Send + Drop,
+{
+    let mut beside = beside;
+    let onto = beside.file();
+    let outcome = export_to(rt, alloc, wanted, progress, file, onto, fault, explainer);
+    if outcome != Outcome::Complete {
+        beside.remove();
+        return outcome;
+    }
+    match beside.take_place(path) {
+        Ok(()) => Outcome::Complete,
+        Err(error) => refused(explainer, error),
+    }
+}
+
+/// Exports onto what takes the bytes, and has the explainer hear the end.
+fn export_to<R, F, W, P>(
+    rt: &R,
+    alloc: Global,
+    wanted: &Wanted<'_>,
+    progress: &Progress<&R, P>,
+    file: F,
+    onto: W,
+    fault: &mut Vec<u8>,
+    explainer: &mut Explainer<'_, &R, P>,
+) -> Outcome
+where
+    R: Files + Threads + Wait + Clock + Sync,
+    F: Source + LastError + Drop,
+    W: Write + Drop,
+    P: Write + Send + Drop,
+{
+    let how = How {
+        gate: progress,
+        lanes: wanted.options.lanes,
+        capacity: wanted.options.capacity,
+        rules: wanted.options.rules,
+        key: drawn_key(rt),
+    };
+    let mut schema = Opened::new(rt, wanted.schema);
+    let mut file = Watched::new(file, progress);
+    let mut out = Stream::new(onto);
+    let mut told = Stream::new(fault);
+    let outcome = export(
+        rt,
+        alloc,
+        &how,
+        &mut schema,
+        &mut file,
+        &mut out,
+        &mut told,
+        explainer,
+    );
+    progress.remove();
+    explainer.hear_end(
+        outcome,
+        [schema.error(), file.source().error(), out.error()],
+    );
+    outcome
+}

@@ -1,0 +1,9 @@
+//! The program that exports a model.
+#![tactic(auto)]
+
+mod beside;
+mod command_line;
+mod database;
+mod words;
+
+pub use command_line::{Around, program, unreadable_words};

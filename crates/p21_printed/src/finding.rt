@@ -1,0 +1,98 @@
+//! What is found in a text, printed.
+
+ghost use Rattle.std.specs.Prelude.{◌≤◌, length, IfOk};
+ghost use Rattle.std.specs.String.{string_bytes};
+ghost use Rattle.p21_printed.specs.Printed.{IsPrinted};
+
+use crate::excerpt::{paragraph, push_line};
+use crate::json::object;
+use crate::said::Said;
+use crate::shown::new_text;
+use std::alloc::{AllocError, Global};
+
+/// How a fault is explained.
+#[derive(Clone, Copy, Debug, PartialEq, Eq)]
+pub enum Format {
+    /// Lines of text: the path with the line and the column of the place to look at, and the fault's own place as the report gives it;
+    /// that line of the file, in 120 columns, with a caret under the place; and what is wrong.
+    Text,
+    /// A line with an object of JSON.
+    Json,
+}
+
+/// What is found in a text: where, and of which kind.
+#[derive(Clone, Copy, Debug)]
+pub struct Finding<'a> {
+    /// The path of the text.
+    pub path: &'a str,
+    pub text: &'a [u8],
+    /// The place to look at, in bytes from the text's first byte; its end where it is not so long.
+    pub at: usize,
+    /// The place that the report gives.
+    pub reported: u64,
+    /// The name of its kind in the report.
+    pub kind: &'a [u8],
+}
+
+/// What is found, and what is said of it. Memory alone can fail.
+pub fn print_finding(
+    alloc: Global,
+    found: &Finding<'_>,
+    said: &Said,
+    format: Format,
+) -> Result<String, AllocError>
+    ensures { IfOk result (λ printed. IsPrinted (string_bytes printed)) }
+{
+    match format {
+        Format::Text => paragraph(alloc, found, said),
+        Format::Json => object(alloc, found, said),
+    }
+}
+
+/// The same, whose text is the line of what is said alone.
+pub fn print_line(
+    alloc: Global,
+    found: &Finding<'_>,
+    said: &Said,
+    format: Format,
+) -> Result<String, AllocError>
+    ensures { IfOk result (λ printed. IsPrinted (string_bytes printed)) }
+{
+    if format == Format::Json {
+        return object(alloc, found, said);
+    }
+    let mut line = new_text(alloc);
+    push_line(&mut line, said.bytes())?;
+    Ok(line)
+}
+
+/// A device that failed, in a line: its path or name, and what the system says of it. Memory alone can fail.
+pub fn explain_device<'a>(
+    alloc: Global,
+    path: &'a str,
+    words: &'a str,
+    format: Format,
+) -> Result<String, AllocError>
+    ensures { IfOk result (λ printed. IsPrinted (string_bytes printed)) }
+{
+    let mut said = Said::new(alloc);
+    said.say((path, ": ", words))?;
+    let found = Finding {
+        path,
+        text: b"",
+        at: 0,
+        reported: 0,
+        kind: b"Device",
+    };
+    print_line(alloc, &found, &said, format)
+}
+
+/// A place in a text; its end where it is not so long.
+pub fn in_text(text: &[u8], at: u64) -> usize
+    ensures { result ≤ length text.now }
+{
+    match usize::try_from(at) {
+        Ok(at) => at.min(text.len()),
+        Err(_) => text.len(),
+    }
+}
