@@ -82,6 +82,11 @@ impl<'a, C: Clock, P: Write> Explainer<'a, C, P> {
         }
     }
 
+    /// Hears why nothing is written to a path. It is told however few faults are explained.
+    pub fn hear_refusal(&mut self, path: &str, words: &str) {
+        let _ = self.add_line(path, words);
+    }
+
     /// Hears that a device failed.
     fn hear_failure(&mut self, errors: [Option<io::Error>; 3]) {
         if self.most > 0 {
