@@ -4,7 +4,7 @@ use crate::codes::{CFault, HANDLE, MEMORY, NONE, told_fault};
 use crate::handle::Handle;
 use crate::held::Held;
 use crate::schema_calls::hand_text;
-use p21_explain::{Format, Subject, explain_fault};
+use p21_explain::{Format, Lines, Subject, explain_fault};
 use std::alloc::Global;
 use std::str::from_utf8;
 
@@ -31,7 +31,8 @@ pub extern "C" fn p21_explain(
         path: from_utf8(path).unwrap_or("file"),
         file,
     };
-    match explain_fault(alloc, subject, &found, b"", Format::Text) {
+    let mut lines = Lines::new(file);
+    match explain_fault(alloc, subject, &mut lines, &found, b"", Format::Text) {
         Ok(said) => hand_text(said.as_bytes(), room, length),
         Err(_) => MEMORY,
     }

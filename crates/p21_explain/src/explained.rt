@@ -11,7 +11,7 @@ use crate::header::{say_header_entities, say_wrong_schema};
 use crate::instance::Instance;
 use p21_cut::{Cut, Cutter};
 use p21_express::EntityDecl;
-use p21_printed::{Finding, Format, Said, in_text, print_finding};
+use p21_printed::{Finding, Format, Lines, Said, in_text, print_finding};
 use p21_schema::Schema;
 use p21_spelling::Spellings;
 use p21_tree::{Fault, FaultKind};
@@ -56,11 +56,13 @@ impl<'a> Subject<'a> {
 
 /// A fault of a file, explained. `kind` is the name of its kind in the report.
 ///
-/// The file is the one that the schema was asked about, and the fault is one of it; of another file or fault less is said. No byte of the
+/// The file is the one that the schema was asked about, the lines are its own, and the fault is one of it; of another file or fault less is said. Of faults in
+/// their order no more of a line is looked at than lies between them. No byte of the
 /// file or the path is printed as it is that could be one of control. Memory alone can fail.
 pub fn explain_fault(
     alloc: Global,
     subject: Subject<'_>,
+    lines: &mut Lines<'_>,
     fault: &Fault,
     kind: &[u8],
     format: Format,
@@ -70,13 +72,16 @@ pub fn explain_fault(
     let mut said = Said::new(alloc);
     let at = in_text(subject.file, fault.at);
     let looked_at = say_fault(&mut said, subject, fault.kind, at)?;
-    printed(alloc, subject, fault.at, looked_at, kind, &said, format)
+    printed(
+        alloc, subject, lines, fault.at, looked_at, kind, &said, format,
+    )
 }
 
 /// What is said of a fault: by the place that the report gives, the place to look at, and the name of its kind.
 pub(crate) fn printed(
     alloc: Global,
     subject: Subject<'_>,
+    lines: &mut Lines<'_>,
     reported: u64,
     looked_at: usize,
     kind: &[u8],
@@ -87,12 +92,11 @@ pub(crate) fn printed(
 {
     let found = Finding {
         path: subject.path,
-        text: subject.file,
         at: looked_at,
         reported,
         kind,
     };
-    print_finding(alloc, &found, said, format)
+    print_finding(alloc, lines, &found, said, format)
 }
 
 /// The instance that begins at a place.

@@ -24,7 +24,7 @@ mod walk;
 
 pub use explained::{Subject, explain_fault};
 pub use groups::summary;
-pub use p21_printed::{Format, Place, explain_device, place_of};
+pub use p21_printed::{Format, Lines, Place, explain_device, place_of};
 pub use p21_spelling::{Spellings, spell_names};
 pub use refused::explain_schema_fault;
 pub use rule::{BrokenInverse, BrokenUnique, Reason, Rule, RuleCount, RuleForm, UncheckedRule};

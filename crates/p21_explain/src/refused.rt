@@ -6,7 +6,7 @@ ghost use Rattle.p21_printed.specs.Printed.{IsPrinted};
 
 use crate::mistakes::instead_of_schema;
 use p21_express::SchemaError;
-use p21_printed::{Finding, Format, Front, Said, in_text, place_of, print_finding};
+use p21_printed::{Finding, Format, Front, Lines, Said, in_text, place_of, print_finding};
 use p21_spelling::next_word;
 use std::alloc::{AllocError, Global};
 
@@ -36,12 +36,11 @@ pub fn explain_schema_fault(
     say_rule(&mut said, text, at, error)?;
     let found = Finding {
         path,
-        text,
         at,
         reported: place,
         kind,
     };
-    print_finding(alloc, &found, &said, format)
+    print_finding(alloc, &mut Lines::new(text), &found, &said, format)
 }
 
 /// The words of forms that are not supported, and what to do about each.

@@ -9,7 +9,7 @@ use crate::faults::say_record;
 use crate::instance::{Instance, Spot};
 use crate::references::say_named;
 use crate::rule::{BrokenInverse, BrokenUnique, Reason, RuleForm, UncheckedRule};
-use p21_printed::{Finding, Format, Front, Said, in_text, print_line};
+use p21_printed::{Finding, Format, Front, Lines, Said, in_text, print_line};
 use p21_schema::AttrId;
 use p21_spelling::{Spellings, next_word};
 use std::alloc::{AllocError, Global};
@@ -18,6 +18,7 @@ use std::alloc::{AllocError, Global};
 pub fn explain_not_unique(
     alloc: Global,
     subject: Subject<'_>,
+    lines: &mut Lines<'_>,
     broken: &BrokenUnique<'_>,
     format: Format,
 ) -> Result<String, AllocError>
@@ -28,7 +29,16 @@ pub fn explain_not_unique(
         Some(instance) => say_not_unique(&mut said, &instance, broken)?,
         None => in_text(subject.file, broken.at),
     };
-    printed(alloc, subject, broken.at, at, b"NotUnique", &said, format)
+    printed(
+        alloc,
+        subject,
+        lines,
+        broken.at,
+        at,
+        b"NotUnique",
+        &said,
+        format,
+    )
 }
 
 /// Adds which values an earlier instance has too, and by which rule; answers the place to look at.
@@ -52,6 +62,7 @@ fn say_not_unique(
 pub fn explain_inverse_count(
     alloc: Global,
     subject: Subject<'_>,
+    lines: &mut Lines<'_>,
     text: &[u8],
     broken: &BrokenInverse<'_>,
     format: Format,
@@ -66,6 +77,7 @@ pub fn explain_inverse_count(
     printed(
         alloc,
         subject,
+        lines,
         broken.at,
         at,
         b"InverseCount",
@@ -185,12 +197,11 @@ pub fn explain_passed_over(
     say_reason(&mut said, text, unchecked)?;
     let found = Finding {
         path,
-        text,
         at: in_text(text, unchecked.at),
         reported: unchecked.at,
         kind: b"NotChecked",
     };
-    print_line(alloc, &found, &said, format)
+    print_line(alloc, &mut Lines::new(text), &found, &said, format)
 }
 
 /// Adds why a rule was not checked.

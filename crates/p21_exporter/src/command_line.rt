@@ -2,13 +2,14 @@
 
 use crate::beside::Beside;
 use crate::database::export_database;
+use crate::place::{Place, input_at_place, is_no_file};
 use crate::words::{Onto, Refusal, Wanted, what_is_wanted};
 use p21_export::{How, Outcome, Source, Stream, export};
 use p21_report::{
     Explainer, LastError, Names, Opened, Program, Progress, Stage, Watched, drawn_key,
 };
 use std::alloc::Global;
-use std::fs::{self, File, Files};
+use std::fs::{File, Files};
 use std::io::{self, Read, Write};
 use std::sync::Wait;
 use std::thread::Threads;
@@ -48,6 +49,9 @@ where
     } = around;
     match what_is_wanted(alloc, words, is_terminal) {
         Ok(wanted) => {
+            if let Some(input) = input_at_place(host, &wanted) {
+                return refused_input(input, errors);
+            }
             let is_shown = is_terminal || wanted.options.progress;
             let progress = Progress::new(rt, progress, Program::Export, is_shown);
             let mut said = String::new(alloc);
@@ -75,6 +79,15 @@ pub fn unreadable_words<E: Write>(errors: &mut E) -> u8 {
     let _ = writeln!(
         errors,
         "p21export: invalid UTF-8 was detected in one or more arguments"
+    );
+    2
+}
+
+/// What the program ends with where OUT is one of its inputs.
+fn refused_input<E: Write>(input: &str, errors: &mut E) -> u8 {
+    let _ = writeln!(
+        errors,
+        "p21export: OUT is the same file as {input}, which an export does not replace"
     );
     2
 }
@@ -135,7 +148,7 @@ where
             &mut explainer,
         )
     } else {
-        let file = Opened::new(rt, wanted.file);
+        let file = Opened::file(rt, wanted.file);
         export_from(
             rt,
             host,
@@ -183,7 +196,7 @@ where
             )
         }
         Onto::Json(path) => export_json(
-            rt, alloc, wanted, path, progress, file, &mut fault, explainer,
+            rt, host, alloc, wanted, path, progress, file, &mut fault, explainer,
         ),
         Onto::Sqlite(path) => export_database(
             rt, host, alloc, wanted, path, progress, file, &mut fault, explainer,
@@ -198,6 +211,7 @@ where
 /// Exports JSON to a path.
 fn export_json<R, F, P>(
     rt: &R,
+    host: &HostRuntime,
     alloc: Global,
     wanted: &Wanted<'_>,
     path: &str,
@@ -211,20 +225,21 @@ where
     F: Source + LastError + Drop,
     P: Write + Send + Drop,
 {
-    if is_no_file(rt, path) {
-        match File::create(rt, path) {
+    if is_no_file(host, path) {
+        return match File::create(host, path) {
             Ok(onto) => export_to(rt, alloc, wanted, progress, file, onto, fault, explainer),
             Err(error) => refused(explainer, error),
-        }
-    } else {
-        match Beside::create(rt, alloc, path) {
-            Ok(beside) => {
-                export_beside(
-                    rt, alloc, wanted, path, progress, file, beside, fault, explainer,
-                )
-            }
-            Err(error) => refused(explainer, error),
-        }
+        };
+    }
+    let place = match Place::of(host, alloc, path) {
+        Ok(place) => place,
+        Err(error) => return refused(explainer, error),
+    };
+    match Beside::create(host, alloc, &place) {
+        Ok(beside) => export_beside(
+            rt, alloc, wanted, &place, progress, file, beside, fault, explainer,
+        ),
+        Err(error) => refused(explainer, error),
     }
 }
 
@@ -242,23 +257,15 @@ pub(crate) fn refused<R: Clock, P: Write>(
     outcome
 }
 
-/// Whether something stands at the path that is no regular file, as a device or a pipe: nothing may take its place.
-pub(crate) fn is_no_file<R: Files>(rt: &R, path: &str) -> bool {
-    match fs::metadata(rt, path) {
-        Ok(found) => !found.is_file(),
-        Err(_) => false,
-    }
-}
-
-/// Exports into a new file beside the path that is wanted, which takes its name when it is whole.
+/// Exports into a new file beside the place, which takes it when it is whole.
 fn export_beside<R, F, P>(
     rt: &R,
     alloc: Global,
     wanted: &Wanted<'_>,
-    path: &str,
+    place: &Place,
     progress: &Progress<&R, P>,
     file: F,
-    beside: Beside<'_, R>,
+    beside: Beside<'_>,
     fault: &mut Vec<u8>,
     explainer: &mut Explainer<'_, &R, P>,
 ) -> Outcome
@@ -274,7 +281,7 @@ where
         beside.remove();
         return outcome;
     }
-    match beside.take_place(path) {
+    match beside.take_place(place) {
         Ok(()) => Outcome::Complete,
         Err(error) => refused(explainer, error),
     }
@@ -304,7 +311,7 @@ where
         rules: wanted.options.rules,
         key: drawn_key(rt),
     };
-    let mut schema = Opened::new(rt, wanted.schema);
+    let mut schema = Opened::schema(rt, wanted.schema);
     let mut file = Watched::new(file, progress);
     let mut out = Stream::new(onto);
     let mut told = Stream::new(fault);

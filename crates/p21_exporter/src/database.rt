@@ -1,7 +1,8 @@
 //! An export into a database.
 
-use crate::beside::{Beside, log_name};
-use crate::command_line::{is_no_file, refused};
+use crate::beside::{Beside, log_beside, log_name};
+use crate::command_line::refused;
+use crate::place::{Place, is_no_file};
 use crate::words::{PROGRAM, Wanted};
 use p21_database::{Database, io_error};
 use p21_export::{How, Outcome, Source, Stream};
@@ -15,7 +16,12 @@ use std::sync::Wait;
 use std::thread::Threads;
 use std::time::Clock;
 
-/// Exports into a new file beside the path, which takes its name when it is whole. What is no regular file is left as it is.
+/// What is said of a log that stands where one of the new database would.
+const LOG: &str =
+    "the log of an earlier database stands here, which would damage the new one: close that database, or remove the log";
+
+/// Exports into a new file beside the path, which takes its name when it is whole. What is no regular file is left as it is, and so is a database
+/// whose log stands beside it.
 pub(crate) fn export_database<R, F, P>(
     rt: &R,
     host: &HostRuntime,
@@ -32,27 +38,51 @@ where
     F: Source + LastError + Drop,
     P: Write + Send + Drop,
 {
-    if is_no_file(rt, path) {
+    if is_no_file(host, path) {
         return refused(explainer, io::Error::from(io::ErrorKind::InvalidInput));
     }
-    match Beside::create_database(rt, alloc, path) {
+    let place = match Place::of(host, alloc, path) {
+        Ok(place) => place,
+        Err(error) => return refused(explainer, error),
+    };
+    if let Some(outcome) = refused_for_log(host, alloc, &place, explainer) {
+        return outcome;
+    }
+    match Beside::create(host, alloc, &place) {
         Ok(beside) => export_beside(
-            rt, host, alloc, wanted, path, progress, file, beside, fault, explainer,
+            rt, host, alloc, wanted, &place, progress, file, beside, fault, explainer,
         ),
         Err(error) => refused(explainer, error),
     }
 }
 
-/// Exports into a new file.
+/// What a run ends with where the log of an earlier database stands beside the place.
+fn refused_for_log<C: Clock, P: Write>(
+    host: &HostRuntime,
+    alloc: Global,
+    place: &Place,
+    explainer: &mut Explainer<'_, C, P>,
+) -> Option<Outcome> {
+    match log_beside(host, alloc, place.path()) {
+        Ok(Some(log)) => {
+            explainer.hear_refusal(log.as_str(), LOG);
+            Some(Outcome::Device)
+        }
+        Ok(None) => None,
+        Err(_) => Some(Outcome::Memory),
+    }
+}
+
+/// Exports into a new file, which takes the place where no log came to stand beside it meanwhile.
 fn export_beside<R, F, P>(
     rt: &R,
     host: &HostRuntime,
     alloc: Global,
     wanted: &Wanted<'_>,
-    path: &str,
+    place: &Place,
     progress: &Progress<&R, P>,
     file: F,
-    beside: Beside<'_, R>,
+    beside: Beside<'_>,
     fault: &mut Vec<u8>,
     explainer: &mut Explainer<'_, &R, P>,
 ) -> Outcome
@@ -61,34 +91,47 @@ where
     F: Source + LastError + Drop,
     P: Write + Send + Drop,
 {
-    let outcome = match opened(rt, host, alloc, beside.path()) {
+    let mut outcome = match opened(host, alloc, &beside) {
         Ok(conn) => export_into(rt, alloc, wanted, progress, file, conn, fault, explainer),
         Err(error) => refused(explainer, error),
     };
+    if outcome == Outcome::Complete {
+        outcome = refused_for_log(host, alloc, place, explainer).unwrap_or(outcome);
+    }
     if outcome != Outcome::Complete {
         beside.remove();
         return outcome;
     }
-    match beside.take_place(path) {
+    match beside.take_place(place) {
         Ok(()) => Outcome::Complete,
         Err(error) => refused(explainer, error),
     }
 }
 
 /// The database in a new file. Its log, which is open, has no name: whatever ends the run, one file is left at most.
-fn opened<R: Files>(
-    rt: &R,
+fn opened(
+    host: &HostRuntime,
+    alloc: Global,
+    beside: &Beside<'_>,
+) -> io::Result<Connection<FileStore<File>>> {
+    if let Ok(conn) = opened_once(host, alloc, beside.path())? {
+        return Ok(conn);
+    }
+    // A file system of the network may take the lock of the run for one of another database.
+    beside.unlock();
+    opened_once(host, alloc, beside.path())?.map_err(io_error)
+}
+
+/// The database in a file, if it can be opened now.
+fn opened_once(
     host: &HostRuntime,
     alloc: Global,
     path: &str,
-) -> io::Result<Connection<FileStore<File>>> {
+) -> io::Result<Result<Connection<FileStore<File>>, sqlite::Error>> {
     let log = log_name(alloc, path)?;
     let opened = Connection::open(host, path);
-    let _ = fs::remove_file(rt, log.as_str());
-    match opened {
-        Ok(conn) => Ok(conn),
-        Err(error) => Err(io_error(error)),
-    }
+    let _ = fs::remove_file(host, log.as_str());
+    Ok(opened)
 }
 
 /// Exports into a database, and closes it.
@@ -154,7 +197,7 @@ where
         program: PROGRAM,
         file: wanted.file,
     };
-    let mut schema = Opened::new(rt, wanted.schema);
+    let mut schema = Opened::schema(rt, wanted.schema);
     let mut file = Watched::new(file, progress);
     let mut told = Stream::new(fault);
     let outcome = export_rows(

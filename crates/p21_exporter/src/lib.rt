@@ -4,6 +4,7 @@
 mod beside;
 mod command_line;
 mod database;
+mod place;
 mod words;
 
 pub use command_line::{Around, program, unreadable_words};

@@ -1,2 +1,3 @@
 pub mod LineEndLemmas
+pub mod PlaceLemmas
 pub mod PrintedLemmas

@@ -1,11 +1,11 @@
 //! A line of a text, with a caret under a place in it.
 
-ghost use Rattle.std.specs.Prelude.{◌≤◌, length, OnOk, IfOk};
+ghost use Rattle.std.specs.Prelude.{◌≡◌, ◌≤◌, length, OnOk, IfOk};
 ghost use Rattle.std.specs.String.{string_bytes};
 ghost use Rattle.p21_printed.specs.Printed.{IsPrinted};
 
 use crate::finding::Finding;
-use crate::place::{Place, place_of};
+use crate::place::{Lines, Place};
 use crate::said::Said;
 use crate::shown::{front_len, new_text, push_blanks, push_line_end, push_shown};
 use memchr::memchr;
@@ -18,23 +18,28 @@ const COLUMNS: usize = 120;
 /// What stands for what is left out of a line.
 const LEFT_OUT: &[u8] = b"...";
 
-/// A paragraph on what was found in a text: its head, the line of the place with a caret under it, and what is said of it. The head gives
+/// How many bytes behind a place are looked at, which is more than are shown: a column takes four bytes at most.
+const SHOWN: usize = 1024;
+
+/// A paragraph on what was found among the lines of a text: its head, the line of the place with a caret under it, and what is said of it. The head gives
 /// the path, the line and the column, and the place that the report gives.
 pub(crate) fn paragraph(
     alloc: Global,
+    lines: &mut Lines<'_>,
     found: &Finding<'_>,
     said: &Said,
 ) -> Result<String, AllocError>
-    ensures { IfOk result (λ printed. IsPrinted (string_bytes printed)) }
+    ensures printed { IfOk result (λ printed. IsPrinted (string_bytes printed)) }
+    ensures lines { lines.new ≡ lines.old }
 {
-    let at = found.at.min(found.text.len());
-    let place = place_of(found.text, at);
+    let at = found.at.min(lines.text().len());
+    let place = lines.place(at);
     let mut head = Said::new(alloc);
     head.say((found.path, ":", place.line as u64))?;
     head.say((":", place.column as u64, ": fault at ", found.reported))?;
     let mut printed = new_text(alloc);
     push_line(&mut printed, head.bytes())?;
-    push_excerpt(alloc, &mut printed, found.text, at, &place)?;
+    push_excerpt(alloc, &mut printed, lines.text(), at, &place)?;
     push_line(&mut printed, said.bytes())?;
     Ok(printed)
 }
@@ -61,13 +66,14 @@ fn push_excerpt(
     requires printed { IsPrinted (string_bytes text.old) }
     ensures { OnOk result (IsPrinted (string_bytes text.new)) }
 {
-    let line = line_from(file, place.start);
-    let offset = (at - place.start).min(line.len());
+    let end = shown_end(file, place.start, at);
+    let before_end = at.min(end);
     let mut margin = Said::new(alloc);
     margin.say(place.line as u64)?;
     let room = COLUMNS.saturating_sub(margin.len());
-    let before = end_shown(alloc, &line[..offset], room / 3 * 2)?;
-    push_marked(text, margin.bytes(), before.as_str(), &line[offset..], room)
+    let before = end_shown(alloc, &file[place.start..before_end], room / 3 * 2)?;
+    let behind = &file[before_end..end];
+    push_marked(text, margin.bytes(), before.as_str(), behind, room)
 }
 
 /// Adds a line by what is shown of it before a place and what stands behind, in so many columns, and a line with a caret under the place.
@@ -96,17 +102,23 @@ fn push_marked(
     push_line(text, b"^")
 }
 
-/// The line that begins at a place, without its end.
-fn line_from(file: &[u8], start: usize) -> &[u8]
-    requires { start ≤ length file.now }
+/// Where the line that begins at one place ends, of which the bytes behind another are shown; or behind more bytes than can be shown. A line
+/// end is a byte 10, and a byte 13 before it.
+fn shown_end(file: &[u8], start: usize, at: usize) -> usize
+    requires start { start ≤ at }
+    requires within { at ≤ length file.now }
+    ensures begins { start ≤ result }
+    ensures ends { result ≤ length file.now }
 {
-    let rest = &file[start..];
-    let len = match memchr(b'\n', rest) {
-        Some(len) => len,
-        None => rest.len(),
+    let near = &file[at..at.saturating_add(SHOWN).min(file.len())];
+    let end = match memchr(b'\n', near) {
+        Some(len) => at + len,
+        None => at + near.len(),
     };
-    let line = &rest[..len];
-    line.strip_suffix(b"\r").unwrap_or(line)
+    match &file[start..end] {
+        [front @ .., b'\r'] => start + front.len(),
+        _ => end,
+    }
 }
 
 /// The end of some bytes as it is shown in so many columns, with three points before it where that is not all of them.

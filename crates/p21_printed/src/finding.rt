@@ -1,11 +1,12 @@
 //! What is found in a text, printed.
 
-ghost use Rattle.std.specs.Prelude.{◌≤◌, length, IfOk};
+ghost use Rattle.std.specs.Prelude.{◌≡◌, ◌≤◌, length, IfOk};
 ghost use Rattle.std.specs.String.{string_bytes};
 ghost use Rattle.p21_printed.specs.Printed.{IsPrinted};
 
 use crate::excerpt::{paragraph, push_line};
 use crate::json::object;
+use crate::place::Lines;
 use crate::said::Said;
 use crate::shown::new_text;
 use std::alloc::{AllocError, Global};
@@ -25,7 +26,6 @@ pub enum Format {
 pub struct Finding<'a> {
     /// The path of the text.
     pub path: &'a str,
-    pub text: &'a [u8],
     /// The place to look at, in bytes from the text's first byte; its end where it is not so long.
     pub at: usize,
     /// The place that the report gives.
@@ -34,32 +34,37 @@ pub struct Finding<'a> {
     pub kind: &'a [u8],
 }
 
-/// What is found, and what is said of it. Memory alone can fail.
+/// What is found among the lines of a text, and what is said of it. Memory alone can fail. Of findings in their order no more of the text is looked
+/// at than lies between them.
 pub fn print_finding(
     alloc: Global,
+    lines: &mut Lines<'_>,
     found: &Finding<'_>,
     said: &Said,
     format: Format,
 ) -> Result<String, AllocError>
-    ensures { IfOk result (λ printed. IsPrinted (string_bytes printed)) }
+    ensures printed { IfOk result (λ printed. IsPrinted (string_bytes printed)) }
+    ensures lines { lines.new ≡ lines.old }
 {
     match format {
-        Format::Text => paragraph(alloc, found, said),
-        Format::Json => object(alloc, found, said),
+        Format::Text => paragraph(alloc, lines, found, said),
+        Format::Json => object(alloc, lines, found, said),
     }
 }
 
 /// The same, whose text is the line of what is said alone.
 pub fn print_line(
     alloc: Global,
+    lines: &mut Lines<'_>,
     found: &Finding<'_>,
     said: &Said,
     format: Format,
 ) -> Result<String, AllocError>
-    ensures { IfOk result (λ printed. IsPrinted (string_bytes printed)) }
+    ensures printed { IfOk result (λ printed. IsPrinted (string_bytes printed)) }
+    ensures lines { lines.new ≡ lines.old }
 {
     if format == Format::Json {
-        return object(alloc, found, said);
+        return object(alloc, lines, found, said);
     }
     let mut line = new_text(alloc);
     push_line(&mut line, said.bytes())?;
@@ -79,12 +84,11 @@ pub fn explain_device<'a>(
     said.say((path, ": ", words))?;
     let found = Finding {
         path,
-        text: b"",
         at: 0,
         reported: 0,
         kind: b"Device",
     };
-    print_line(alloc, &found, &said, format)
+    print_line(alloc, &mut Lines::new(b""), &found, &said, format)
 }
 
 /// A place in a text; its end where it is not so long.

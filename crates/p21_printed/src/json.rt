@@ -1,23 +1,29 @@
 //! A fault as an object of JSON, in a line.
 
-ghost use Rattle.std.specs.Prelude.{IfOk};
+ghost use Rattle.std.specs.Prelude.{◌≡◌, IfOk};
 ghost use Rattle.std.specs.String.{string_bytes};
 ghost use Rattle.p21_printed.specs.Printed.{IsPrinted};
 
 use crate::excerpt::push_line;
 use crate::finding::Finding;
-use crate::place::place_of;
+use crate::place::Lines;
 use crate::said::Said;
 use crate::shown::{new_text, push_shown};
 use std::alloc::{AllocError, Global};
 use std::slice;
 
-/// The object of what was found in a text: where it is, its kind, and what is said of it.
-pub(crate) fn object(alloc: Global, found: &Finding<'_>, said: &Said) -> Result<String, AllocError>
-    ensures { IfOk result (λ printed. IsPrinted (string_bytes printed)) }
+/// The object of what was found among the lines of a text: where it is, its kind, and what is said of it.
+pub(crate) fn object(
+    alloc: Global,
+    lines: &mut Lines<'_>,
+    found: &Finding<'_>,
+    said: &Said,
+) -> Result<String, AllocError>
+    ensures printed { IfOk result (λ printed. IsPrinted (string_bytes printed)) }
+    ensures lines { lines.new ≡ lines.old }
 {
-    let at = found.at.min(found.text.len());
-    let place = place_of(found.text, at);
+    let at = found.at.min(lines.text().len());
+    let place = lines.place(at);
     let mut line = Said::new(alloc);
     say_member(alloc, &mut line, "{", "file", Some(found.path.as_bytes()))?;
     line.say((",\"byte\":", at as u64))?;

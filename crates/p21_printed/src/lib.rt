@@ -10,6 +10,6 @@ mod shown;
 
 pub use excerpt::push_line;
 pub use finding::{Finding, Format, explain_device, in_text, print_finding, print_line};
-pub use place::{Place, place_of};
+pub use place::{Lines, Place, place_of};
 pub use said::{Front, Said, Say, Span, article};
 pub use shown::new_text;

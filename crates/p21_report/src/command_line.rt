@@ -181,7 +181,7 @@ where
         let file = Stream::new(input);
         run_over(rt, alloc, wanted, progress, file, output, &mut explainer)
     } else {
-        let file = Opened::new(rt, wanted.file);
+        let file = Opened::file(rt, wanted.file);
         run_over(rt, alloc, wanted, progress, file, output, &mut explainer)
     };
     *said = explainer.into_said();
@@ -215,7 +215,7 @@ where
     C: Clock + Sync + Drop,
     P: Write + Send + Drop,
 {
-    let mut schema = Opened::new(rt, wanted.schema);
+    let mut schema = Opened::schema(rt, wanted.schema);
     let mut file = Watched::new(file, progress);
     let mut out = Stream::new(output);
     let options = wanted.options;

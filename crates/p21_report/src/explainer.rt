@@ -3,7 +3,7 @@
 use crate::progress::{Progress, Stage};
 use crate::rules::{broken_inverse, broken_unique, counts_of, unchecked};
 use p21_explain::{
-    Format, Spellings, Subject, explain_device, explain_fault, explain_inverse_count,
+    Format, Lines, Spellings, Subject, explain_device, explain_fault, explain_inverse_count,
     explain_not_unique, explain_passed_over, explain_schema_fault, rule_summary, spell_names,
     summary,
 };
@@ -82,6 +82,11 @@ impl<'a, C: Clock, P: Write> Explainer<'a, C, P> {
         }
     }
 
+    /// Hears why nothing is written to a path. It is told however few faults are explained.
+    pub fn hear_refusal(&mut self, path: &str, words: &str) {
+        let _ = self.add_line(path, words);
+    }
+
     /// Hears that a device failed.
     fn hear_failure(&mut self, errors: [Option<io::Error>; 3]) {
         if self.most > 0 {
@@ -125,9 +130,17 @@ impl<'a, C: Clock, P: Write> Explainer<'a, C, P> {
             path: self.names.file,
             file,
         };
+        let mut lines = Lines::new(file);
         for fault in faults.iter().take(self.most) {
             let line = fault_line(self.alloc, fault)?;
-            let told = explain_fault(self.alloc, subject, fault, kind_in(&line), self.format)?;
+            let told = explain_fault(
+                self.alloc,
+                subject,
+                &mut lines,
+                fault,
+                kind_in(&line),
+                self.format,
+            )?;
             say(&mut self.said, told)?;
         }
         if faults.len() > 1 && self.format == Format::Text {
@@ -140,6 +153,7 @@ impl<'a, C: Clock, P: Write> Explainer<'a, C, P> {
     fn explained(
         &self,
         subject: Subject<'_>,
+        lines: &mut Lines<'_>,
         rules: &Rules,
         fault: &RuleFault,
     ) -> Result<String, AllocError> {
@@ -147,12 +161,14 @@ impl<'a, C: Clock, P: Write> Explainer<'a, C, P> {
         match fault {
             RuleFault::NotUnique(fault) => {
                 if let Some(broken) = broken_unique(rules, fault) {
-                    return explain_not_unique(alloc, subject, &broken, format);
+                    return explain_not_unique(alloc, subject, lines, &broken, format);
                 }
             }
             RuleFault::InverseCount(fault) => {
                 if let Some(broken) = broken_inverse(rules, fault) {
-                    return explain_inverse_count(alloc, subject, &self.text, &broken, format);
+                    return explain_inverse_count(
+                        alloc, subject, lines, &self.text, &broken, format,
+                    );
                 }
             }
         }
@@ -174,8 +190,9 @@ impl<'a, C: Clock, P: Write> Explainer<'a, C, P> {
             path: self.names.file,
             file,
         };
+        let mut lines = Lines::new(file);
         for fault in faults.iter().take(self.most) {
-            let told = self.explained(subject, rules, fault)?;
+            let told = self.explained(subject, &mut lines, rules, fault)?;
             say(&mut self.said, told)?;
         }
         if faults.len() > 1 && self.format == Format::Text {
