@@ -147,6 +147,18 @@ def names(value):
     return names(value[2]) if value[0] == 'typed' else [value[1]] if value[0] == 'name' else []
 
 
+def statements(body):
+    """The statements of an entity's body, each with the section that it stands in."""
+    section = ''
+    for statement in body.split(';'):
+        while match := re.match(r'\s*(DERIVE|INVERSE|UNIQUE|WHERE)\b', statement):
+            if section == 'WHERE' or match[1] == 'DERIVE' and section:
+                break
+            section, statement = match[1], statement[match.end():]
+        if statement.strip():
+            yield section, statement.strip()
+
+
 class Rules:
     """The rules UNIQUE of a schema's text: entity, label, and attributes as they are newly declared; and its INVERSE attributes: entity, name, whether each
     reference counts, bounds, the entity that refers, and its attribute."""
@@ -158,17 +170,15 @@ class Rules:
         # What each entity declares in DERIVE again, by the entity that declares it first and its name.
         self.derived = {}
         for entity, _, body in re.findall(r'\bENTITY\s+(%s)([^;]*);(.*?)\bEND_ENTITY\b' % NAME, plain, re.DOTALL):
-            match = re.search(r'(?:^|;)\s*DERIVE\b((?:(?!\bINVERSE\b|\bUNIQUE\b|\bWHERE\b).)*)', body, re.DOTALL)
-            self.derived[entity] = set(re.findall(r'(?:^|;)\s*SELF\s*\\\s*(%s)\s*\.\s*(%s)\s*:' % (NAME, NAME), match[1] if match else ''))
+            derived = (re.match(r'SELF\s*\\\s*(%s)\s*\.\s*(%s)\s*:' % (NAME, NAME), it) for section, it in statements(body) if section == 'DERIVE')
+            self.derived[entity] = {it.groups() for it in derived if it}
         for entity, _, body in re.findall(r'\bENTITY\s+(%s)([^;]*);(.*?)\bEND_ENTITY\b' % NAME, plain, re.DOTALL):
-            match = re.search(r'(?:^|;)\s*UNIQUE\b((?:(?!\bWHERE\b).)*)', body, re.DOTALL)
-            for number, clause in enumerate(match[1].split(';')[:-1] if match else [], 1):
+            for number, clause in enumerate((it for section, it in statements(body) if section == 'UNIQUE'), 1):
                 label, _, names = clause.rpartition(':')
                 attributes = [self.resolve(entity, it) for it in names.split(',')]
                 if None not in attributes:
                     self.rules.append((entity, label.strip() or str(number), attributes))
-            match = re.search(r'(?:^|;)\s*INVERSE\b((?:(?!\bUNIQUE\b|\bWHERE\b).)*)', body, re.DOTALL)
-            self.inverse += [self.bounds(entity, clause) for clause in (match[1].split(';')[:-1] if match else [])]
+            self.inverse += [self.bounds(entity, it) for section, it in statements(body) if section == 'INVERSE']
         self.inverse = [it for it in self.inverse if it]
 
     def bounds(self, entity, clause):

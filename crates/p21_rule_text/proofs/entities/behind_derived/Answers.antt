@@ -3,7 +3,7 @@ use Rattle.std.proofs.lemmas.Result.{err_from_is_err_and}
 use Rattle.p21_express.specs.Reader.{words_of}
 use Rattle.p21_rule_text.proofs.LoopLemmas.{goes_on, is_done, fails}
 use Rattle.p21_rule_text.proofs.ClauseLemmas.{up_to_shrinks, up_to_gives, up_to_fails}
-use Rattle.p21_rule_text.proofs.entities.behind_attributes.Goals as goal
+use Rattle.p21_rule_text.proofs.entities.behind_derived.Goals as goal
 
 pub returns-in_err-rest : goal.returns-in_err-rest
 returns-in_err-rest c =
