@@ -3,3 +3,4 @@ mod FirstLemmas
 mod NameLemmas
 mod PathLemmas
 mod PlainLemmas
+mod KeyLemmas
