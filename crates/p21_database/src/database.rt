@@ -3,7 +3,7 @@
 ghost use Rattle.p21_schema.specs.Place.{IsEntityOf};
 
 use crate::failure::io_error;
-use crate::statements::{create_table, insert, own_name, table_name};
+use crate::statements::{create_table, entity_name, insert, own_name};
 use crate::views::create_view;
 use p21_json::Terms;
 use p21_rows::{Cell, InputError, Layout, Rows, Table};
@@ -21,9 +21,6 @@ const VALUES: usize = 512;
 
 /// How many rows a statement writes at most.
 const ROWS: usize = 32;
-
-/// How many attributes an entity with a table may have: SQLite takes 2000 columns, of which one is for the number of the instance.
-const ATTRIBUTES: usize = 1999;
 
 /// How many tables are of no entity.
 const OWN: usize = 3;
@@ -71,7 +68,7 @@ impl<S: Alter + Drop> Database<S> {
         conn
     }
 
-    /// Why the last call failed that did; none where a limit was passed.
+    /// Why the last call failed that did.
     pub fn error(&self) -> Option<io::Error> {
         match self.error {
             Some(error) => Some(io_error(error)),
@@ -146,7 +143,7 @@ impl<S: Alter + Drop> Database<S> {
         Ok(())
     }
 
-    /// Makes the table of an entity. One of too many attributes is a limit that is passed: no error is noted.
+    /// Makes the table of an entity.
     fn add_table(
         &mut self,
         terms: &Terms<'_>,
@@ -155,19 +152,15 @@ impl<S: Alter + Drop> Database<S> {
     ) -> Result<(), InputError>
         requires { IsEntityOf terms.now entity }
     {
-        let attributes = layout.columns(entity).len();
-        if attributes > ATTRIBUTES {
-            return Err(InputError::Device);
-        }
-        let name = table_name(self.alloc, terms, entity)?;
+        let name = entity_name(self.alloc, terms, entity)?;
         let sql = create_table(self.alloc, terms, layout, entity, name.as_str())?;
         self.run(sql.as_str())?;
-        let count = attributes.saturating_add(1);
+        let count = layout.columns(entity).len().saturating_add(1);
         self.wait_for(name.as_str(), count)?;
         Ok(())
     }
 
-    /// Makes the views of the entities.
+    /// Makes the views of the supertypes.
     fn add_views(&mut self, terms: &Terms<'_>, layout: &Layout<'_, '_>) -> Result<(), InputError> {
         let schema = terms.schema();
         for place in 0..schema.declared().entities.len() {

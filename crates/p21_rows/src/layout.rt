@@ -1,11 +1,12 @@
 //! The tables of a model and their columns.
 
+ghost use Rattle.std.specs.Prelude.{IfSome};
 ghost use Rattle.p21_schema.specs.Place.{IsEntityOf};
 ghost use Rattle.p21_schema.specs.Row.{IsAttributeOf};
 
 use crate::uses::{Use, uses_of};
 use p21_json::Terms;
-use p21_schema::{AttrId, EntityId};
+use p21_schema::{AttrId, EntityId, Schema};
 use p21_tree::RawInstance;
 use std::alloc::{AllocError, Global};
 
@@ -90,7 +91,7 @@ fn columns_at(
 }
 
 /// The columns of an entity: each is called as its attribute; as `entity.attribute`, by the entity that declares it, where the name is that
-/// of a column before it, `id`, or `entity`. That takes the square of how many they are. Memory alone can fail.
+/// of a column before it, or `id`. That takes the square of how many they are. Memory alone can fail.
 pub fn columns_of(
     alloc: Global,
     terms: &Terms<'_>,
@@ -119,16 +120,42 @@ fn column(
     if !is_taken(name, before) {
         return String::from_str(alloc, name);
     }
-    let mut text = String::new(alloc);
-    terms.write_full_name(&mut text, attribute)?;
-    Ok(text)
+    match declaring(terms.schema(), attribute) {
+        Some(entity) => format!(in alloc; "{}.{name}", terms.entity(entity)),
+        None => format!(in alloc; ".{name}"),
+    }
 }
 
-/// Whether a name is that of one of some columns, `id`, or `entity`, but for the case of letters.
+/// Whether a name is that of one of some columns, or `id`, but for the case of letters.
 fn is_taken(name: &str, columns: &[String]) -> bool {
     name.eq_ignore_ascii_case("id")
-        || name.eq_ignore_ascii_case("entity")
         || columns
             .iter()
             .any(|column| column.as_str().eq_ignore_ascii_case(name))
+}
+
+/// The entity that newly declares an attribute.
+fn declaring(schema: &Schema, attribute: AttrId) -> Option<EntityId>
+    ensures { IfSome result (IsEntityOf schema.now) }
+{
+    for place in 0..schema.declared().entities.len() {
+        if let Some(entity) = schema.entity_at(place)
+            && declares(schema, entity, attribute)
+        {
+            return Some(entity);
+        }
+    }
+    None
+}
+
+/// Whether an entity newly declares an attribute.
+fn declares(schema: &Schema, entity: EntityId, attribute: AttrId) -> bool
+    requires { IsEntityOf schema.now entity }
+{
+    for position in 0..schema.own_count(entity) {
+        if schema.own(entity, position) == attribute {
+            return true;
+        }
+    }
+    false
 }
