@@ -44,14 +44,14 @@ def part(text: str) -> Part:
     """The part that is written I/N."""
     number, slash, count = text.partition('/')
     if not (slash and is_number(number) and is_number(count) and 1 <= int(number) <= int(count)):
-        raise argparse.ArgumentTypeError('%r is no I/N, as 1/16' % text)
+        raise argparse.ArgumentTypeError('%r is not of the form I/N, as 1/16' % text)
     return Part(int(number), int(count))
 
 
 def count(text: str) -> int:
     """A number from 1."""
     if not is_number(text) or not int(text):
-        raise argparse.ArgumentTypeError('%r is no number from 1' % text)
+        raise argparse.ArgumentTypeError('%r is not a number of at least 1' % text)
     return int(text)
 
 
@@ -112,7 +112,7 @@ def base(folder: str) -> Tuple[Base, List[Finding]]:
     except (OSError, ValueError) as error:
         raise Refused(str(error)) from None
     if not schemas:
-        raise Refused(' '.join(['no schema is in %s' % folder, *('(%s: %s)' % (tables.escaped(it.file), it.sentence) for it in refused)]))
+        raise Refused(' '.join(['no schema is in %s' % tables.escaped(text_of(os.fsencode(folder))), *('(%s: %s)' % (tables.escaped(it.file), it.sentence) for it in refused)]))
     return Base(os.fsencode(TOP), os.fsencode(program()), os.fsencode(library()), schemas), refused
 
 
@@ -141,7 +141,7 @@ def planned(run: Run, wanted: argparse.Namespace) -> Plan:
     if not run.is_begun():
         return begun(run, asked, wanted)
     if not wanted.resume:
-        raise Refused('%s has a run: --resume goes on with it' % run.folder)
+        raise Refused('%s has a run: --resume continues it' % run.folder)
     made = run.plan()
     if made.asked != asked:
         raise Refused('%s has a run with other arguments or options' % run.folder)
@@ -173,7 +173,7 @@ def all_findings(run: Run, plan: Plan, found: Dict[str, Findings]) -> List[Findi
     """A finding for each file, in the order of their names."""
     unanswered = list(run.unanswered(plan.phases, found))
     if unanswered:
-        print('p21archive: of %d files there is no answer: %s has more' % (len(unanswered), run.path(LOG)), file=sys.stderr)
+        print('p21archive: %d files were not checked, since no worker finished them: %s has more' % (len(unanswered), run.path(LOG)), file=sys.stderr)
     findings = plan.refused + unanswered + [it for batch in found.values() for it in batch.findings]
     return sorted(findings, key=lambda it: bytes_of(it.file))
 
@@ -227,6 +227,9 @@ def main(words: List[str]) -> int:
     except OSError as error:
         print('p21archive: %s' % error, file=sys.stderr)
         return FAILED
+    except Exception as error:
+        print('p21archive: %s: %s' % (type(error).__name__, error), file=sys.stderr)
+        return FAILED
     except KeyboardInterrupt:
-        print('\np21archive: broken off; --resume goes on', file=sys.stderr)
+        print('\np21archive: interrupted; --resume continues', file=sys.stderr)
         return INTERRUPTED

@@ -15,7 +15,7 @@ BATCH = 'batch.json'
 # The one answer on a file that hangs on which schema it is checked against, where the file names none.
 WRONG_SCHEMA = 'WrongSchema'
 # A fault in words: the place to look at, the line with the caret, and the sentence.
-EXPLAINED = re.compile(r'-:(\d+):(\d+): fault at \d+\n([^\n]*\n[^\n]*)\n(.*)', re.DOTALL)
+EXPLAINED = re.compile(r'-:(\d+):(\d+): fault at \d+\n([^\n]*\n[^\n]*)\n([^\n]*)')
 
 
 def text_of(path: bytes) -> str:
@@ -45,7 +45,7 @@ class Untried(Exception):
     @classmethod
     def no_file(cls) -> Untried:
         """What is told of a FIFO, a device, a socket, or a folder in a file's place."""
-        return cls('NoFile', 'This is no plain file.')
+        return cls('NoFile', 'This is not a regular file.')
 
     @classmethod
     def no_schema_name(cls) -> Untried:

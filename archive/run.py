@@ -200,4 +200,4 @@ class Run:
         """The files of those batches that no worker came to the end of."""
         for name in (it for phase in phases for it in phase.batches if os.path.basename(it) not in found):
             for file in Batch.read(self.path(name)).files:
-                yield Finding(file.name, file.bytes, kind='NoAnswer', sentence='No worker came to the end of it: %s has more.' % LOG)
+                yield Finding(file.name, file.bytes, kind='NoAnswer', sentence='No worker finished it: %s has more.' % LOG)

@@ -8,6 +8,7 @@ from typing import Dict, List, Optional, Tuple
 
 from .model import Finding, Untried, text_of
 from .sources import Source
+from .tables import escaped
 
 # What a header is searched for: the begin of a comment or a string, its end, and the entity that has the name; and what is white.
 MARKS = re.compile(rb"/\*|'|\bENDSEC\b|(?<![!A-Z0-9_])FILE_SCHEMA\b")
@@ -117,7 +118,7 @@ def schemas_of(folder: bytes) -> Tuple[Dict[str, bytes], List[Finding]]:
         with open(path, 'rb') as file:
             schema = name_of_schema(file.read(MOST))
         if schema in found:
-            raise ValueError('two schemas have the name %s: %s and %s' % (schema, text_of(found[schema]), text_of(path)))
+            raise ValueError('two schemas have the name %s: %s and %s' % (schema, escaped(text_of(found[schema])), escaped(text_of(path))))
         if schema:
             found[schema] = path
     return found, refused

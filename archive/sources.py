@@ -30,7 +30,7 @@ MOST_MEMBERS, MOST_LISTED, MOST_DICTIONARY = 10000, 1 << 24, 1 << 28
 # The end of a zip, with the length of its list of files; and the end of one that is larger, which stands before that, with what leads to it.
 ZIP_END, LARGE_END = struct.Struct('<4s8xL6x'), struct.Struct('<4s36xQ8x4s16x')
 # What the unpackers raise for bytes that they cannot unpack.
-DAMAGES = (gzip.BadGzipFile, lzma.LZMAError, zipfile.BadZipFile, zlib.error, EOFError, RuntimeError)
+DAMAGES = (gzip.BadGzipFile, lzma.LZMAError, zipfile.BadZipFile, zlib.error, struct.error, EOFError, RuntimeError, ValueError)
 
 
 def is_packed(name: bytes) -> bool:
@@ -40,7 +40,8 @@ def is_packed(name: bytes) -> bool:
 
 def untried(error: Exception) -> Untried:
     """What an error of a reader says of its file."""
-    if isinstance(error, OSError) and not isinstance(error, gzip.BadGzipFile):
+    # An unpacker raises an OSError without a number for what it cannot unpack.
+    if isinstance(error, OSError) and error.errno is not None:
         return Untried.by(error)
     return Untried('Damaged', 'It cannot be unpacked: %s.' % error)
 

@@ -2,6 +2,7 @@
 
 from __future__ import annotations
 
+import contextlib
 import json
 import os
 import re
@@ -10,7 +11,6 @@ import signal
 import subprocess
 import sys
 import tempfile
-import threading
 import time
 from typing import BinaryIO, Dict, Iterator, List, NamedTuple
 
@@ -56,30 +56,37 @@ def feed(pipe: BinaryIO, front: bytes, source: Source) -> None:
         pass
 
 
-def ended(words: List[str], front: bytes, source: Source, seconds: int, **files: BinaryIO) -> int:
-    """The status of a run over a file, which is unpacked into its standard input where it is packed, and ended where it takes too many seconds."""
-    begun = time.monotonic()
+@contextlib.contextmanager
+def limited(seconds: int) -> Iterator[None]:
+    """Ends what takes more than so many seconds; a call of the library is over first."""
+    def late(*_: object) -> None:
+        raise Untried('TooSlow', 'It was not read in %d seconds.' % seconds)
+
+    before = signal.signal(signal.SIGALRM, late)
+    signal.setitimer(signal.ITIMER_REAL, seconds)
+    try:
+        yield
+    finally:
+        signal.setitimer(signal.ITIMER_REAL, 0)
+        signal.signal(signal.SIGALRM, before)
+
+
+def ended(words: List[str], front: bytes, source: Source, **files: BinaryIO) -> int:
+    """The status of a run over a file, which is unpacked into its standard input where it is packed."""
     with subprocess.Popen(words, stdin=source.rewound() if source.is_plain else subprocess.PIPE, **files) as running:
-        timer = threading.Timer(seconds, running.kill)
-        timer.start()
         try:
             if not source.is_plain:
                 feed(running.stdin, front, source)
-            status = running.wait()
+            return running.wait()
         except Untried:
             running.kill()
             raise
-        finally:
-            timer.cancel()
-    if status == -signal.SIGKILL and time.monotonic() - begun >= seconds:
-        raise Untried('TooSlow', 'It was not read in %d seconds.' % seconds)
-    return status
 
 
-def run(words: List[str], front: bytes, source: Source, seconds: int) -> Ran:
-    """Runs p21check over a file of which the front has been read, for so many seconds at most."""
+def run(words: List[str], front: bytes, source: Source) -> Ran:
+    """Runs p21check over a file of which the front has been read."""
     with tempfile.TemporaryFile() as report, tempfile.TemporaryFile() as errors:
-        status = ended(words, front, source, seconds, stdout=report, stderr=errors)
+        status = ended(words, front, source, stdout=report, stderr=errors)
         report.seek(0)
         errors.seek(0)
         return Ran(status, report.read(REPORT), errors.read(ERRORS))
@@ -145,7 +152,7 @@ class Worker:
             if len(front) <= WHOLE:
                 self.library.tell(finding, path, front)
                 return
-        ran = run([PROGRAM, path, '-', '--explain=1', '--lanes', str(self.lanes), *self.more], front, source, self.bounds.seconds)
+        ran = run([PROGRAM, path, '-', '--explain=1', '--lanes', str(self.lanes), *self.more], front, source)
         if not finding.schema and (ran.status == 3 or WRONG_SCHEMA.encode() in ran.report):
             raise Untried.no_schema_name()
         tell(finding, ran)
@@ -154,9 +161,13 @@ class Worker:
         """What is found of a file."""
         finding = Finding(source.name, source.size)
         try:
-            self.look(finding, source)
+            with limited(self.bounds.seconds):
+                self.look(finding, source)
         except Untried as why:
             finding.kind, finding.sentence = why.kind, why.sentence
+        except Exception as error:
+            # Whatever a file brings about is a row, and none of the files beside it is lost.
+            finding.kind, finding.sentence = 'Failed', '%s: %s.' % (type(error).__name__, error)
         return finding
 
     def findings(self, file: File) -> Iterator[Finding]:
@@ -165,6 +176,8 @@ class Worker:
             yield from (self.finding(it) for it in sources(file, self.bounds))
         except Untried as why:
             yield Finding(file.name, file.bytes, kind=why.kind, sentence=why.sentence)
+        except Exception as error:
+            yield Finding(file.name, file.bytes, kind='Failed', sentence='%s: %s.' % (type(error).__name__, error))
 
 
 def main(words: List[str]) -> int:

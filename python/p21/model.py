@@ -145,10 +145,11 @@ class Model(library.Kept):
         """The place of the first instance of each GlobalId."""
         self._open()
         if self._guids is None:
-            self._guids = {}
+            guids: Dict[str, int] = {}
             for instance in self:
                 if "GlobalId" in instance._attributes:
-                    self._guids.setdefault(instance.GlobalId, instance._place)
+                    guids.setdefault(instance.GlobalId, instance._place)
+            self._guids = guids
         return self._guids
 
     def _entity(self, name: str) -> Optional[int]:
