@@ -217,11 +217,16 @@ class Package(unittest.TestCase):
         """A handler that reads while a read is under way changes none of its values."""
         wanted = [list(it) for it in self.model]
 
-        def read(*_):
+        def read():
             self.assertEqual([list(it) for it in self.model], wanted)
 
-        before = signal.signal(signal.SIGALRM, read)
-        signal.setitimer(signal.ITIMER_REAL, 0.0005, 0.0005)
+        def handle(*_):
+            # The next signal comes after this one is handled, however slow the machine is.
+            read()
+            signal.setitimer(signal.ITIMER_REAL, 0.0005)
+
+        before = signal.signal(signal.SIGALRM, handle)
+        signal.setitimer(signal.ITIMER_REAL, 0.0005)
         try:
             for _ in range(300):
                 read()
