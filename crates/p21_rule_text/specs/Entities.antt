@@ -4,9 +4,9 @@ use Rattle.p21_express.specs.declared.keywords.DeclWord.{DeclWord}
 use Rattle.p21_express.specs.declared.keywords.DeclWord.TheVariants as decls
 use Rattle.p21_express.specs.Word.{Word, begins_name}
 use Rattle.p21_express.specs.Words.{AreWords}
-use Rattle.p21_express.specs.Grammar.{begins_rules}
+use Rattle.p21_express.specs.Grammar.{begins_rules, ends_attributes}
 use Rattle.p21_express.specs.Keywords.{decl_word_of}
-use Rattle.p21_express.specs.Reader.{◌>>=◌, ends_at, many_at, name_at, symbol_at, up_to, word_at}
+use Rattle.p21_express.specs.Reader.{◌>>=◌, ends_at, if_name, many_at, name_at, symbol_at, up_to, word_at}
 use Rattle.p21_rule_text.specs.Clauses.{InverseClause, UniqueClause, inverse_at, plain_inverse, plain_unique, unique_at}
 use Rattle.p21_rule_text.specs.declared.entities.EntityClauses as source
 
@@ -26,11 +26,21 @@ none_or_one (Some e) = plain_clauses e ∷ []
 
 -- ---- entities
 
--- { tokens ';' }: SUPERTYPE, SUBTYPE and the attributes, explicit and in DERIVE
+-- { tokens ';' } up to one of these words
+unfoldable pub behind_statements : (List Word → Bool) → List Word → Option (List Word)
+behind_statements stops ws = do
+  xs ← many_at stops (up_to 59) ws
+  Some xs.1
+
+-- [ DERIVE { tokens ';' } ]
+unfoldable pub behind_derive : List Word → Option (List Word)
+behind_derive ws = if (if_name (codes "DERIVE") ws).0 then behind_statements begins_rules (if_name (codes "DERIVE") ws).1 else Some ws
+
+-- { tokens ';' } [ DERIVE { tokens ';' } ]: SUPERTYPE, SUBTYPE and the attributes, explicit and in DERIVE, where the words begin that p21_express has too
 unfoldable pub behind_attributes : List Word → Option (List Word)
 behind_attributes ws = do
-  xs ← many_at begins_rules (up_to 59) ws
-  Some xs.1
+  derive ← behind_statements ends_attributes ws
+  behind_derive derive
 
 -- INVERSE inverse { inverse }; no other section begins right behind INVERSE
 unfoldable pub inverses_at : List Word → Option (List InverseClause × List Word)

@@ -11,5 +11,9 @@ pub mod ValueLemmas
 pub mod FirstLemmas
 pub mod Sizes
 pub mod PushLemmas
+pub mod IdLemmas
+pub mod DeclarationLemmas
+pub mod SlotLemmas
+pub mod TextLemmas
 pub mod CounterLemmas
 pub mod InverseLemmas

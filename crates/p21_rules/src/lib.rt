@@ -13,6 +13,8 @@ mod inverse;
 mod mentions;
 mod number;
 mod rule;
+mod slots;
+mod text;
 mod unique;
 mod value;
 
