@@ -17,3 +17,4 @@ pub mod SlotLemmas
 pub mod TextLemmas
 pub mod CounterLemmas
 pub mod InverseLemmas
+pub mod LawLemmas
