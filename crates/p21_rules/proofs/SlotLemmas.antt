@@ -8,9 +8,9 @@ use Rattle.p21_check.specs.EntitySet as members
 use Rattle.p21_check.specs.Sets.{AnyIn, CountsAmong, EachIn}
 use Rattle.p21_check.specs.Slot.{Counts}
 use Rattle.p21_rules.proofs.DeclarationLemmas.{counts_among, counts_there}
-use Rattle.p21_express.specs.Schema.{Schema, Entity}
+use Rattle.p21_express.specs.Schema.{Schema, Entity, Expr}
 use Rattle.p21_express.specs.WellFormed.{IsAncestor, IsEntity, IsIn, IsWellFormed, Leads, Origin}
-use Rattle.p21_schema.specs.Declaration.{AreDeclarations, Declaration, Form}
+use Rattle.p21_schema.specs.Declaration.{AreDeclarations, Declaration, Form, explicit}
 use Rattle.p21_schema.specs.Place.{entity_name, IsEntityOf}
 use Rattle.p21_schema.specs.declared.ids.EntityId.{EntityId}
 use Rattle.p21_tree.specs.Sentence.{Instance}
@@ -18,6 +18,7 @@ use Rattle.p21_tree.specs.Tree.{Tree}
 use Rattle.p21_rules.specs.Code.{value_code}
 use Rattle.p21_rules.specs.Named.{IsBelow, IsNamed}
 use Rattle.p21_rules.specs.Parameter.{IsValueOf, MeansBy}
+use Rattle.p21_rules.specs.Pushed.{IsPushed}
 use Rattle.p21_rules.specs.Slots.{IsPushedBy, IsPushedOf, MeansCounting, no_declaration}
 use Rattle.p21_rules.specs.Value.{Value}
 use Rattle.p21_rules.proofs.CodeLemmas.{code_once}
@@ -81,11 +82,16 @@ module _ (one : OneItems) (s : Schema) (w : IsWellFormed s) where
   not_by f t old new true v pushed has = absurd (false≢true (sym has))
   not_by f t old new false v none has = none v
 
+-- what was added by a declaration that is explicit
+pub pushed_by : (s : Schema) (f : Form) (o : Bool) (x : Expr) (t : Tree) (old new : List ℕ) (done : Bool) → f ≡ explicit o x → IsPushed s x t old new done → IsPushedBy s f t old new done
+pushed_by s _ o x t old new true e (v, m, code) = (v, subst (λ (g : Form). MeansBy s g t v) (sym e) m, code)
+pushed_by s _ o x t old new false e none = λ v m. none v (subst (λ (g : Form). MeansBy s g t v) e m)
+
 -- what is so where a declaration counts
-pub on_counted : {E : Type 0} (r : Result Bool E) {C M : Type 0} → C → IfOk r (λ is. MatchBool is M (¬ M)) → IfOk r (λ is. MatchBool is (C → M) (¬ (C → M)))
-on_counted (Ok true) c m = λ _. m
-on_counted (Ok false) c n = λ f. n (f c)
-on_counted (Err e) c h = tt
+pub on_counted : {E : Type 0} (r : Result Bool E) {C : Type 0} (M : Type 0) → C → IfOk r (λ is. MatchBool is M (¬ M)) → IfOk r (λ is. MatchBool is (C → M) (¬ (C → M)))
+on_counted (Ok true) M c m = λ _. m
+on_counted (Ok false) M c n = λ f. n (f c)
+on_counted (Err e) M c h = tt
 
 -- ---- the value of an attribute
 

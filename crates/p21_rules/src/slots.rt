@@ -115,7 +115,13 @@ fn counts(slot: Slot, entity: EntityId) -> bool
     requires entity { IsEntityOf slot.schema.now entity }
     ensures { let s = slot.entry.schema.now in (ds : List Written) → (d : Written) → AreResolvedIn s slot.entry.declarations.now ds → entity_name s entity ≡ d.entity → (IsTrue result ↔ CountsAmong s (set_of slot.entry) ds d) }
 {
-    is_in_set(slot, entity) && !is_derived(slot) && !is_again_below(slot, entity)
+    if !is_in_set(slot, entity) {
+        return false;
+    }
+    if is_derived(slot) {
+        return false;
+    }
+    !is_again_below(slot, entity)
 }
 
 /// The place of a declaration that counts in the instance.

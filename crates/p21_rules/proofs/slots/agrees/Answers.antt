@@ -13,4 +13,4 @@ pub returns-then-not-counts : goal.returns-then-not-counts
 returns-then-not-counts c = λ ds d v z r e k. absurd (false≢true (sym c.if-not-counts.true ∙ (c.counts.ensures ds d z r.entity).1 k))
 
 pub returns : goal.returns
-returns c = λ ds d v z r e. on_counted c.is_value_by.result ((c.counts.ensures ds d z r.entity).0 c.if-not-counts.false) (c.is_value_by.ensures d.form v r.form e)
+returns c = λ ds d v z r e. on_counted c.is_value_by.result _ ((c.counts.ensures ds d z r.entity).0 c.if-not-counts.false) (c.is_value_by.ensures d.form v r.form e)

@@ -67,7 +67,7 @@ push_list-returns-then-elements t c = λ x k.
 
 pub push_list-returns : goal.push_list-returns
 push_list-returns t c = λ x k.
-    on_ok c.push_unordered.result (λ done. list_pushed c.args.schema.now x c.fits.ensures c.args.elements _ c.if-elements.false k _ _ _ _ done c.in_ok-push.ensures.items)
+    on_ok c.push_unordered.result (λ done. list_pushed c.args.schema.now x c.fits.ensures c.args.elements _ c.if-elements.false k _ _ _ _ done c.in_ok-push-2.ensures.items)
     (c.push_unordered.ensures k.element (c.elements_of-inner.ensures k.element k.item))
 
 pub push_ordered-push_value-requires : goal.push_ordered-push_value-requires
