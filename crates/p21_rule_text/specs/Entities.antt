@@ -36,7 +36,7 @@ behind_statements stops ws = do
 unfoldable pub behind_derive : List Word → Option (List Word)
 behind_derive ws = if (if_name (codes "DERIVE") ws).0 then behind_statements begins_rules (if_name (codes "DERIVE") ws).1 else Some ws
 
--- { tokens ';' } [ DERIVE { tokens ';' } ]: SUPERTYPE, SUBTYPE and the attributes, explicit and in DERIVE, where the words begin that p21_express has too
+-- { tokens ';' } [ DERIVE { tokens ';' } ]: SUPERTYPE, SUBTYPE and the attributes, explicit and in DERIVE, where there may be none
 unfoldable pub behind_attributes : List Word → Option (List Word)
 behind_attributes ws = do
   derive ← behind_statements ends_attributes ws

@@ -90,6 +90,9 @@ all_done s cs ds z i end P = each_done P ds i (let e = zip_length (IsResolvedDec
 pub none_found : (s : Schema) (cs : List Coded) (ds : List Declaration) → AreResolvedIn s cs ds → (i : ℕ) → length cs ≤ i → (P : Declaration → Type 0) → AnyIn (drop i ds) P ↔ AnyIn ds P → ¬ (AnyIn ds P)
 none_found s cs ds z i end P = any_nowhere P ds i (let e = zip_length (IsResolvedDeclaration s) cs ds z in omega arith)
 
+pub back_below : (s : Schema) (cs : List Coded) (ds : List Declaration) → AreResolvedIn s cs ds → (i : ℕ) → i < length ds → i < length cs
+back_below s cs ds z i less = let e = zip_length (IsResolvedDeclaration s) cs ds z in omega arith
+
 pub derived_form : (s : Schema) (f : Form) → IsResolvedForm s coded.Derived f → f ≡ form.derived
 derived_form s form.derived h = refl
 derived_form s (form.explicit o e) h = absurd h
