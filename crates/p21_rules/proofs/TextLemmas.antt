@@ -1,8 +1,8 @@
 -- Texts with the character U+FFFD, and strings of one text.
-use Rattle.std.proofs.Common.{◌≡◌, ℕ, ◌+◌, ◌<◌, Bool, true, false, List, [], ◌∷◌, ◌++◌, Result, Ok, Err, OnOk, length, drop, nat_eq, refl, sym, ap, subst, ◌∙◌, get_or, append_assoc}
+use Rattle.std.proofs.Common.{◌≡◌, ℕ, ◌+◌, ◌-◌, ◌<◌, Bool, true, false, List, [], ◌∷◌, ◌++◌, Result, Ok, Err, OnOk, length, drop, nat_eq, refl, sym, ap, subst, ◌∙◌, get_or, append_assoc, arith, take}
 use Rattle.std.specs.Prelude.{◌||◌}
 use Rattle.std.specs.List.{starts_with}
-use Rattle.std.proofs.lemmas.List.{drop_more}
+use Rattle.std.proofs.lemmas.List.{drop_more, length-drop, take_all}
 use Rattle.p21_json.specs.Characters.{text_of_items}
 use Rattle.p21_text.specs.Items.{Item, ItemsOf}
 use Rattle.p21_rules.specs.Code.{bytes_code, value_code}
@@ -12,6 +12,10 @@ use Rattle.p21_rules.specs.Value.{Value, spelled, text}
 or_false : (p q : Bool) → p ≡ false → (p || q) ≡ q
 or_false true q e = absurd (cc)
 or_false false q e = refl
+
+-- what stands behind a place
+pub whole_rest : (bs : List ℕ) (k : ℕ) → take (length bs - k) (drop k bs) ≡ drop k bs
+whole_rest bs k = take_all (length bs - k) (drop k bs) (let e = length-drop k bs in omega (arith, e))
 
 -- it does not stand at a place
 pub passed : (bs : List ℕ) (k : ℕ) → k < length bs → starts_with nat_eq (drop k bs) replacement ≡ false → has_replacement (drop k bs) ≡ has_replacement (drop (k + 1) bs)

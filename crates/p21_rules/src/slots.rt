@@ -121,7 +121,10 @@ fn counts(slot: Slot, entity: EntityId) -> bool
     if is_derived(slot) {
         return false;
     }
-    !is_again_below(slot, entity)
+    if is_again_below(slot, entity) {
+        return false;
+    }
+    true
 }
 
 /// The place of a declaration that counts in the instance.
@@ -171,8 +174,10 @@ fn is_value_by(
     items_are_unique();
     schema.fits();
     let mut code = Vec::new(alloc);
-    let has_value = push_by(schema, form, &mut code, param)?;
-    Ok(has_value && code.as_slice() == own)
+    if !push_by(schema, form, &mut code, param)? {
+        return Ok(false);
+    }
+    Ok(code.as_slice() == own)
 }
 
 /// Whether a parameter is the value whose code this is by a declaration, where that counts.

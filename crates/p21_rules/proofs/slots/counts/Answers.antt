@@ -1,4 +1,4 @@
-use Rattle.std.proofs.Common.{List, ℕ, sym, subst, ◌∙◌}
+use Rattle.std.proofs.Common.{List, ℕ, refl, sym, subst, ◌∙◌}
 use Rattle.std.proofs.lemmas.Bool.{false≢true}
 use Rattle.p21_check.specs.Sets.{AnyIn, IsAgainBelow}
 use Rattle.p21_rules.specs.Slots.{set_of}
@@ -9,3 +9,12 @@ returns-then-not-is_in_set c = λ ds d z e. (λ t. absurd (false≢true t), λ h
 
 pub returns-then-is_derived : goal.returns-then-is_derived
 returns-then-is_derived c = λ ds d z e. (λ t. absurd (false≢true t), λ h. absurd (h.1 ((c.is_derived.ensures ds z).0 c.if-is_derived.true)))
+
+pub returns-then-is_again_below : goal.returns-then-is_again_below
+returns-then-is_again_below c = λ ds d z e. (λ t. absurd (false≢true t), λ h. absurd (h.2 (subst (λ (n : List ℕ). AnyIn ds (IsAgainBelow c.args.slot.schema.now (set_of c.args.slot) n)) e ((c.is_again_below.ensures ds z).0 c.if-is_again_below.true))))
+
+pub returns : goal.returns
+returns c = λ ds d z e.
+    let not_derived = λ k. false≢true (sym c.if-is_derived.false ∙ (c.is_derived.ensures ds z).1 k) in
+    let not_again = λ k. false≢true (sym c.if-is_again_below.false ∙ (c.is_again_below.ensures ds z).1 (subst (λ (n : List ℕ). AnyIn ds (IsAgainBelow c.args.slot.schema.now (set_of c.args.slot) n)) (sym e) k)) in
+    (λ _. (subst (set_of c.args.slot) e (c.is_in_set.ensures.0 c.if-not-is_in_set.false), not_derived, not_again), λ _. refl)
