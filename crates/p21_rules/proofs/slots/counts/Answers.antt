@@ -14,7 +14,11 @@ pub returns-then-is_again_below : goal.returns-then-is_again_below
 returns-then-is_again_below c = λ ds d z e. (λ t. absurd (false≢true t), λ h. absurd (h.2 (subst (λ (n : List ℕ). AnyIn ds (IsAgainBelow c.args.slot.schema.now (set_of c.args.slot) n)) e ((c.is_again_below.ensures ds z).0 c.if-is_again_below.true))))
 
 pub returns : goal.returns
-returns c = λ ds d z e.
-    let not_derived = λ k. false≢true (sym c.if-is_derived.false ∙ (c.is_derived.ensures ds z).1 k) in
-    let not_again = λ k. false≢true (sym c.if-is_again_below.false ∙ (c.is_again_below.ensures ds z).1 (subst (λ (n : List ℕ). AnyIn ds (IsAgainBelow c.args.slot.schema.now (set_of c.args.slot) n)) (sym e) k)) in
-    (λ _. (subst (set_of c.args.slot) e (c.is_in_set.ensures.0 c.if-not-is_in_set.false), not_derived, not_again), λ _. refl)
+returns c = λ ds d z e. (
+  λ _. (
+    subst (set_of c.args.slot) e (c.is_in_set.ensures.0 c.if-not-is_in_set.false),
+    λ k. false≢true (sym c.if-is_derived.false ∙ (c.is_derived.ensures ds z).1 k),
+    λ k. false≢true (sym c.if-is_again_below.false ∙ (c.is_again_below.ensures ds z).1 (subst (λ (n : List ℕ). AnyIn ds (IsAgainBelow c.args.slot.schema.now (set_of c.args.slot) n)) (sym e) k)),
+  ),
+  λ _. refl,
+)
