@@ -58,12 +58,14 @@ pub(crate) fn unchecked(rule: &PassedOver) -> UncheckedRule<'_> {
         RuleKind::Unique => RuleForm::Unique,
         RuleKind::Inverse => RuleForm::Inverse,
     };
-    let reason = if rule.attribute.is_empty() {
-        Reason::NoNumbers
-    } else {
-        Reason::NotExplicit {
-            attribute: &rule.attribute,
-        }
+    let attribute = rule.attribute.as_slice();
+    let reason = match (rule.attribute.is_empty(), rule.subtype.is_empty()) {
+        (true, _) => Reason::NoNumbers,
+        (false, true) => Reason::NotExplicit { attribute },
+        (false, false) => Reason::DerivedBy {
+            attribute,
+            subtype: &rule.subtype,
+        },
     };
     UncheckedRule {
         rule: Rule {

@@ -1,5 +1,5 @@
 -- The report of a file against a schema and the rules that are looked at.
-use Rattle.std.specs.Prelude.{◌≡◌, ◌≢◌, ℕ, Bool, true, false, List, [], Option, Some, Ok, Err, map, take}
+use Rattle.std.specs.Prelude.{◌≡◌, ◌≢◌, ℕ, Bool, true, false, List, [], Option, Some, Ok, Err, take}
 use Rattle.std.specs.Io.KnownBytes.{Appends}
 use Rattle.p21_express.specs.Reading as express
 use Rattle.p21_express.specs.Schema.{Schema}
@@ -22,14 +22,6 @@ use Rattle.p21_rule_run.specs.FaultLine.{rule_fault_lines}
 use Rattle.p21_rule_run.specs.RuleFault.{AreRuleFaults}
 use Rattle.p21_rule_run.specs.declared.rule_fault.RuleFault.{RuleFault}
 
--- the labels of the rules UNIQUE, in their order
-abbrev pub labels_of : Rules → List (List ℕ)
-labels_of rules = map (λ label. label.items) rules.labels.items
-
--- the names of the INVERSE attributes, in their order
-abbrev pub names_of : Rules → List (List ℕ)
-names_of rules = map (λ name. name.items) rules.inverse_names.items
-
 -- the faults that a report tells: all, or the first alone
 abbrev pub told : (all : Bool) → List RuleFault → List RuleFault
 told true fs = fs
@@ -38,7 +30,7 @@ told false fs = take 1 fs
 -- The report of a model: its counts where it keeps all rules, and else the lines of its faults.
 pub data IsOfModel (all : Bool) (s : Schema) (rules : Rules) (is : List Instance) : Outcome → List ℕ → Type 0 where
   kept : {text : List ℕ} → AreRuleFaults s rules is [] → IsModelText s is text → IsOfModel all s rules is outcome.Complete text
-  broken : {fs : List RuleFault} {text : List ℕ} → AreRuleFaults s rules is fs → fs ≢ [] → text ≡ rule_fault_lines (labels_of rules) (names_of rules) (told all fs) → IsOfModel all s rules is outcome.Faulty text
+  broken : {fs : List RuleFault} {text : List ℕ} → AreRuleFaults s rules is fs → fs ≢ [] → text ≡ rule_fault_lines s rules (told all fs) → IsOfModel all s rules is outcome.Faulty text
 
 -- The report of a file: the line of the fault of its reading, or the report of its model.
 pub data IsFirstRuled (s : Schema) (rules : Rules) (file : List ℕ) : Outcome → List ℕ → Type 0 where

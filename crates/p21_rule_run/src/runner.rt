@@ -298,7 +298,7 @@ fn report_of_model<L: RuleListener>(
     if faults.is_empty() {
         return report_without_faults(alloc, schema, model.instances());
     }
-    let text = render_rule_faults(alloc, &rules.labels, &rules.inverse_names, reported)?;
+    let text = render_rule_faults(alloc, schema, rules, reported)?;
     Ok(faulty(text))
 }
 

@@ -1,7 +1,10 @@
 pub mod LoopLemmas
 pub mod LengthLemmas
 pub mod ClauseLemmas
+pub mod IdLemmas
 pub mod ResolveLemmas
+pub mod DeclarationLemmas
+pub mod FormLemmas
 pub mod StatementLemmas
 pub mod SchemaLemmas
 pub mod RefusalLemmas

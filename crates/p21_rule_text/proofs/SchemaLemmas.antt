@@ -10,7 +10,7 @@ use Rattle.p21_schema.specs.Row.{IsAttributeOf}
 use Rattle.p21_schema.specs.declared.ids.AttrId.{AttrId}
 use Rattle.p21_schema.specs.declared.ids.EntityId.{EntityId}
 use Rattle.p21_rule_text.specs.Entities.{EntityClauses}
-use Rattle.p21_rule_text.specs.Resolve.{IsMeant, explicit, again, other, nothing}
+use Rattle.p21_rule_text.specs.Resolve.{IsAmong, IsAttribute, IsMeant}
 use Rattle.p21_rule_text.specs.Rules.{AreStated, inverse_in, unique_in}
 use Rattle.p21_rule_text.specs.Statements.{AreExplicit, Clause, States, any_count, inverse_passed, inverse_rule, unique_passed, unique_rule}
 use Rattle.p21_rule_text.specs.declared.rules.Rules.{Rules}
@@ -43,11 +43,20 @@ IsOfSchema s (found.Explicit a) = IsAttributeOf s a
 IsOfSchema s found.Other = Unit {0}
 IsOfSchema s found.Nothing = Unit {0}
 
+attribute_of : (s : Schema) (e : EntityId) (a : AttrId) (f : Found) → IsAttributeOf s a → IsAttribute s e a f → IsOfSchema s f
+attribute_of s e a _ known (IsAttribute.not_derived n) = known
+attribute_of s e a _ known (IsAttribute.is_derived d) = tt
+
+among_of : (s : Schema) (es : List EntityClauses) (e o : EntityId) (n : List ℕ) (f : Found) → IsAmong s es e o n f → IsOfSchema s f
+among_of s es e o n f (IsAmong.own {a = a} h x) = attribute_of s e a f h.0 x
+among_of s es e o n _ (IsAmong.new none d) = tt
+among_of s es e o n f (IsAmong.again {a = a} none h x) = attribute_of s e a f h.own.0 x
+among_of s es e o n _ (IsAmong.again_derived none m d) = tt
+among_of s es e o n _ (IsAmong.nothing none m d) = tt
+
 found_of : (s : Schema) (es : List EntityClauses) (e : EntityId) (x : Naming) (f : Found) → IsMeant s es e x f → IsOfSchema s f
-found_of s es e x f (explicit is not) = is.known
-found_of s es e x f (again is derived) = tt
-found_of s es e x f (other none some) = tt
-found_of s es e x f (nothing none derived inverse) = tt
+found_of s es e x f (IsMeant.by {o = o} h a) = among_of s es e o x.name f a
+found_of s es e x _ (IsMeant.none m) = tt
 
 explicit_of : (s : Schema) (es : List EntityClauses) (e : EntityId) (xs : List Naming) (ids : List AttrId) → AreExplicit s es e xs ids → AllByRecursion (IsAttributeOf s) ids
 explicit_of s es e [] [] all = tt
@@ -58,16 +67,16 @@ explicit_of s es e (x ∷ xs) (a ∷ ids) all = (found_of s es e x (found.Explic
 -- ---- rules
 
 unique_of : (s : Schema) (es : List EntityClauses) (c : Clause) (t : Statement) → States s es c t → AllByRecursion (IsRuleOf s) (unique_in t)
-unique_of s es c t (unique_rule {c = clause} {r = r} rule label) = (record { entity = rule.entity.known; attributes = each (IsAttributeOf s) r.attributes.items (explicit_of s es r.entity clause.names r.attributes.items rule.attributes) }, tt)
+unique_of s es c t (unique_rule {c = clause} {r = r} rule label told) = (record { entity = rule.entity.known; attributes = each (IsAttributeOf s) r.attributes.items (explicit_of s es r.entity clause.names r.attributes.items rule.attributes) }, tt)
 unique_of s es c t (unique_passed passed) = tt
 unique_of s es c t (inverse_rule rule bounds name) = tt
 unique_of s es c t (any_count rule any) = tt
 unique_of s es c t (inverse_passed passed) = tt
 
 inverse_of : (s : Schema) (es : List EntityClauses) (c : Clause) (t : Statement) → States s es c t → AllByRecursion (IsInverseRuleOf s) (inverse_in t)
-inverse_of s es c t (unique_rule rule label) = tt
+inverse_of s es c t (unique_rule rule label told) = tt
 inverse_of s es c t (unique_passed passed) = tt
-inverse_of s es c t (inverse_rule {c = clause} {r = r} rule bounds name) = (record { entity = rule.entity.known; source = rule.source.known; attribute = found_of s es r.source clause.attribute (found.Explicit r.attribute) rule.attribute }, tt)
+inverse_of s es c t (inverse_rule {c = clause} {r = r} rule counted name) = (record { entity = rule.entity.known; source = rule.source.known; attribute = found_of s es r.source clause.attribute (found.Explicit r.attribute) rule.attribute }, tt)
 inverse_of s es c t (any_count rule any) = tt
 inverse_of s es c t (inverse_passed passed) = tt
 

@@ -2,13 +2,11 @@
 
 ghost use Rattle.std.specs.Prelude.{◌≡◌, option_map};
 ghost use Rattle.p21_express.specs.Naming.{plain_naming, plain_namings};
-ghost use Rattle.p21_express.specs.Reader.{words_of, Gives};
+ghost use Rattle.p21_express.specs.Reader.{words_of, Gives, naming_at, next_naming};
 ghost use Rattle.p21_rule_text.specs.Clauses.{attribute_at, attribute_of_at, has_label, if_label_at, inverse_at, label_at, names_at, plain_inverse, plain_unique, unique_at};
 
 use crate::bounds::{Bounds, bounds_in_front};
-use p21_express::{
-    AttrName, Refusal, Word, begins_symbol, keyword, name, naming, next_naming, symbol,
-};
+use p21_express::{AttrName, Refusal, Word, begins_symbol, keyword, name, naming, symbol};
 use std::alloc::Global;
 
 /// A rule UNIQUE.
@@ -63,6 +61,27 @@ fn if_label<'t, 'a>(words: &'t [Word<'a>]) -> Result<(Option<&'a [u8]>, &'t [Wor
     Ok((None, words))
 }
 
+/// The name of an attribute in a rule. RENAMED does not fit behind it.
+fn attribute_in_rule<'t, 'a>(
+    words: &'t [Word<'a>],
+) -> Result<(AttrName<'a>, &'t [Word<'a>]), Refusal>
+    ensures { Gives (λ x. (plain_naming x.0, words_of x.1.now)) result (naming_at (words_of words.now)) }
+{
+    match naming(words) {
+        Ok(found) => Ok(found),
+        Err(Refusal::Refused(_, left)) => Err(Refusal::syntax(left)),
+        Err(Refusal::Memory) => Err(Refusal::Memory),
+    }
+}
+
+/// A comma and the name of a further one.
+#[tactic(auto, unfolding(p21_express::specs::Reader::next_naming))]
+fn next_in_rule<'t, 'a>(words: &'t [Word<'a>]) -> Result<(AttrName<'a>, &'t [Word<'a>]), Refusal>
+    ensures { Gives (λ x. (plain_naming x.0, words_of x.1.now)) result (next_naming (words_of words.now)) }
+{
+    attribute_in_rule(symbol(words, b',')?)
+}
+
 /// Names of attributes with commas between them, up to the semicolon.
 #[tactic(auto, unfolding(crate::specs::Clauses::names_at))]
 fn names<'t, 'a>(
@@ -71,11 +90,11 @@ fn names<'t, 'a>(
 ) -> Result<(Vec<AttrName<'a>>, &'t [Word<'a>]), Refusal>
     ensures { Gives (λ x. (plain_namings x.0.items, words_of x.1.now)) result (names_at (words_of words.now)) }
 {
-    let (first, mut rest) = naming(words)?;
+    let (first, mut rest) = attribute_in_rule(words)?;
     let mut names = Vec::new(alloc);
     names.push(first)?;
     while !begins_symbol(rest, b';') {
-        let (next, behind) = next_naming(rest)?;
+        let (next, behind) = next_in_rule(rest)?;
         names.push(next)?;
         rest = behind;
     }

@@ -9,8 +9,11 @@ ghost use Rattle.p21_rule_text.specs.Entities.{entities_at, if_whole, plain_clau
 ghost use Rattle.p21_rule_text.specs.Rules.{AreListed, AreRules, HasNoRules};
 
 use crate::entities::{EntityClauses, entities};
+use crate::labels::repeated_label;
 use crate::statements::{Known, PassedOver, Statement, push_statements};
-use p21_express::{Refusal, Scanned, SchemaError, one_word_list, refused_as, scan, upper_case};
+use p21_express::{
+    Refusal, Scanned, SchemaError, one_word_list, place_at, refused_as, scan, upper_case,
+};
 use p21_rules::{InverseRule, UniqueRule};
 use p21_schema::Schema;
 use std::alloc::{AllocError, Global};
@@ -48,9 +51,10 @@ impl Rules {
         ensures { OnOk result ((ss : List Statement) → AreListed ss self.old → AreListed (ss ++ statement ∷ []) self.new) }
     {
         match statement {
-            Statement::Unique(rule, label) => {
+            Statement::Unique(rule, label, mut told) => {
                 self.unique.push(rule)?;
                 self.labels.push(label)?;
+                self.passed_over.append(&mut told)?;
             }
             Statement::Inverse(rule, name) => {
                 self.inverse.push(rule)?;
@@ -65,9 +69,9 @@ impl Rules {
 
 /// The rules of the text from which a schema was read.
 ///
-/// A rule UNIQUE or an INVERSE attribute that is not of the grammar is refused as `Syntax` at its first word that does not fit, `RENAMED` behind
-/// an attribute with SELF as `NotSupported`, and the name of what is no such entity or attribute as `UnknownName`. `Memory` says that there was no memory
-/// left.
+/// A rule UNIQUE or an INVERSE attribute that is not of the grammar is refused as `Syntax` at its first word that does not fit, and `RENAMED` behind the name
+/// of an INVERSE attribute with SELF as `NotSupported`. Then the second of two rules UNIQUE of one label in an entity is refused as `Repeated`, and then the
+/// name of what is no such entity or attribute as `UnknownName`. `Memory` says that there was no memory left.
 pub fn read_rules(alloc: Global, text: &[u8], schema: &Schema) -> Result<Rules, SchemaError>
     ensures rules { IfOk result (AreRules schema.now text.now) }
     ensures refused { IfErr result (λ e. OnRefusal e (HasNoRules schema.now text.now)) }
@@ -84,6 +88,9 @@ pub fn read_rules(alloc: Global, text: &[u8], schema: &Schema) -> Result<Rules, 
                 clauses: &clauses,
                 places: &scanned.places,
             };
+            if let Some(label) = repeated_label(&clauses) {
+                return Err(SchemaError::Repeated(place_at(&scanned.places, label)));
+            }
             let mut rules = Rules::new(alloc);
             push_statements(alloc, &mut rules, known)?;
             Ok(rules)

@@ -17,10 +17,9 @@ ghost use Rattle.p21_rules.specs.Parameter.{IsOf};
 use crate::attributes::parameter;
 use crate::code::push_number;
 use crate::concerned::{Subject, concerns_of, empty_room, subject_of};
-use crate::elements::{elements_of, first_type};
 use crate::firsts::{Firsts, first_of, no_firsts};
 use crate::rule::UniqueRule;
-use crate::value::push_value;
+use crate::slots::push_attribute;
 use p21_schema::{AttrId, EntityId, Schema};
 use p21_text::items_are_unique;
 use p21_tree::RawInstance;
@@ -187,11 +186,7 @@ fn push_values(
             Some(param) => param,
             None => return Ok(false),
         };
-        let texpr = match first_type(schema.declarations(*attribute)) {
-            Some(texpr) => texpr,
-            None => return Ok(false),
-        };
-        if !push_value(schema, elements_of(schema, texpr), code, param)? {
+        if !push_attribute(schema, named, instance, *attribute, code, param)? {
             return Ok(false);
         }
     }
