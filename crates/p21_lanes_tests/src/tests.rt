@@ -245,7 +245,7 @@ fn list_let_go_where_one_of_it_was_taken(rt: HostRuntime) -> Result<(), Fail> {
     Ok(())
 }
 
-// Where a request for memory is refused, which `tests/refused_memory_of_libraries` does in turn, `lane` answers want of memory; else the lane
+// Where a request for memory is refused, which `tests/refused_memory` does in turn, `lane` answers want of memory; else the lane
 // works, since no other call takes memory.
 #[test]
 fn memory_or_the_answer(rt: HostRuntime) -> Result<(), Fail> {
