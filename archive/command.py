@@ -13,15 +13,17 @@ from typing import Dict, Iterator, List, Tuple
 from . import page, tables
 from .engine import Engine, Progress, require_parallel
 from .find import Part, Search
-from .model import FAULTY, UNTRIED, Bounds, Finding, Findings, bytes_of, text_of
+from .model import FAULTY, MOST_FAULTS, UNTRIED, Bounds, Finding, Findings, bytes_of, text_of
 from .plan import processors
 from .run import LOG, Asked, Base, Plan, Refused, Run
 from .schemas import schemas_of
 
 TOP = os.path.dirname(os.path.dirname(os.path.realpath(__file__)))
 REPORT = 'report.html'
-VERSION = '0.1.0'
+VERSION = '0.2.0'
 USAGE, FAILED, INTERRUPTED = 2, 4, 130
+# The folder of the schemas that were mended, and the statuses of a p21check that has written one: no file is at fault, this one is, or the schema.
+MENDED, ANSWERED = 'mended', (0, 1, 3)
 # How many endings of ignored files are told, the commonest first.
 ENDINGS = 8
 UNITS = {'K': 1 << 10, 'M': 1 << 20, 'G': 1 << 30, 'T': 1 << 40}
@@ -69,7 +71,9 @@ def options(words: List[str]) -> argparse.Namespace:
         formatter_class=argparse.RawDescriptionHelpFormatter, allow_abbrev=False)
     parser.add_argument('folders', metavar='FOLDER', nargs='+', help='folder to search for STEP files, or one such file')
     parser.add_argument('--schemas', metavar='FOLDER', required=True, help='folder with the EXPRESS schemas, *.exp')
+    parser.add_argument('--all', action='store_true', help='tell every fault of a file, %d at most, instead of only the first' % MOST_FAULTS)
     parser.add_argument('--rules', action='store_true', help='also check rules UNIQUE and INVERSE attributes, as p21check --rules does')
+    parser.add_argument('--mend', action='store_true', help='write forms of the schemas that are not supported another way with the same meaning, as p21check --mend does')
     parser.add_argument('--limit', metavar='SIZE', type=size, default=Bounds.bytes, help='most bytes that a compressed file may have when it is decompressed, as 500M or 8G [default: 4G]')
     parser.add_argument('--seconds', metavar='N', type=count, default=Bounds.seconds, help='most seconds for one file [default: %(default)s]')
     parser.add_argument('--jobs', metavar='N', type=count, help='number of files to check at a time on each machine [default: its number of processors]')
@@ -105,14 +109,30 @@ def library() -> str:
     return os.fsdecode(ran.stdout[:-1])
 
 
-def base(folder: str) -> Tuple[Base, List[Finding]]:
+def mended(schemas: Dict[str, bytes], folder: str) -> Dict[str, bytes]:
+    """The same schemas after what p21check changes in them, in a folder. Each change is told."""
+    os.makedirs(folder, exist_ok=True)
+    written = {}
+    for number, (name, path) in enumerate(sorted(schemas.items())):
+        written[name] = os.fsencode(os.path.join(folder, '%d.exp' % number))
+        ran = subprocess.run([program(), '--mend', '--write-schema', written[name], path, os.devnull], stdin=subprocess.DEVNULL, stdout=subprocess.DEVNULL, stderr=subprocess.PIPE)
+        if ran.returncode not in ANSWERED:
+            raise Refused(ran.stderr.decode('utf-8', 'replace').strip())
+        sys.stderr.write(ran.stderr.decode('utf-8', 'replace'))
+    return written
+
+
+def base(run: Run, wanted: argparse.Namespace) -> Tuple[Base, List[Finding]]:
     """What workers need, with the schemas of a folder, and what is told of those that are refused."""
+    folder = wanted.schemas
     try:
         schemas, refused = schemas_of(os.fsencode(folder))
     except (OSError, ValueError) as error:
         raise Refused(str(error)) from None
     if not schemas:
         raise Refused(' '.join(['no schema is in %s' % tables.escaped(text_of(os.fsencode(folder))), *('(%s: %s)' % (tables.escaped(it.file), it.sentence) for it in refused)]))
+    if wanted.mend:
+        schemas = mended(schemas, run.path(MENDED))
     return Base(os.fsencode(TOP), os.fsencode(program()), os.fsencode(library()), schemas), refused
 
 
@@ -127,7 +147,7 @@ def machines(hosts: str) -> int:
 
 def begun(run: Run, asked: Asked, wanted: argparse.Namespace) -> Plan:
     """The plan of a run that begins."""
-    laid, refused = base(wanted.schemas)
+    laid, refused = base(run, wanted)
     search = Search(wanted.part)
     search.run([os.fsencode(it) for it in wanted.folders])
     count = (wanted.jobs or processors()) * (machines(wanted.hosts) if wanted.hosts else 1)
@@ -137,7 +157,7 @@ def begun(run: Run, asked: Asked, wanted: argparse.Namespace) -> Plan:
 def planned(run: Run, wanted: argparse.Namespace) -> Plan:
     """The plan of the run: one that begins here, or the one that is taken up."""
     asked = Asked([text_of(os.path.abspath(os.fsencode(it))) for it in wanted.folders], text_of(os.path.abspath(os.fsencode(wanted.schemas))),
-                  list(wanted.part), wanted.transfer, Bounds(wanted.limit, wanted.seconds), wanted.rules)
+                  list(wanted.part), wanted.transfer, Bounds(wanted.limit, wanted.seconds), wanted.rules, wanted.all, wanted.mend)
     if not run.is_begun():
         return begun(run, asked, wanted)
     if not wanted.resume:
@@ -189,6 +209,9 @@ def closing(run: Run, plan: Plan, findings: List[Finding]) -> Iterator[str]:
     """What is told at the end: what was found and where it stands, and what was left out."""
     yield '%s: %s' % (run.path(tables.RESULTS), page.summary(findings) if findings else 'no STEP file was found')
     yield '%s: the same as a page' % run.path(REPORT)
+    cut = page.cut(findings)
+    if cut:
+        yield 'of %d files with more than %d faults only the first are told' % (len(cut), MOST_FAULTS)
     endings = sorted(plan.ignored.items(), key=lambda it: (-it[1], it[0]))
     if endings:
         told = ', '.join('%d %s' % (count, tables.escaped(ending) or 'without an ending') for ending, count in endings[:ENDINGS])

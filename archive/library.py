@@ -27,18 +27,22 @@ class Library:
             self._schemas[path] = self._p21.Schema.open(path)
         return self._schemas[path]
 
-    def tell(self, finding: Finding, path: str, data: bytes) -> None:
-        """Puts what is the matter with the bytes of a file into a finding, by the schema of a path; Untried where it cannot be said."""
+    def tell(self, finding: Finding, path: str, data: bytes) -> bool:
+        """Puts what is the matter with the bytes of a file into a finding, by the schema of a path, and says whether that is not refused; Untried where it
+        cannot be said."""
         try:
             with self._schema(path).read_bytes(data, '-') as model:
                 finding.instances, finding.references = len(model), model.reference_count()
                 finding.status = READ
-        except self._p21.SchemaFault as fault:
-            raise Untried('SchemaRefused', 'The schema is refused: %s.' % fault) if finding.schema else Untried.no_schema_name() from None
+        except self._p21.SchemaFault:
+            if not finding.schema:
+                raise Untried.no_schema_name() from None
+            return False
         except self._p21.Fault as fault:
             if fault.kind == WRONG_SCHEMA and not finding.schema:
                 raise Untried.no_schema_name() from None
             finding.status, finding.kind, finding.place = FAULTY, fault.kind, fault.at
-            explain(finding, fault.explanation)
+            explain([finding], fault.explanation)
         except self._p21.OutOfMemory:
             raise Untried('Memory', 'Memory was refused.') from None
+        return True

@@ -8,11 +8,13 @@ import math
 import re
 from typing import Dict, Iterable, Iterator, List, NamedTuple, Tuple
 
-from .model import FAULTY, READ, STATUSES, UNTRIED, Finding
+from .model import FAULTY, MOST_FAULTS, READ, STATUSES, UNTRIED, Finding
 from .tables import FAULTS, RESULTS, escaped, readable, replaced
 
-# The most files that are shown, and of one group; the tables tell the rest.
+# The most faults that are shown, and of one group; the tables tell the rest.
 ROWS, ROWS_OF_GROUP = 5000, 500
+# How many files are named that have more faults than are told.
+CUT = 20
 # What a sentence has of one file alone.
 OF_ONE_FILE = re.compile(r"'(?:[^']|'')*'|#?\d+")
 # How a person is told a status.
@@ -90,9 +92,10 @@ PAGE = '''<!DOCTYPE html>
 
 
 def summary(findings: List[Finding]) -> str:
-    """How many files there are of each status."""
+    """How many files there are of each status, and how many faults, where all were asked for."""
     counts = collections.Counter(it.status for it in findings)
-    return '%d files: %s' % (len(findings), ', '.join('%d %s' % (counts[it], WORDS[it]) for it in STATUSES))
+    faults = [it.faults for it in findings if it.faults is not None]
+    return '%d files: %s%s' % (len(findings), ', '.join('%d %s' % (counts[it], WORDS[it]) for it in STATUSES), '; %d faults' % sum(faults) if faults else '')
 
 
 def size(count: float) -> str:
@@ -119,8 +122,8 @@ def number(count: int) -> str:
 
 
 def kinds(findings: Iterable[Finding]) -> Iterator[str]:
-    """The rows of the table of kinds, the largest number of each status first."""
-    counted = collections.Counter((it.status, it.kind) for it in findings)
+    """The rows of the table of kinds, the largest number of each status first. A file with faults of several kinds counts for each of them."""
+    counted = collections.Counter(key for it in findings for key in {(fault.status, fault.kind) for fault in it.each()})
     for (status, kind), count in sorted(counted.items(), key=lambda it: (STATUSES.index(it[0][0]), -it[1], it[0])):
         yield '<tr><td class="%s">%s</td><td>%s</td>%s</tr>\n' % (status, WORDS[status], shown(kind), number(count))
 
@@ -139,18 +142,34 @@ def shape(finding: Finding) -> Tuple[str, str, str]:
     return finding.status, finding.kind, OF_ONE_FILE.sub('', finding.sentence)
 
 
+def cut(findings: Iterable[Finding]) -> List[Finding]:
+    """The files that have more faults than are told."""
+    return [it for it in findings if it.faults is not None and it.faults > 1 + len(it.more)]
+
+
+def cut_files(findings: List[Finding]) -> str:
+    """Says of which files not all faults are told."""
+    files = cut(findings)
+    if not files:
+        return ''
+    told = ', '.join('%s (%d)' % (shown(escaped(it.file)), it.faults) for it in files[:CUT])
+    return '<p>Of %d file%s with more faults only the first %d are told: %s%s.</p>\n' % (
+        len(files), 's' * (len(files) > 1), MOST_FAULTS, told, ', ..' if len(files) > CUT else '')
+
+
 def faulty_row(finding: Finding) -> str:
-    """A file that was not read, as a row of its group."""
+    """A fault, or a file that was not tried, as a row of its group."""
     place = '' if finding.line is None else ':%d:%d' % (finding.line, finding.column)
     line = '<pre>%s</pre>' % shown(finding.shown) if finding.shown else ''
     return '<div>%s%s: %s%s</div>\n' % (shown(escaped(finding.file)), place, shown(finding.sentence), line)
 
 
 def group(rows: List[Finding], files: int) -> str:
-    """Files of which the same is wrong, of which at most so many are shown, below the first of them."""
-    first = rows[0]
+    """Faults that are the same, or files that were not tried for the same reason, of which at most so many are shown, below the first of them."""
+    first, named = rows[0], len({it.file for it in rows})
     more = '<p>%d more are in %s.</p>' % (len(rows) - files, FAULTS) if len(rows) > files else ''
-    files_told = '%d file%s%s' % (len(rows), 's' * (len(rows) > 1), ', for example' * any(it.sentence != first.sentence for it in rows))
+    files_told = '%s%d file%s%s' % ('%d times in ' % len(rows) if len(rows) > named else '', named, 's' * (named > 1),
+                                    ', for example' * any(it.sentence != first.sentence for it in rows))
     return '<details><summary><span class="%s">%s</span>: %s: %s</summary>\n%s%s</details>\n' % (
         first.status, shown(first.kind), files_told, shown(first.sentence),
         ''.join(map(faulty_row, rows[:files])), more)
@@ -159,7 +178,7 @@ def group(rows: List[Finding], files: int) -> str:
 def faulty(findings: List[Finding]) -> str:
     """The files that were not read, in groups, the largest first, the faulty ones before the others."""
     groups: Dict[Tuple[str, str, str], List[Finding]] = {}
-    for it in findings:
+    for it in (it for finding in findings for it in finding.each()):
         if it.status != READ:
             groups.setdefault(shape(it), []).append(it)
     if not groups:
@@ -172,8 +191,8 @@ def faulty(findings: List[Finding]) -> str:
         told.append(group(rows, min(left, ROWS_OF_GROUP)))
         left -= min(len(rows), ROWS_OF_GROUP)
     more = '<p>%d more groups are in %s.</p>' % (len(ordered) - len(told), FAULTS) if len(ordered) > len(told) else ''
-    return '<input id="search" type="search" placeholder="Search files and faults" aria-label="Search files and faults">\n%s%s\n<script>%s</script>' % (
-        ''.join(told), more, SCRIPT)
+    return '<input id="search" type="search" placeholder="Search files and faults" aria-label="Search files and faults">\n%s%s%s\n<script>%s</script>' % (
+        cut_files(findings), ''.join(told), more, SCRIPT)
 
 
 class Scale(NamedTuple):

@@ -29,8 +29,8 @@ class Refused(Exception):
 
 @dataclasses.dataclass
 class Asked:
-    """What was asked for: the folders to look through, that of the schemas, which part of the files, whether they are sent to hosts, what each may take, and
-    whether they are looked at by the rules of their schemas."""
+    """What was asked for: the folders to look through, that of the schemas, which part of the files, whether they are sent to hosts, what each may take,
+    whether they are looked at by the rules of their schemas, whether all faults of a file are told, and whether schemas are mended."""""
 
     folders: List[str]
     schemas: str
@@ -38,6 +38,8 @@ class Asked:
     transfer: bool
     bounds: Bounds
     rules: bool
+    all_faults: bool = False
+    mend: bool = False
 
 
 @dataclasses.dataclass
@@ -136,7 +138,7 @@ class Run:
         great, others = plan(search.files, jobs, asked.bounds)
         names = ['batches/%06d' % it for it in range(1, len(great) + len(others) + 1)]
         for name, batch in zip(names, great + others):
-            batch.is_sent, batch.by_rules = asked.transfer, asked.rules
+            batch.is_sent, batch.by_rules, batch.all_faults = asked.transfer, asked.rules, asked.all_faults
             self._lay_batch(name, batch)
         size = sum(it.bytes for it in search.files)
         made = Plan(asked, len(search.files), size, names[:len(great)], names[len(great):], search.refused + refused, search.ignored,
@@ -166,7 +168,7 @@ class Run:
         with open(self.path(RUN), encoding='ascii') as file:
             read = json.load(file)
         read['asked'] = Asked(**{**read['asked'], 'bounds': Bounds(**read['asked']['bounds'])})
-        read['refused'] = [Finding(**it) for it in read['refused']]
+        read['refused'] = [Finding.of(it) for it in read['refused']]
         return Plan(**read)
 
     def found(self) -> Dict[str, Findings]:

@@ -6,7 +6,7 @@ import contextlib
 import json
 import os
 import re
-from typing import Iterable, Iterator, List, TextIO
+from typing import Dict, Iterable, Iterator, List, TextIO
 
 from .model import READ, Finding, bytes_of
 
@@ -68,10 +68,19 @@ def write_results(path: str, findings: Iterable[Finding]) -> None:
         file.writelines(row(it) for it in findings)
 
 
+def members(finding: Finding) -> Dict[str, object]:
+    """What is told of a fault; how many the file has, only where all were asked for."""
+    told = {**vars(finding), 'file': escaped(finding.file)}
+    del told['more']
+    if finding.faults is None:
+        del told['faults']
+    return told
+
+
 def write_faults(path: str, findings: List[Finding]) -> None:
-    """Writes an object for each file that was not read."""
+    """Writes an object for each fault, and for each file that was not tried."""
     with replaced(path) as file:
-        for it in findings:
+        for it in (it for finding in findings for it in finding.each()):
             if it.status != READ:
-                line = json.dumps({**vars(it), 'file': escaped(it.file)}, ensure_ascii=False)
+                line = json.dumps(members(it), ensure_ascii=False)
                 file.write(IN_JSON.sub(lambda odd: '\\u%04x' % ord(odd[0]), line) + '\n')

@@ -15,25 +15,28 @@ import time
 from typing import BinaryIO, Dict, Iterator, List, NamedTuple
 
 from .library import Library
-from .model import FAULTY, READ, WRONG_SCHEMA, Batch, Bounds, File, Finding, Findings, Untried, explain
+from .model import FAULTY, MOST_FAULTS, READ, WRONG_SCHEMA, Batch, Bounds, Fault, File, Finding, Findings, Untried, explain
 from .plan import WHOLE, processors
 from .schemas import FRONTS, NAME, read_front
 from .sources import Source, sources
 
 PROGRAM, SCHEMAS = 'base/p21check', 'base/schemas.json'
 MOST_LANES = 64
+# The status of a p21check whose schema is refused.
+REFUSED = 3
 BLOCK = 1 << 20
-# The first of a report, and of what is told on standard error, that are looked at.
-REPORT, ERRORS = 1 << 12, 1 << 16
+# The first of a report, and of what is told on standard error, that are looked at: room for each fault that is kept.
+REPORT, ERRORS = MOST_FAULTS << 12, MOST_FAULTS << 14
 COUNT = re.compile(rb'^(instances|references) (\d+)$', re.MULTILINE)
-FAULT = re.compile(rb'fault \d+ (\w+) at (\d+)')
+FAULT = re.compile(rb'^fault \d+ (\w+) at (\d+)', re.MULTILINE)
 
 
 class Ran(NamedTuple):
-    """How a run of p21check ended, and what it wrote."""
+    """How a run of p21check ended, and what it wrote: the first of its report, of how many lines, and of what it told on standard error."""
 
     status: int
     report: bytes
+    lines: int
     errors: bytes
 
 
@@ -88,8 +91,10 @@ def run(words: List[str], front: bytes, source: Source) -> Ran:
     with tempfile.TemporaryFile() as report, tempfile.TemporaryFile() as errors:
         status = ended(words, front, source, stdout=report, stderr=errors)
         report.seek(0)
+        lines = sum(1 for _ in report)
+        report.seek(0)
         errors.seek(0)
-        return Ran(status, report.read(REPORT), errors.read(ERRORS))
+        return Ran(status, report.read(REPORT), lines, errors.read(ERRORS))
 
 
 def text(written: bytes) -> str:
@@ -103,12 +108,11 @@ def tell(finding: Finding, ran: Ran) -> None:
         counts = {name: int(count) for name, count in COUNT.findall(ran.report)}
         finding.instances, finding.references = counts[b'instances'], counts[b'references']
         return
-    fault = FAULT.match(ran.report)
-    if ran.status == 1 and fault:
-        finding.status, finding.kind, finding.place = FAULTY, text(fault[1]), int(fault[2])
-        explain(finding, text(ran.errors))
-    elif ran.status == 3:
-        raise Untried('SchemaRefused', 'The schema is refused: %s.' % text(ran.report))
+    faults = [Fault(text(it[1]), int(it[2])) for it in FAULT.finditer(ran.report)][:MOST_FAULTS]
+    if ran.status == 1 and faults:
+        finding.status, finding.kind, finding.place = FAULTY, faults[0].kind, faults[0].place
+        finding.more = faults[1:]
+        explain([finding, *finding.more], text(ran.errors))
     elif ran.status < 0:
         raise Untried('Killed', 'Signal %d ended p21check.' % -ran.status)
     else:
@@ -117,14 +121,16 @@ def tell(finding: Finding, ran: Ran) -> None:
 
 class Worker:
     """Finds what is wrong with files, by so many lanes and these schemas, a path for each name, within bounds: by libp21 where one lane reads a file that
-    may be held whole, and its rules are not asked for, else by p21check."""
+    may be held whole, and neither its rules nor all its faults are asked for, else by p21check."""
 
-    def __init__(self, lanes: int, schemas: Dict[str, str], bounds: Bounds, by_rules: bool):
+    def __init__(self, lanes: int, schemas: Dict[str, str], bounds: Bounds, by_rules: bool, all_faults: bool):
         self.lanes = lanes
+        self.all_faults = all_faults
         self.schemas = schemas
         self.bounds = bounds
         self.more = ['--rules'] * by_rules
-        self.library = Library() if lanes == 1 and not by_rules else None
+        self.explanations: Dict[str, str] = {}
+        self.library = Library() if lanes == 1 and not by_rules and not all_faults else None
 
     def path(self, schema: str) -> str:
         """The path of the schema of this name; where a file names none any will do, since whatever is wrong with a file before its schema is
@@ -150,12 +156,27 @@ class Worker:
         if self.library:
             front += rest(source, front)
             if len(front) <= WHOLE:
-                self.library.tell(finding, path, front)
+                if not self.library.tell(finding, path, front):
+                    raise self.refusal(finding.schema, path)
                 return
-        ran = run([PROGRAM, path, '-', '--explain=1', '--lanes', str(self.lanes), *self.more], front, source)
-        if not finding.schema and (ran.status == 3 or WRONG_SCHEMA.encode() in ran.report):
+        # Of a file that names no schema, the faults after the first may be those of any schema.
+        has_all = self.all_faults and bool(finding.schema)
+        asked = ['--all', '--explain=%d' % MOST_FAULTS] if has_all else ['--explain=1']
+        ran = run([PROGRAM, path, '-', *asked, '--lanes', str(self.lanes), *self.more], front, source)
+        if not finding.schema and (ran.status == REFUSED or WRONG_SCHEMA.encode() in ran.report):
             raise Untried.no_schema_name()
+        if ran.status == REFUSED:
+            raise self.refusal(finding.schema, path)
         tell(finding, ran)
+        if self.all_faults and finding.status == FAULTY:
+            finding.faults = ran.lines
+
+    def refusal(self, name: str, path: str) -> Untried:
+        """What is told of a file whose schema is refused, which p21check is asked once."""
+        if path not in self.explanations:
+            ran = subprocess.run([PROGRAM, path, os.devnull, '--explain=1', *self.more], stdin=subprocess.DEVNULL, stdout=subprocess.DEVNULL, stderr=subprocess.PIPE)
+            self.explanations[path] = text(ran.stderr)
+        return Untried.by_schema(name, self.explanations[path])
 
     def finding(self, source: Source) -> Finding:
         """What is found of a file."""
@@ -164,7 +185,7 @@ class Worker:
             with limited(self.bounds.seconds):
                 self.look(finding, source)
         except Untried as why:
-            finding.kind, finding.sentence = why.kind, why.sentence
+            finding.kind, finding.sentence, finding.shown = why.kind, why.sentence, why.shown
         except Exception as error:
             # Whatever a file brings about is a row, and none of the files beside it is lost.
             finding.kind, finding.sentence = 'Failed', '%s: %s.' % (type(error).__name__, error)
@@ -186,7 +207,7 @@ def main(words: List[str]) -> int:
     batch = Batch.read(folder)
     with open(SCHEMAS, encoding='ascii') as file:
         schemas = json.load(file)
-    worker = Worker(batch.lanes or min(MOST_LANES, processors()), schemas, batch.bounds, batch.by_rules)
+    worker = Worker(batch.lanes or min(MOST_LANES, processors()), schemas, batch.bounds, batch.by_rules, batch.all_faults)
     found = [it for file in batch.files for it in worker.findings(file)]
     findings = Findings(os.path.basename(folder), len(batch.files), sum(it.bytes for it in batch.files), found)
     sys.stdout.write(findings.to_line())

@@ -7,7 +7,7 @@ _p21archive() {
     --hosts) compopt -o filenames && mapfile -t COMPREPLY < <(compgen -f -- "$word") && return ;;
     esac
     if [[ $word == -* ]]; then
-        mapfile -t COMPREPLY < <(compgen -W '--schemas --jobs --hosts --transfer --rules --limit --seconds --part --out --resume --version --help' -- "$word")
+        mapfile -t COMPREPLY < <(compgen -W '--schemas --jobs --hosts --transfer --all --rules --mend --limit --seconds --part --out --resume --version --help' -- "$word")
         return
     fi
     compopt -o filenames

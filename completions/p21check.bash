@@ -4,16 +4,20 @@ _p21check() {
     case $previous in
     --lanes) mapfile -t COMPREPLY < <(compgen -W '1 2 4 8 16 32 64' -- "$word") && return ;;
     --capacity) mapfile -t COMPREPLY < <(compgen -W '1 16 64 256 1024 4096' -- "$word") && return ;;
+    --schemas) compopt -o filenames && mapfile -t COMPREPLY < <(compgen -d -- "$word") && return ;;
+    --write-schema) compopt -o filenames && mapfile -t COMPREPLY < <(compgen -f -- "$word") && return ;;
     --format) mapfile -t COMPREPLY < <(compgen -W 'text json' -- "$word") && return ;;
+    --color) mapfile -t COMPREPLY < <(compgen -W 'auto always never' -- "$word") && return ;;
     esac
     if [[ $word == -* ]]; then
-        mapfile -t COMPREPLY < <(compgen -W '--lanes --capacity --all --distinct --rules --explain --format --progress --help --version' -- "$word")
+        mapfile -t COMPREPLY < <(compgen -W '--schemas --any-schema-name --mend --write-schema --lanes --capacity --all --summary --distinct --rules --explain --format --color --progress --help --version' -- "$word")
         return
     fi
     # The first word that is no option and no value of one is the schema, the second the file.
     for ((index = 1; index < COMP_CWORD; index++)); do
         case ${COMP_WORDS[index]} in
-        --lanes | --capacity | --format) ((index++)) ;;
+        --schemas) ((index++, place++)) ;;
+        --write-schema | --lanes | --capacity | --format | --color) ((index++)) ;;
         --*) ;;
         *) ((place++)) ;;
         esac

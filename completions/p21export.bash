@@ -5,16 +5,17 @@ _p21export() {
     --lanes) mapfile -t COMPREPLY < <(compgen -W '1 2 4 8 16 32 64' -- "$word") && return ;;
     --capacity) mapfile -t COMPREPLY < <(compgen -W '1 16 64 256 1024 4096' -- "$word") && return ;;
     --format) mapfile -t COMPREPLY < <(compgen -W 'text json' -- "$word") && return ;;
-    --json | --sqlite) compopt -o filenames && mapfile -t COMPREPLY < <(compgen -f -- "$word") && return ;;
+    --color) mapfile -t COMPREPLY < <(compgen -W 'auto always never' -- "$word") && return ;;
+    --json | --sqlite | --write-schema) compopt -o filenames && mapfile -t COMPREPLY < <(compgen -f -- "$word") && return ;;
     esac
     if [[ $word == -* ]]; then
-        mapfile -t COMPREPLY < <(compgen -W '--json --sqlite --lanes --capacity --distinct --explain --format --progress --help --version' -- "$word")
+        mapfile -t COMPREPLY < <(compgen -W '--json --sqlite --all-entities --mend --write-schema --lanes --capacity --distinct --explain --format --color --progress --help --version' -- "$word")
         return
     fi
     # The first word that is no option and no value of one is the schema, the second the file.
     for ((index = 1; index < COMP_CWORD; index++)); do
         case ${COMP_WORDS[index]} in
-        --lanes | --capacity | --format | --json | --sqlite) ((index++)) ;;
+        --lanes | --capacity | --format | --color | --json | --sqlite | --write-schema) ((index++)) ;;
         --*) ;;
         *) ((place++)) ;;
         esac

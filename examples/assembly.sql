@@ -1,5 +1,5 @@
 -- The tree of an assembly, out of the database of its STEP file:
---   p21export ap203e2.exp as1.stp --sqlite as1.db && sqlite3 as1.db < examples/assembly.sql
+--   p21export ap203e2.exp as1.stp --sqlite as1.db --all-entities && sqlite3 as1.db < examples/assembly.sql
 WITH RECURSIVE
   part AS (
     SELECT definition.id, product."product.id" AS number, product."name"

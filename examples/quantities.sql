@@ -1,5 +1,5 @@
 -- What is in a building, out of the database of its IFC file:
---   p21export IFC2X3.exp house.ifc --sqlite house.db && sqlite3 -box house.db < examples/quantities.sql
+--   p21export IFC2X3.exp house.ifc --sqlite house.db --all-entities && sqlite3 -box house.db < examples/quantities.sql
 
 -- The walls of each storey that are extruded: the length is that of the axis, the height that of the extruded solid, or of the one that was cut.
 WITH RECURSIVE

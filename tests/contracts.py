@@ -19,19 +19,27 @@ def behind(text, at):
     return len(text)
 
 
-def clauses(text, at, kinds=('ensures',)):
-    """The names of the clauses of these kinds of a call, whose signature begins at a place. One without a name has that of its kind."""
-    names = []
+def contract(text, at):
+    """The end of the signature that begins at a place, with its clauses, and these: of each its kind, its name (that of its kind, where it has none),
+    and what it says."""
+    found = []
     while text[at] not in '{;':
         clause = CLAUSE.match(text, at)
         if clause:
-            names += [clause[2] or clause[1]] if clause[1] in kinds else []
             at = behind(text, clause.end() - 1)
+            found.append((clause[1], clause[2] or clause[1], text[clause.end():at - 1].strip()))
         elif text[at] == '[':
             at = text.index(']', at)
+        elif text.startswith('//', at):
+            at = text.index('\n', at)
         else:
             at += 1
-    return names
+    return at, found
+
+
+def clauses(text, at, kinds=('ensures',)):
+    """The names of the clauses of these kinds of a call, whose signature begins at a place."""
+    return [name for kind, name, _ in contract(text, at)[1] if kind in kinds]
 
 
 def home(text, at):

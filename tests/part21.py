@@ -85,11 +85,29 @@ def value(schema, it, declared=''):
     return '(%s)' % ','.join(value(schema, element_of, element or '') for element_of in it)
 
 
+def repeated_keys(line):
+    """The keys that stand more than once in an object of a line of JSON."""
+    found = []
+
+    def look(members):
+        keys = [key for key, _ in members]
+        found.extend(key for key in dict.fromkeys(keys) if keys.count(key) > 1)
+
+    json.loads(line, object_pairs_hook=look)
+    return found
+
+
+def keys_of(attributes):
+    """The keys of the attributes of a record, in upper case: one whose name another has before it has its entity in front."""
+    names = [name for _, name, _ in attributes]
+    return ['%s.%s' % (owner, name) if name in names[:place] else name for place, (owner, name, _) in enumerate(attributes)]
+
+
 def record(schema, it, attributes, entities):
     """A record of an instance that is of these entities; an attribute whose key is left out is derived."""
     left, given = list(it['attributes']), []
-    for owner, name, declared in attributes:
-        if left and left[0][0].upper() == name:
+    for (owner, name, declared), key in zip(attributes, keys_of(attributes)):
+        if left and left[0][0].upper() == key:
             lowest = next((schema.again[e][name] for e in entities if name in schema.again[e] and owner in schema.ancestors(e)), declared)
             given.append(value(schema, left.pop(0)[1], lowest))
         else:

@@ -12,39 +12,64 @@ PASSED = object()
 FAR = 10 ** 17
 
 
+def of_part(part, code):
+    """The character of this number in a part of ISO 8859; none where it has none."""
+    try:
+        return bytes([code]).decode('iso8859_%d' % part)
+    except UnicodeDecodeError:
+        return None
+
+
 def characters(body):
-    """The items of a string, whatever directives spell them."""
-    items, part, at = [], 1, 0
+    """The characters of a string, whatever directives spell them: one that is none is None."""
+    found, part, at = [], 1, 0
     while at < len(body):
         rest = body[at:]
         if rest.startswith("''"):
-            items.append(39)
+            found.append("'")
             at += 2
         elif rest.startswith('\\\\'):
-            items.append(92)
+            found.append('\\')
             at += 2
         elif rest.startswith('\\S\\'):
-            items.append(128 + ord(rest[3]) if part == 1 else (part, 128 + ord(rest[3])))
+            found.append(of_part(part, 128 + ord(rest[3])))
             at += 4
         elif match := re.match(r'\\P([A-I])\\', rest):
             part = ord(match[1]) - 64
             at += 4
         elif match := re.match(r'\\X\\([0-9A-Fa-f]{2})', rest):
-            items.append(int(match[1], 16))
+            found.append(chr(int(match[1], 16)))
             at += 5
         elif match := re.match(r'\\X2\\((?:[0-9A-Fa-f]{4})+)\\X0\\', rest):
-            text = bytes.fromhex(match[1]).decode('utf-16-be', 'replace')
-            items += map(ord, text)
+            text = bytes.fromhex(match[1]).decode('utf-16-be', 'surrogatepass')
+            found += [None if 0xd800 <= ord(it) < 0xe000 else it for it in text]
             at += match.end()
         elif match := re.match(r'\\X4\\((?:[0-9A-Fa-f]{8})+)\\X0\\', rest):
-            items += [int(match[1][i:i + 8], 16) for i in range(0, len(match[1]), 8)]
+            codes = [int(match[1][i:i + 8], 16) for i in range(0, len(match[1]), 8)]
+            found += [None if 0xd800 <= it < 0xe000 or it > 0x10ffff else chr(it) for it in codes]
             at += match.end()
         elif rest[0] in '\t\n\r':
             at += 1
         else:
-            items.append(ord(rest[0]))
-            at += 1
-    return tuple(items)
+            # The text was read byte by byte.
+            size = next((n for n in (2, 3, 4) if ord(rest[0]) > 127 and is_utf8(rest[:n])), 1)
+            found.append(rest[:size].encode('latin-1').decode() if size > 1 else rest[0])
+            at += size
+    return found
+
+
+def is_utf8(text):
+    """Whether bytes, each as a character, are one character in UTF-8."""
+    try:
+        return len(text.encode('latin-1').decode()) == 1
+    except UnicodeDecodeError:
+        return False
+
+
+def compared_string(body):
+    """A string by its characters; by what is written where one is none, or is the one that stands for such."""
+    found = characters(body)
+    return ('written', body) if None in found or '\ufffd' in found else ('string', ''.join(found))
 
 
 def number(text):
@@ -105,7 +130,7 @@ class Reader:
             return 'list', self.values()
         kind, text, _ = self.take()
         if kind == 'string':
-            return 'string', characters(text[1:-1])
+            return compared_string(text[1:-1])
         if kind in ('integer', 'real'):
             return number(text)
         if kind == 'binary':
@@ -147,6 +172,18 @@ def names(value):
     return names(value[2]) if value[0] == 'typed' else [value[1]] if value[0] == 'name' else []
 
 
+def statements(body):
+    """The statements of an entity's body, each with the section that it stands in."""
+    section = ''
+    for statement in body.split(';'):
+        while match := re.match(r'\s*(DERIVE|INVERSE|UNIQUE|WHERE)\b', statement):
+            if section == 'WHERE' or match[1] == 'DERIVE' and section:
+                break
+            section, statement = match[1], statement[match.end():]
+        if statement.strip():
+            yield section, statement.strip()
+
+
 class Rules:
     """The rules UNIQUE of a schema's text: entity, label, and attributes as they are newly declared; and its INVERSE attributes: entity, name, whether each
     reference counts, bounds, the entity that refers, and its attribute."""
@@ -154,25 +191,37 @@ class Rules:
     def __init__(self, text):
         self.schema = Schema(text)
         plain = re.sub(r"'[^']*'", "''", re.sub(r'--[^\n]*', '', re.sub(r'\(\*.*?\*\)', '', Schema.innermost(text), flags=re.DOTALL))).upper()
+        bodies = {entity: list(statements(body)) for entity, _, body in re.findall(r'\bENTITY\s+(%s)([^;]*);(.*?)\bEND_ENTITY\b' % NAME, plain, re.DOTALL)}
+        # What each entity declares: newly, explicit or not; and again, by the entity behind SELF, with its type, which one in DERIVE has not.
+        self.explicit, self.others, self.again = {}, {}, {}
+        for entity, body in bodies.items():
+            self.explicit[entity], self.others[entity], self.again[entity] = {}, set(), []
+            for section, statement in body:
+                if section in ('UNIQUE', 'WHERE'):
+                    continue
+                names, declared = statement.split(':', 1)
+                for name in names.split(','):
+                    if match := re.match(r'\s*SELF\s*\\\s*(%s)\s*\.\s*(%s)' % (NAME, NAME), name):
+                        if section == 'INVERSE':
+                            self.others[entity].add(match[2])
+                        else:
+                            self.again[entity].append((*match.groups(), None if section else re.sub(r'^\s*OPTIONAL\b', '', declared).strip()))
+                    elif section:
+                        self.others[entity].add(name.strip())
+                    else:
+                        self.explicit[entity][name.strip()] = re.sub(r'^\s*OPTIONAL\b', '', declared).strip()
         self.rules, self.inverse = [], []
-        # What each entity declares in DERIVE again, by the entity that declares it first and its name.
-        self.derived = {}
-        for entity, _, body in re.findall(r'\bENTITY\s+(%s)([^;]*);(.*?)\bEND_ENTITY\b' % NAME, plain, re.DOTALL):
-            match = re.search(r'(?:^|;)\s*DERIVE\b((?:(?!\bINVERSE\b|\bUNIQUE\b|\bWHERE\b).)*)', body, re.DOTALL)
-            self.derived[entity] = set(re.findall(r'(?:^|;)\s*SELF\s*\\\s*(%s)\s*\.\s*(%s)\s*:' % (NAME, NAME), match[1] if match else ''))
-        for entity, _, body in re.findall(r'\bENTITY\s+(%s)([^;]*);(.*?)\bEND_ENTITY\b' % NAME, plain, re.DOTALL):
-            match = re.search(r'(?:^|;)\s*UNIQUE\b((?:(?!\bWHERE\b).)*)', body, re.DOTALL)
-            for number, clause in enumerate(match[1].split(';')[:-1] if match else [], 1):
+        for entity, body in bodies.items():
+            for number, clause in enumerate((it for section, it in body if section == 'UNIQUE'), 1):
                 label, _, names = clause.rpartition(':')
                 attributes = [self.resolve(entity, it) for it in names.split(',')]
                 if None not in attributes:
                     self.rules.append((entity, label.strip() or str(number), attributes))
-            match = re.search(r'(?:^|;)\s*INVERSE\b((?:(?!\bUNIQUE\b|\bWHERE\b).)*)', body, re.DOTALL)
-            self.inverse += [self.bounds(entity, clause) for clause in (match[1].split(';')[:-1] if match else [])]
+            self.inverse += [self.bounds(entity, it) for section, it in body if section == 'INVERSE']
         self.inverse = [it for it in self.inverse if it]
 
     def bounds(self, entity, clause):
-        """The bounds of an INVERSE attribute, or none where they are no numbers or it is FOR no explicit attribute."""
+        """The bounds of an INVERSE attribute; none where they are no numbers, or it is FOR no explicit attribute, or for one that another entity derives."""
         name, declared = clause.split(':', 1)
         kind, low, high, source, attribute = re.fullmatch(r'\s*(?:(SET|BAG)\s*(?:\[([^:]*):([^]]*)\])?\s*OF\s)?\s*(%s)\s+FOR\s+(.*)' % NAME, declared, re.DOTALL).groups()
         low, high = (low.strip(), high.strip()) if low else ('0', '?') if kind else ('1', '1')
@@ -180,13 +229,29 @@ class Rules:
         found = self.resolve(source, attribute[0]) if len(attribute) == 1 else self.resolve(source, 'SELF\\%s.%s' % tuple(attribute))
         if not found or not low.isdigit() or not (high == '?' or high.isdigit()):
             return None
+        if any(declared is None for _, declared in self.declarations(found)):
+            return None
         return entity, re.findall(NAME, name)[-1], kind == 'BAG', int(low), float('inf') if high == '?' else int(high), source, found
 
+    def declarations(self, attribute):
+        """All declarations of an attribute, each by its entity and its type; one in DERIVE has none."""
+        owner, name = attribute
+        again = [(entity, declared) for entity in self.again for of, it, declared in self.again[entity] if it == name and owner in self.schema.ancestors(of)]
+        return [(owner, self.explicit[owner][name]), *again]
+
     def resolve(self, entity, text):
+        """The explicit attribute of a name, or that it is derived or inverse."""
         names = re.findall(NAME, text)
-        owners = [names[1]] if names[0] == 'SELF' else self.schema.ancestors(entity)
-        found = next(((owner, names[-1]) for owner in self.schema.own for it in self.schema.own[owner] if owner in owners and it[0] == names[-1]), None)
-        return None if found and any(found[1] == name and found[0] in self.schema.ancestors(behind) for it in self.schema.ancestors(entity) for behind, name in self.derived[it]) else found
+        name, above = names[-1], self.schema.ancestors(entity)
+        if names[0] == 'SELF':
+            owner = names[1]
+        else:
+            having = [it for it in self.explicit if it in above and (name in self.explicit[it] or name in self.others[it])]
+            owner = next(it for it in having if not any(it in self.schema.ancestors(other) for other in having if other != it))
+        found = (owner, name) if name in self.explicit[owner] else None
+        if not found and name not in self.others[owner] and any(it == name and declared for _, it, declared in self.again[owner]):
+            found = next((it, name) for it in self.explicit if it in self.schema.ancestors(owner) and name in self.explicit[it] and (owner, True) in [(by, bool(declared)) for by, declared in self.declarations((it, name))])
+        return None if found and any(declared is None and by in above for by, declared in self.declarations(found)) else found
 
     def is_of(self, instance, entity):
         return any(entity in self.schema.ancestors(keyword) for keyword, _ in instance[3])
@@ -207,8 +272,19 @@ class Rules:
         if not self.is_of(instance, entity):
             return PASSED
         found = self.parameters(instance)
-        values = [compared(self.schema, found.get(it, PASSED), dict(self.schema.own[it[0]])[it[1]]) for it in attributes]
+        values = [self.value(instance, it, found.get(it, PASSED)) for it in attributes]
         return PASSED if PASSED in values else tuple(values)
+
+    def value(self, instance, attribute, given):
+        """The value of an attribute in an instance by each of its declarations that count there, or that it is passed over."""
+        _, _, complex_, records = instance
+        entities = {it for keyword, _ in records for it in ([keyword] if complex_ else self.schema.ancestors(keyword))}
+        own = [(by, declared) for by, declared in self.declarations(attribute) if by in entities]
+        if any(declared is None for _, declared in own):
+            return PASSED
+        last = [declared for by, declared in own if not any(by != other and by in self.schema.ancestors(other) for other, _ in own)]
+        values = {compared(self.schema, given, declared) for declared in last}
+        return values.pop() if len(values) == 1 else PASSED
 
     def counts(self, instances):
         """How many refer to each instance, by the number of the INVERSE attribute and the instance's name."""
@@ -232,11 +308,11 @@ class Rules:
                 if values is PASSED:
                     continue
                 if (number, values) in first:
-                    lines.append('fault 16 NotUnique at %d rule %s name #%d' % (instance[1], rule[1], first[number, values]))
+                    lines.append('fault 16 NotUnique at %d rule %s.%s name #%d' % (instance[1], *rule[:2], first[number, values]))
                 else:
                     first[number, values] = instance[0]
             for number, (entity, name, _, low, high, _, _) in enumerate(self.inverse):
                 count = counts[number, instance[0]]
                 if self.is_of(instance, entity) and not low <= count <= high:
-                    lines.append('fault 17 InverseCount at %d inverse %s count %d' % (instance[1], name, count))
+                    lines.append('fault 17 InverseCount at %d inverse %s.%s count %d' % (instance[1], entity, name, count))
         return lines

@@ -37,13 +37,13 @@ def peak_memory(words):
     return int(ran.stdout) * 1024
 
 
-def on_terminal(words, seconds=SECONDS):
+def on_terminal(words, seconds=SECONDS, **more):
     """The same of a run whose errors are a terminal; None also where no terminal can be had."""
     try:
         ours, theirs = pty.openpty()
     except OSError:
         return None
-    started = subprocess.Popen([PROGRAM, *words], stdin=subprocess.DEVNULL, stdout=subprocess.PIPE, stderr=theirs)
+    started = subprocess.Popen([PROGRAM, *words], stdin=subprocess.DEVNULL, stdout=subprocess.PIPE, stderr=theirs, **more)
     os.close(theirs)
     errors = b''
     try:

@@ -1,6 +1,7 @@
 """Compares the database that a file is exported as with its lines of JSON: what `tests/run_sqlite` and `tests/sqlite_of` look for."""
 
 import json
+import pathlib
 import re
 import sqlite3
 
@@ -56,40 +57,41 @@ class Database:
         self.views = {name for kind, name in listed if kind == 'view'}
         self.own = {name: '_' + name if name.upper() in schema.supers else name for name in ('metadata', 'id_map', 'reference')}
         self.columns = {name: [row[1] for row in rows_of(self.base, 'PRAGMA table_info("%s")' % name)] for name in self.tables | self.views}
-        self.rows = {name: {row[0]: row for row in rows_of(self.base, 'SELECT * FROM "%s"' % name)} for name in self.tables - set(self.own.values())}
+        # The rows of each table of records, by the name of its view.
+        self.rows = {name[:-4]: {row[0]: row for row in rows_of(self.base, 'SELECT * FROM "%s"' % name)} for name in self.tables - set(self.own.values())}
 
     def all_of(self, name):
         return rows_of(self.base, 'SELECT * FROM "%s" ORDER BY rowid' % self.own[name])
 
 
 def names_of(schema, entity):
-    """The columns of an entity's table, in upper case: an attribute whose name is taken has its entity in front."""
-    names = ['ID']
+    """The columns of an entity's view, in upper case: an attribute whose name is taken has its entity in front."""
+    names = ['ID', 'ENTITY']
     for owner, name, _ in schema.row(entity):
         names.append('%s.%s' % (owner, name) if name in names else name)
     return names
 
 
-def table_of(entity):
-    """The name of an entity's table."""
+def view_of(entity):
+    """The name of an entity's view; that of its table is this and `.own`."""
     return '_' + entity if entity.lower().startswith('sqlite_') else entity
 
 
 def entity_of(schema, table):
-    """The entity of a table, in upper case."""
+    """The entity of a view, in upper case."""
     return table.upper() if table.upper() in schema.supers else table[1:].upper()
 
 
 def faults_of_record(database, it, record, left, references):
     """What is wrong with the row of a record, which is taken from `left`; its references are added."""
-    table = table_of(record['type'])
-    row, columns = left[table].pop(it['id'], None), database.columns[table]
+    table = view_of(record['type'])
+    row, columns = left[table].pop(it['id'], None), database.columns[table + '.own']
     if row is None:
         return ['no row']
     given = list(record['attributes'])
     first = len(columns) - len(database.schema.own[record['type'].upper()]) if 'records' in it else 1
     for place in range(1, len(columns)):
-        if place >= first and given and given[0][0] == columns[place].rpartition('.')[2]:
+        if place >= first and given and given[0][0] in (columns[place], columns[place].rpartition('.')[2]):
             name, value = given.pop(0)
             if not is_cell(value, row[place]):
                 return ['%s is %r, not %r' % (columns[place], row[place], value)]
@@ -123,34 +125,33 @@ def faults_of_instances(database, lines, file):
 
 
 def faults_of_views(database):
-    """What is wrong with the views: each has each instance of its supertype once, with the values of the tables."""
+    """What is wrong with the views: each entity with instances at or below it has one, which has each of them once, with the values of the tables."""
     schema = database.schema
     known = {entity_of(schema, name): name for name in database.rows}
-    simple = {entity: set() for entity in known}
-    for key, names, _ in database.all_of('id_map'):
-        simple.get(names.upper(), set()).add(key)
+    spelled = {key: names for key, names, _ in database.all_of('id_map')}
     for entity in schema.supers:
-        own = known.get(entity)
-        below = [other for other in known if other != entity and entity in schema.ancestors(other) and simple[other]]
-        views = [name for name in database.views if name.upper() == table_of(entity).upper() + ('.ALL' if own else '')]
-        if len(views) != (1 if 0 < len(below) < 500 else 0):
+        wanted = {}
+        for key, names in spelled.items():
+            records = names.upper().split('+')
+            if entity in records and len(records) > 1:
+                wanted[key] = (key, names) + tuple(complex_value(database, known, key, owner, name) for owner, name, _ in schema.row(entity))
+            elif len(records) == 1 and entity in schema.ancestors(records[0]):
+                row, held = schema.row(records[0]), database.rows[known[records[0]]][key]
+                wanted[key] = (key, names) + tuple(held[1 + row.index(it)] for it in schema.row(entity))
+        views = [name for name in database.views if name.upper() == view_of(entity).upper()]
+        if len(views) != (1 if wanted else 0):
             yield '%s has the views %s' % (entity, views)
-            continue
         for view in views:
-            yield from faults_of_view(database, entity, view, known, below, simple)
+            if [name.upper() for name in database.columns[view]] != names_of(schema, entity):
+                yield 'the columns of %s are %s' % (view, database.columns[view])
+            if sorted(rows_of(database.base, 'SELECT * FROM "%s"' % view), key=lambda it: it[0]) != [wanted[key] for key in sorted(wanted)]:
+                yield 'other rows of %s' % view
 
 
-def faults_of_view(database, entity, view, known, below, simple):
-    schema = database.schema
-    if [name.upper() for name in database.columns[view]] != names_of(schema, entity):
-        yield 'the columns of %s are %s' % (view, database.columns[view])
-    wanted = dict(database.rows[known[entity]]) if entity in known else {}
-    for other in below:
-        row = schema.row(other)
-        places = [0] + [1 + row.index(it) for it in schema.row(entity)]
-        wanted.update({key: tuple(held[place] for place in places) for key, held in database.rows[known[other]].items() if key in simple[other]})
-    if sorted(rows_of(database.base, 'SELECT * FROM "%s"' % view), key=lambda it: it[0]) != [wanted[key] for key in sorted(wanted)]:
-        yield 'other rows of %s' % view
+def complex_value(database, known, key, owner, name):
+    """The value that a complex instance gives an attribute, by the record of the entity that declares it."""
+    place = next(place for place, it in enumerate(database.schema.row(owner)) if it[:2] == (owner, name))
+    return database.rows[known[owner]][key][1 + place]
 
 
 def faults_of_metadata(database, header, report):
@@ -178,9 +179,12 @@ def faults_of_database(schema_text, path, text, report, file):
     header, *lines = text.splitlines()
     if rows_of(database.base, 'PRAGMA integrity_check') != [('ok',)]:
         yield 'its integrity is not ok'
+    if pathlib.Path(path).read_bytes()[18:20] != b'\1\1':
+        yield 'it is not in the mode of the rollback journal'
     for name in database.rows:
-        if [it.upper() for it in database.columns[name]] != names_of(database.schema, entity_of(database.schema, name)):
-            yield 'the columns of %s are %s' % (name, database.columns[name])
+        columns = database.columns[name + '.own']
+        if [it.upper() for it in columns] != [it for it in names_of(database.schema, entity_of(database.schema, name)) if it != 'ENTITY']:
+            yield 'the columns of %s.own are %s' % (name, columns)
     yield from faults_of_instances(database, lines, file)
     yield from faults_of_views(database)
     yield from faults_of_metadata(database, header, report)

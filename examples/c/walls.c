@@ -2,6 +2,8 @@
  *
  *     cc walls.c -o walls $(pkg-config --cflags --libs p21)
  *     ./walls IFC2X3.exp house.ifc
+ *
+ * Why a schema or a file is refused is told on standard error.
  */
 #include <p21.h>
 #include <stdio.h>
@@ -24,12 +26,14 @@ static uint8_t *bytes_of(const char *path, size_t *size) {
     return bytes;
 }
 
-/* Says what is wrong with a file. */
-static void explain(const p21_schema *schema, const uint8_t *file, size_t size, const char *path, const p21_fault *fault) {
-    char words[4096];
+/* Says what is wrong with a file; with a schema where there is none yet. */
+static void explain(const p21_schema *schema, const uint8_t *text, size_t size, const char *path, const p21_fault *fault) {
+    uint8_t words[4096];
     uint64_t length = 0;
-    if (p21_explain(schema, file, size, (const uint8_t *)path, strlen(path), fault, (uint8_t *)words, sizeof words, &length) == P21_OK)
-        fwrite(words, 1, length < sizeof words ? length : sizeof words, stderr);
+    const uint8_t *name = (const uint8_t *)path;
+    int code = schema ? p21_explain(schema, text, size, name, strlen(path), fault, words, sizeof words, &length)
+                      : p21_schema_explain(text, size, name, strlen(path), fault, 0, words, sizeof words, &length);
+    if (code == P21_OK) fwrite(words, 1, length < sizeof words ? length : sizeof words, stderr);
 }
 
 /* Prints the name of each wall. */
@@ -57,6 +61,7 @@ int main(int count, char **words) {
     p21_model *model = NULL;
     p21_fault fault;
     int code = text && file ? p21_schema_read(text, text_size, (uint64_t)(uintptr_t)text, &schema, &fault) : P21_NONE;
+    if (code == P21_FAULT) explain(NULL, text, text_size, words[1], &fault);
     if (code == P21_OK && (code = p21_read(schema, file, file_size, &model, &fault)) == P21_FAULT) explain(schema, file, file_size, words[2], &fault);
     if (code == P21_OK) print_walls(model);
     p21_model_free(model);

@@ -4,6 +4,8 @@ import ctypes
 import os
 import pathlib
 
+from .errors import OutOfMemory
+
 OK, FAULT, NONE, MEMORY, HANDLE = range(5)
 ABSENT, DERIVED, INTEGER, REAL, STRING, ENUMERATION, LOGICAL, BINARY, REFERENCE, LIST, TYPED = range(11)
 
@@ -12,6 +14,14 @@ _U32, _U64, _SIZE, _PLACE = ctypes.c_uint32, ctypes.c_uint64, ctypes.c_size_t, c
 
 class FaultView(ctypes.Structure):
     _fields_ = [("kind", _U32), ("at", _U64), ("record", _U64), ("attribute", _U64), ("name", _U64)]
+
+
+class EntityView(ctypes.Structure):
+    _fields_ = [("is_abstract", _U32), ("supertypes", _U64), ("attributes", _U64)]
+
+
+class AttributeView(ctypes.Structure):
+    _fields_ = [("entity", _U64), ("optional", _U32), ("derived", _U32)]
 
 
 class InstanceView(ctypes.Structure):
@@ -39,7 +49,7 @@ def _path() -> str:
     if named:
         return named
     beside = pathlib.Path(__file__).with_name("libp21.so")
-    return str(beside) if beside.exists() else "libp21.so"
+    return str(beside) if beside.exists() else "libp21.so.0"
 
 
 # What reads lets other threads of Python run; what answers at once does not.
@@ -59,6 +69,30 @@ pointer, u32, u64, _size = _PLACE.from_param, _U32.from_param, _U64.from_param, 
 schema_read = _call(_slow, "p21_schema_read", *_TEXT, _U64, _PLACE, _PLACE)
 read = _call(_slow, "p21_read", _PLACE, _PLACE, _SIZE, _PLACE, _PLACE)
 explain = _call(_slow, "p21_explain", _PLACE, _PLACE, _SIZE, *_TEXT, _PLACE, *_ROOM, _PLACE)
+schema_explain = _call(_slow, "p21_schema_explain", *_TEXT, *_TEXT, _PLACE, _U32, *_ROOM, _PLACE)
+place = _call(_slow, "p21_place", *_TEXT, _U64, _PLACE, _PLACE)
+mend = _call(_slow, "p21_mend", *_TEXT, _PLACE)
+mended_text = _call(_quick, "p21_mended_text", _PLACE, *_ROOM, _PLACE)
+change_count = _call(_quick, "p21_change_count", _PLACE, _PLACE)
+change = _call(_quick, "p21_change", _PLACE, _U64, _PLACE, *_ROOM, _PLACE)
+rules_read = _call(_slow, "p21_rules_read", _PLACE, _PLACE, _SIZE, _PLACE, _PLACE)
+rules_check = _call(_slow, "p21_rules_check", _PLACE, _PLACE, *_ROOM, _PLACE)
+rules_explain = _call(_slow, "p21_rules_explain", _PLACE, _PLACE, _SIZE, *_TEXT, _PLACE, *_ROOM, _PLACE)
+rules_name = _call(_quick, "p21_rules_name", _PLACE, _PLACE, *_ROOM, _PLACE)
+schema_title = _call(_quick, "p21_schema_title", _PLACE, *_ROOM, _PLACE)
+schema_entity_count = _call(_quick, "p21_schema_entity_count", _PLACE, _PLACE)
+schema_entity = _call(_quick, "p21_schema_entity", _PLACE, *_TEXT, _PLACE)
+schema_entity_name = _call(_quick, "p21_schema_entity_name", _PLACE, _U64, *_ROOM, _PLACE)
+schema_entity_view = _call(_quick, "p21_schema_entity_view", _PLACE, _U64, _PLACE)
+schema_supertype = _call(_quick, "p21_schema_supertype", _PLACE, _U64, _U64, _PLACE)
+schema_is_a = _call(_quick, "p21_schema_is_a", _PLACE, _U64, _U64, _PLACE)
+schema_attribute = _call(_quick, "p21_schema_attribute", _PLACE, _U64, _U64, _PLACE)
+schema_attribute_name = _call(_quick, "p21_schema_attribute_name", _PLACE, _U64, _U64, *_ROOM, _PLACE)
+schema_attribute_type = _call(_quick, "p21_schema_attribute_type", _PLACE, _U64, _U64, *_ROOM, _PLACE)
+schema_type_count = _call(_quick, "p21_schema_type_count", _PLACE, _PLACE)
+schema_type_name = _call(_quick, "p21_schema_type_name", _PLACE, _U64, *_ROOM, _PLACE)
+schema_type_text = _call(_quick, "p21_schema_type_text", _PLACE, _U64, *_ROOM, _PLACE)
+header = _call(_quick, "p21_header", _PLACE, *_ROOM, _PLACE)
 schema_name = _call(_quick, "p21_schema_name", _PLACE, *_ROOM, _PLACE)
 entity_count = _call(_quick, "p21_entity_count", _PLACE, _PLACE)
 entity = _call(_quick, "p21_entity", _PLACE, *_TEXT, _PLACE)
@@ -83,8 +117,8 @@ _free.argtypes, _free.restype = (_PLACE,), None
 
 
 class Handle(_PLACE):
-    """A schema or a model of the library, with what it reads where that is. It goes when nothing refers to it any more: a call that uses it does, so that
-    whoever closes a model only forgets its handle."""
+    """A schema, a model, rules or a mended text of the library, with what it reads where that is. It goes when nothing refers to it any more: a call that
+    uses it does, so that whoever closes a model only forgets its handle."""
 
     def __init__(self, place: int, *read):
         super().__init__(place)
@@ -143,27 +177,32 @@ def take() -> Room:
 give = _rooms.append
 
 
-def text(call, *words) -> str:
-    """The text that a call hands out."""
+def data(call, *words) -> bytes:
+    """The bytes of the text that a call hands out."""
     room = take()
-    while call(*words, room.bytes_at, room.size, room.number_at) == OK:
+    code = call(*words, room.bytes_at, room.size, room.number_at)
+    while code == OK:
         length = room.number.value
         if length <= room.size:
-            told = room.bytes[:length].decode("utf-8", "replace")
+            told = room.bytes[:length]
             give(room)
             return told
         room.fit(length)
-    raise LookupError
+        code = call(*words, room.bytes_at, room.size, room.number_at)
+    raise OutOfMemory("a text") if code == MEMORY else LookupError("there is no such text")
+
+
+def text(call, *words) -> str:
+    """The text that a call hands out."""
+    return data(call, *words).decode("utf-8", "replace")
 
 
 def number(call, *words):
     """The number that a call hands out; None where there is none."""
     room = take()
-    told = room.number.value if call(*words, room.number_at) == OK else None
+    code = call(*words, room.number_at)
+    told = room.number.value if code == OK else None
     give(room)
+    if code == MEMORY:
+        raise OutOfMemory("a number")
     return told
-
-
-def version() -> str:
-    """The version of this package."""
-    return "0.1.0"

@@ -132,7 +132,8 @@ def _reader(record: int, position: int) -> Callable[["Instance"], Value]:
 
 class Instance:
     """An instance of a model, of a class that its entity gives it. Its attributes are attributes of the object, by the names of the schema; one whose name
-    is that of a method, such as id in AP203, is instance["id"]."""
+    is that of a method, such as id in AP203, is instance["id"]. Where a further attribute has the name of one before it, by another supertype, its name is
+    that of the entity that declares it, a point, and its own, as in instance["document.name"]."""
 
     __slots__ = ("_model", "_place")
     _attributes: Dict[str, Callable[["Instance"], Value]] = {}

@@ -2,8 +2,9 @@
 
 import array
 import ctypes
+import json
 import operator
-from typing import Dict, Iterator, List, Optional, Tuple, Type, Union
+from typing import Any, Dict, Iterator, List, Optional, Tuple, Type, Union
 
 from . import _library as library
 from .errors import Error, OutOfMemory
@@ -45,6 +46,13 @@ class Model(library.Kept):
     def schema(self) -> str:
         """The name of the schema: IFC2X3."""
         return library.text(library.schema_name, self._open())
+
+    @property
+    def header(self) -> Dict[str, Dict[str, Any]]:
+        """The parameters of the header's entities by their names in ISO 10303-21: those of "file_description" ("description" and "implementation_level"),
+        "file_name" ("name", "time_stamp", "author", "organization", "preprocessor_version", "originating_system" and "authorization") and "file_schema"
+        ("schema_identifiers"). A parameter that the file has not is left out."""
+        return json.loads(library.text(library.header, self._open()))["header"]
 
     def __len__(self) -> int:
         return len(self._names)

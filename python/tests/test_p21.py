@@ -8,6 +8,7 @@ import pathlib
 import pickle
 import random
 import signal
+import subprocess
 import sys
 import tempfile
 import threading
@@ -39,6 +40,9 @@ ENTITY Nested; Levels : %s INTEGER; END_ENTITY;
 ENTITY Link; Owner : SELECTED; Number : INTEGER; END_ENTITY;
 TYPE SELECTED = SELECT (Links); END_TYPE;
 TYPE Links = LIST OF Link; END_TYPE;
+ENTITY Sheet; Name : STRING; Size : INTEGER; END_ENTITY;
+ENTITY Document; id : STRING; name : STRING; END_ENTITY;
+ENTITY Drawing SUBTYPE OF (Sheet, Document); Size : REAL; END_ENTITY;
 ENTITY Thing SUPERTYPE OF (Left ANDOR Right); END_ENTITY;
 ENTITY Left SUBTYPE OF (Thing); Mark : INTEGER; END_ENTITY;
 ENTITY Right SUBTYPE OF (Thing); mark : STRING; END_ENTITY;
@@ -134,8 +138,18 @@ class Package(unittest.TestCase):
         product = self.schema.read_bytes(of_data(b"#5=PRODUCT('P-1',());"))[5]
         self.assertEqual((product.id, product['id'], product[0], product.get_info()['id']), (5, 'P-1', 'P-1', 5))
 
-    def test_records_with_one_name(self):
-        """Of two records of a complex instance the second has the name of its entity in front."""
+    def test_attributes_of_one_name(self):
+        """The first has the name, and each later one that of its entity in front."""
+        drawing = self.schema.read_bytes(of_data(b"#5=DRAWING('A1',7,'D-5','Plan',0.5);"))[5]
+        names = ['Name', 'Size', 'id', 'Document.name', 'Drawing.Size']
+        self.assertEqual((len(drawing), list(drawing)), (5, ['A1', 7, 'D-5', 'Plan', 0.5]))
+        self.assertEqual([drawing.attribute_name(place) for place in range(5)], names)
+        self.assertEqual([drawing[name] for name in names], list(drawing))
+        self.assertEqual([drawing[place] for place in range(5)], list(drawing))
+        self.assertEqual((drawing.Name, drawing.Size, getattr(drawing, 'Drawing.Size')), ('A1', 7, 0.5))
+        self.assertEqual(list(drawing.attributes()), names)
+        self.assertEqual(drawing.get_info(), {'Name': 'A1', 'Size': 7, 'id': 5, 'type': 'Drawing', 'Document.name': 'Plan', 'Drawing.Size': 0.5})
+        self.assertEqual(repr(drawing), "#5=Drawing('A1',7,'D-5','Plan',0.5)")
         both = self.schema.read_bytes(of_data(b"#5=(LEFT(1)RIGHT('r')THING());"))[5]
         self.assertEqual(both.attributes(), {'Mark': 1, 'Right.mark': 'r'})
         self.assertEqual((len(both), list(both)), (2, [1, 'r']))
@@ -207,10 +221,13 @@ class Package(unittest.TestCase):
         def read():
             self.assertEqual([list(it) for it in self.model], wanted)
 
+        armed = [True]
+
         def handle(*_):
             # The next signal comes after this one is handled, however slow the machine is.
             read()
-            signal.setitimer(signal.ITIMER_REAL, 0.0005)
+            if armed:
+                signal.setitimer(signal.ITIMER_REAL, 0.0005)
 
         before = signal.signal(signal.SIGALRM, handle)
         signal.setitimer(signal.ITIMER_REAL, 0.0005)
@@ -218,6 +235,8 @@ class Package(unittest.TestCase):
             for _ in range(300):
                 read()
         finally:
+            # A signal that has come may be handled only now.
+            armed.clear()
             signal.setitimer(signal.ITIMER_REAL, 0)
             signal.signal(signal.SIGALRM, before)
 
@@ -289,6 +308,159 @@ class Package(unittest.TestCase):
         self.assertEqual(wrong, [])
 
 
+class Schemas(unittest.TestCase):
+    """What a schema tells without a file, and why one is refused."""
+
+    @classmethod
+    def setUpClass(cls):
+        cls.schema = p21.Schema(SCHEMA)
+
+    def refused(self, text, *words, **more):
+        """The fault of a schema that is refused."""
+        with self.assertRaises(p21.SchemaFault) as raised:
+            p21.Schema(text, *words, **more)
+        return raised.exception
+
+    def test_entities(self):
+        schema = self.schema
+        names = [it.name for it in schema.entities()]
+        self.assertEqual((len(schema), names[:3], names[-1]), (20, ['Root', 'Point', 'Placement'], 'Right'))
+        self.assertEqual(([it.name for it in schema], schema.name), (names, 'HOUSE'))
+        self.assertTrue('Wall' in schema and 'WALL' in schema and schema.entity('wall') in schema)
+        self.assertFalse('Roof' in schema or 7 in schema or p21.Schema(SCHEMA).entity('Wall') in schema)
+        wall, curtain = schema.entity('WALL'), schema['CurtainWall']
+        self.assertEqual((wall.name, wall.is_abstract, schema['Root'].is_abstract, repr(wall)), ('Wall', False, True, '<Entity Wall>'))
+        self.assertEqual((curtain.supertypes, curtain.is_a('element'), curtain.is_a(wall), wall.is_a(curtain), wall.is_a('Roof')), ((wall,), True, True, False, False))
+        self.assertEqual([it.name for it in schema['Drawing'].supertypes], ['Sheet', 'Document'])
+        self.assertEqual(len({schema['Wall'], schema['wall'], curtain}), 2)
+        self.assertRaises(RuntimeError, schema.entity, 'Roof')
+        self.assertRaises(KeyError, lambda: schema['Roof'])
+        for copied in (copy.copy, copy.deepcopy, pickle.dumps):
+            self.assertRaisesRegex(TypeError, 'cannot be copied or pickled', copied, wall)
+
+    def test_attributes(self):
+        wall = self.schema['Wall']
+        told = [(it.name, it.entity.name, it.type, it.is_optional, it.is_derived) for it in wall.attributes]
+        self.assertEqual(told, [
+            ('GlobalId', 'Root', 'STRING', False, False), ('Name', 'Root', 'Label', True, False), ('ObjectPlacement', 'Element', 'Placement', True, False),
+            ('Height', 'Wall', 'Length', True, False), ('PredefinedType', 'Wall', 'Kind', False, False), ('IsExternal', 'Wall', 'LOGICAL', False, False)])
+        self.assertEqual([it.name for it in self.schema['Drawing'].attributes], ['Name', 'Size', 'id', 'Document.name', 'Drawing.Size'])
+        self.assertEqual([it.type for it in self.schema['Connects'].attributes[2:]], ['Element', 'SET [0:?] OF Element'])
+        for entity in self.schema:
+            self.assertEqual([it.name for it in entity.attributes if it.entity == entity], [it.name for it in entity.attributes][len(entity.attributes) - own(entity) :])
+
+    def test_declared_again(self):
+        """What is declared again counts for the entity that does so and for those below it."""
+        schema = p21.Schema(rb"""SCHEMA S;
+            TYPE Text = STRING(8) FIXED; END_TYPE;
+            TYPE Any = SELECT (A, Text); END_TYPE;
+            TYPE Grid = ARRAY [-1:2] OF OPTIONAL LIST [1:?] OF UNIQUE Any; END_TYPE;
+            ENTITY A; x : OPTIONAL REAL; Y : BAG [1:f] OF B; END_ENTITY;
+            ENTITY B SUBTYPE OF (A); SELF\A.x : REAL; END_ENTITY;
+            ENTITY C SUBTYPE OF (B); DERIVE SELF\A.x : REAL := 1.; SELF\A.Y : BAG OF D := []; END_ENTITY;
+            ENTITY D SUBTYPE OF (C); END_ENTITY;
+            END_SCHEMA;""")
+        told = {it.name: [(one.type, one.is_optional, one.is_derived) for one in it.attributes] for it in schema}
+        self.assertEqual(told, {
+            'A': [('REAL', True, False), ('BAG [1:?] OF B', False, False)], 'B': [('REAL', False, False), ('BAG [1:?] OF B', False, False)],
+            'C': [('REAL', False, True), ('BAG [1:?] OF B', False, True)], 'D': [('REAL', False, True), ('BAG [1:?] OF B', False, True)]})
+        self.assertEqual(schema.types(), [
+            p21.DefinedType('Text', 'STRING(8) FIXED'), p21.DefinedType('Any', 'SELECT (A, Text)'),
+            p21.DefinedType('Grid', 'ARRAY [-1:2] OF OPTIONAL LIST [1:?] OF UNIQUE Any')])
+
+    def test_types(self):
+        types = {it.name: it.text for it in self.schema.types()}
+        self.assertEqual((len(types), types['Kind'], types['Links']), (7, 'ENUMERATION OF (SOLID, GLAZED)', 'LIST [0:?] OF Link'))
+        self.assertEqual(types['Value'], 'SELECT (Label, Length, Flag, Kind)')
+
+    def test_refused(self):
+        fault = self.refused(b'SCHEMA S;\n  USE FROM other;\nEND_SCHEMA;', 'house.exp')
+        self.assertEqual((fault.kind, fault.at, fault.file, fault.line, fault.column), ('NotSupported', 12, 'house.exp', 2, 3))
+        self.assertEqual(fault.message, '`USE` is not supported here.')
+        self.assertTrue(fault.advice.startswith('It takes declarations from another schema: '))
+        self.assertEqual(str(fault), 'house.exp:2:3: schema fault: %s %s' % (fault.message, fault.advice))
+        fault = self.refused(b'SCHEMA S; ENTITY E; a : T; END_ENTITY; END_SCHEMA;')
+        self.assertEqual((fault.kind, fault.file, fault.line, fault.column, fault.advice), ('UnknownName', 'schema', 1, 25, ''))
+        self.assertEqual(str(fault), 'schema:1:25: schema fault: `T` is not declared, or is of the wrong kind.')
+        self.assertEqual(str(p21.SchemaFault('Syntax', 9)), 'schema: schema fault: Syntax at 9')
+
+    def test_mended(self):
+        text = b"SCHEMA S '{1}';\nTYPE a = SELECT (E);\nEND_TYPE;\nTYPE b = a; END_TYPE;\nENTITY E ABSTRACT; x : b; END_ENTITY;\nEND_SCHEMA;"
+        self.assertEqual(self.refused(text).kind, 'Syntax')
+        schema = p21.Schema(text, mend=True)
+        self.assertEqual([(it.line, it.column) for it in schema.changes], [(1, 10), (4, 10), (5, 18)])
+        self.assertTrue(all(it.sentence.endswith('.') for it in schema.changes))
+        self.assertEqual(({it.name: it.text for it in schema.types()}, schema['E'].is_abstract), ({'a': 'SELECT (E)', 'b': 'SELECT (a)'}, True))
+        self.assertEqual(schema.text.count(b'\n'), text.count(b'\n'))
+        whole = p21.Schema(SCHEMA, mend=True)
+        self.assertEqual((whole.changes, whole.text, self.schema.changes), ([], SCHEMA, []))
+        self.assertEqual(self.refused(b'SCHEMA S; USE FROM other; END_SCHEMA;', mend=True).kind, 'NotSupported')
+
+    def test_header(self):
+        header = self.schema.read_bytes(FILE.replace(b"('HOUSE')", b"('House')").replace(b"FILE_NAME('',''", b"FILE_NAME('a\\X\\E4','2026-11-29'")).header
+        self.assertEqual(header['file_description'], {'description': [''], 'implementation_level': '2;1'})
+        self.assertEqual((header['file_name']['name'], header['file_name']['time_stamp'], header['file_name']['author']), ('aä', '2026-11-29', ['']))
+        self.assertEqual(header['file_schema'], {'schema_identifiers': ['House']})
+
+
+def own(entity):
+    """How many attributes an entity declares: of others it has those of its supertypes, each once."""
+    return len(entity.attributes) - len({(it.entity, it.name) for above in entity.supertypes for it in above.attributes})
+
+
+class Rules(unittest.TestCase):
+    """The rules UNIQUE and INVERSE of a schema."""
+
+    TEXT = (b'SCHEMA HOUSE; ENTITY Part; Id : STRING; Host : OPTIONAL Part; INVERSE Guests : SET [0:1] OF Part FOR Host; UNIQUE UR1 : Id; END_ENTITY; END_SCHEMA;')
+    KEPT, SAME, MANY = (of_data(it) for it in (b"#1=PART('a',$);#2=PART('b',#1);", b"#1=PART('a',$);\n#2=PART('a',$);", b"#1=PART('a',$);#2=PART('b',#1);#3=PART('c',#1);"))
+
+    def setUp(self):
+        self.schema = p21.Schema(self.TEXT)
+
+    def fault(self, data, **more):
+        with self.assertRaises(p21.Fault) as raised:
+            self.schema.read_bytes(data, 'x.stp', **more)
+        return raised.exception
+
+    def test_kept(self):
+        for data in (self.KEPT, self.SAME, self.MANY):
+            self.assertGreater(len(self.schema.read_bytes(data)), 1)
+        self.assertEqual(len(self.schema.read_bytes(self.KEPT, rules=True)), 2)
+
+    def test_broken(self):
+        fault = self.fault(self.SAME, rules=True)
+        self.assertEqual((fault.kind, fault.at, fault.record, fault.attribute, fault.name), ('NotUnique', self.SAME.index(b'#2='), None, None, 1))
+        self.assertEqual((fault.rule, fault.count, fault.line, fault.column), ('Part.UR1', None, 5, 9))
+        self.assertTrue(str(fault).startswith('x.stp:5:9: fault ') and "its Id 'a' is that of #1 too" in fault.explanation)
+        fault = self.fault(self.MANY, rules=True)
+        self.assertEqual((fault.kind, fault.at, fault.name, fault.rule, fault.count), ('InverseCount', self.MANY.index(b'#1='), None, 'Part.GUESTS', 2))
+        self.assertIn('Guests of Part asks for at most 1.', fault.explanation)
+        other = pickle.loads(pickle.dumps(fault))
+        self.assertEqual((str(other), vars(other)), (str(fault), vars(fault)))
+
+    def test_behind_other_faults(self):
+        self.assertEqual(self.fault(self.SAME.replace(b"#1=PART('a',$)", b'#1=PART(7,$)'), rules=True).kind, 'BadAttribute')
+
+    def test_refused(self):
+        schema = p21.Schema(self.TEXT.replace(b'UR1 : Id', b'UR1 : Name'), 'house.exp')
+        self.assertEqual(len(schema.read_bytes(self.KEPT)), 2)
+        for _ in range(2):
+            with self.assertRaises(p21.SchemaFault) as raised:
+                schema.read_bytes(self.KEPT, rules=True)
+            self.assertEqual((raised.exception.kind, raised.exception.message), ('UnknownName', '`Name` is not declared, or is of the wrong kind.'))
+        # The rules are read before the file.
+        self.assertRaises(p21.SchemaFault, schema.read, '/there/is/none', rules=True)
+
+    def test_open(self):
+        with tempfile.TemporaryDirectory() as folder:
+            schema, file = (pathlib.Path(folder) / it for it in ('house.exp', 'house.stp'))
+            schema.write_bytes(self.TEXT.replace(b'HOUSE;', b"HOUSE '{1}';"))
+            file.write_bytes(self.SAME)
+            self.assertEqual(len(p21.open(file, schema, mend=True)), 2)
+            self.assertRaises(p21.Fault, p21.open, file, schema, rules=True, mend=True)
+            self.assertRaises(p21.SchemaFault, p21.open, file, schema)
+
+
 class Scripts(unittest.TestCase):
     """Scripts as users of other packages write them."""
 
@@ -317,6 +489,57 @@ class Scripts(unittest.TestCase):
         while placement is not None:
             placement, depth = placement.RelTo, depth + 1
         self.assertEqual(depth, 2)
+
+
+class Command(unittest.TestCase):
+    """The command python -m p21, whose statuses and lines are those of p21check."""
+
+    def run_words(self, *words, **more):
+        """The status, the output and the errors of the command."""
+        environment = {**os.environ, 'PYTHONPATH': str(pathlib.Path(p21.__file__).parent.parent)}
+        ran = subprocess.run([sys.executable, '-m', 'p21', *words], capture_output=True, env=environment, timeout=60, **more)
+        return ran.returncode, ran.stdout, ran.stderr
+
+    def test_statuses(self):
+        with tempfile.TemporaryDirectory() as folder:
+            schema, file, faulty = (os.path.join(folder, it) for it in ('house.exp', 'house.stp', 'faulty.stp'))
+            for path, data in ((schema, SCHEMA), (file, FILE), (faulty, FILE.replace(b"'wood'", b'7'))):
+                pathlib.Path(path).write_bytes(data)
+            status, output, errors = self.run_words(schema, file)
+            self.assertEqual((status, output.split(b'\n')[0], errors), (0, b'schema HOUSE', b''))
+            self.assertEqual(self.run_words(schema, '-', input=FILE), (0, output, b''))
+            status, output, errors = self.run_words(schema, faulty)
+            self.assertEqual((status, output.split(b' at ')[0], errors), (1, b'fault 12 BadAttribute', b''))
+            self.assertEqual(self.run_words(file, file), (3, b'schema fault 1 Syntax at 0\n', b''))
+            ruled, same = os.path.join(folder, 'ruled.exp'), os.path.join(folder, 'same.stp')
+            for path, data in ((ruled, Rules.TEXT.replace(b'HOUSE;', b"HOUSE '{1}';")), (same, Rules.SAME)):
+                pathlib.Path(path).write_bytes(data)
+            self.assertEqual(self.run_words(ruled, same), (3, b'schema fault 1 Syntax at 13\n', b''))
+            status, output, errors = self.run_words('--rules', '--mend', ruled, same)
+            place = Rules.SAME.index(b'#2=')
+            self.assertEqual((status, output), (1, b'fault 16 NotUnique at %d rule PART.UR1 name #1\n' % place))
+            self.assertTrue(errors.startswith(ruled.encode() + b':1:14: The version after the name') and errors.count(b'\n') == 1)
+            self.assertEqual(self.run_words(schema, 'nothing'), (4, b'', b'p21: nothing: No such file or directory\n'))
+            self.assertEqual(self.run_words('/dev/zero', file), (4, b'', b'p21: /dev/zero: a limit was exceeded: at most 16777216 bytes are read\n'))
+            self.assertEqual(self.run_words('-', file)[0], 4)
+            self.assertEqual(self.run_words(schema)[0], 2)
+
+    def test_closed_pipe(self):
+        reading, writing = os.pipe()
+        os.close(reading)
+        with tempfile.TemporaryDirectory() as folder:
+            path = os.path.join(folder, 'house.exp')
+            pathlib.Path(path).write_bytes(SCHEMA)
+            environment = {**os.environ, 'PYTHONPATH': str(pathlib.Path(p21.__file__).parent.parent)}
+            ran = subprocess.run([sys.executable, '-m', 'p21', path, '-'], input=FILE, stdout=writing, stderr=subprocess.PIPE, env=environment, timeout=60)
+        os.close(writing)
+        self.assertEqual((ran.returncode, ran.stderr), (4, b''))
+
+    def test_version(self):
+        project = (pathlib.Path(p21.__file__).parent.parent / 'pyproject.toml').read_text()
+        self.assertIn('version = "%s"' % p21.__version__, project)
+        self.assertEqual(p21.version(), p21.__version__)
+        self.assertEqual(self.run_words('--version')[1], b'p21 %s\n' % p21.__version__.encode())
 
 
 if __name__ == '__main__':

@@ -13,10 +13,13 @@ use Rattle.p21_join.specs.contracts.model.Model as Model
 use Rattle.p21_schema.proofs.Crossing.{Schema-sync}
 use Rattle.p21_tree.proofs.Crossing.{RawInstance-sync}
 use Rattle.p21_json.specs.contracts.terms.Terms as Terms
+use Rattle.p21_mend.specs.contracts.mending.MendedText as MendedText
+use Rattle.p21_rule_text.specs.contracts.rules.Rules as Rules
 use Rattle.p21_spelling.specs.contracts.declared.Spellings as Spellings
 use Rattle.p21_c.specs.contracts.handle.Handle as Handle
 use Rattle.p21_c.specs.contracts.held.Held as Held
 use Rattle.p21_c.specs.contracts.held.HeldModel as HeldModel
+use Rattle.p21_c.specs.contracts.held.HeldRules as HeldRules
 use Rattle.p21_c.specs.contracts.held.HeldSchema as HeldSchema
 use Rattle.p21_c.specs.Lent.{lent}
 
@@ -35,8 +38,17 @@ Model-sync α = search (sendable, crosses, RawInstance-sync) depth 80 fits 20000
 HeldModel-sync : IsSync HeldModel.the_field.row
 HeldModel-sync = search (sendable, crosses, Terms-sync, Model-sync) depth 80 fits 20000
 
+Rules-sync : IsSync Rules.the_field.row
+Rules-sync = search (sendable, crosses) depth 80 fits 20000
+
+HeldRules-sync : IsSync HeldRules.the_field.row
+HeldRules-sync = search (sendable, crosses, HeldSchema-sync, Rules-sync) depth 80 fits 20000
+
+MendedText-sync : IsSync MendedText.the_field.row
+MendedText-sync = search (sendable, crosses) depth 80 fits 20000
+
 Held-sync : IsSync Held.the_row
-Held-sync = search (sendable, crosses, HeldSchema-sync, HeldModel-sync) depth 80 fits 20000
+Held-sync = search (sendable, crosses, HeldSchema-sync, HeldModel-sync, HeldRules-sync, MendedText-sync) depth 80 fits 20000
 
 lent-Keyless : (R : RattleType) → IsSync R → (p : Ptr) (x : R.Denot) → Keyless (lent R p x)
 lent-Keyless R y (block_ptr b o) x = seen R y (block_ptr b o) x []

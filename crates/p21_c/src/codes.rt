@@ -1,6 +1,7 @@
 //! What a call answers, and the faults that it tells.
 
 use p21_express::SchemaError;
+use p21_rules::{InverseCount, NotUnique};
 use p21_tree::{Fault, FaultKind};
 
 /// The call did what it says.
@@ -26,7 +27,8 @@ pub struct CFault {
     pub kind: u32,
     /// Its place, in bytes from the first byte of the text or the file.
     pub at: u64,
-    /// The record, the attribute, and the name that a reference gives; 0 where the kind has none.
+    /// The record, the attribute, and the name that a reference gives; 0 where the kind has none. Of a fault by a rule the number of the rule,
+    /// 0, and the name of the earlier instance or how many refer.
     pub record: u64,
     pub attribute: u64,
     pub name: u64,
@@ -111,4 +113,46 @@ pub(crate) fn schema_fault(error: SchemaError) -> Option<CFault> {
         SchemaError::BadRedeclaration(at) => Some(plain(106, at)),
         SchemaError::Memory => None,
     }
+}
+
+/// The fault of a schema that C was told; `None` where its kind is none of a schema.
+pub(crate) fn told_schema_fault(told: &CFault) -> Option<SchemaError> {
+    let at = told.at;
+    match told.kind {
+        101 => Some(SchemaError::Syntax(at)),
+        102 => Some(SchemaError::NotSupported(at)),
+        103 => Some(SchemaError::Repeated(at)),
+        104 => Some(SchemaError::UnknownName(at)),
+        105 => Some(SchemaError::Cycle(at)),
+        106 => Some(SchemaError::BadRedeclaration(at)),
+        _ => None,
+    }
+}
+
+/// The name of the kind of a schema's fault in a report.
+pub(crate) fn schema_kind(error: &SchemaError) -> &'static str {
+    match error {
+        SchemaError::Syntax(_) => "Syntax",
+        SchemaError::NotSupported(_) => "NotSupported",
+        SchemaError::Repeated(_) => "Repeated",
+        SchemaError::UnknownName(_) => "UnknownName",
+        SchemaError::Cycle(_) => "Cycle",
+        SchemaError::BadRedeclaration(_) => "BadRedeclaration",
+        SchemaError::Memory => "",
+    }
+}
+
+/// The kinds of faults by rules.
+pub(crate) const NOT_UNIQUE: u32 = 16;
+
+pub(crate) const INVERSE_COUNT: u32 = 17;
+
+/// The fault of an instance by a rule UNIQUE, as C sees it.
+pub(crate) fn unique_fault(fault: &NotUnique) -> CFault {
+    of_attribute(NOT_UNIQUE, fault.at, fault.rule as u64, 0, fault.earlier)
+}
+
+/// The fault of an instance by an INVERSE attribute, as C sees it.
+pub(crate) fn inverse_fault(fault: &InverseCount) -> CFault {
+    of_attribute(INVERSE_COUNT, fault.at, fault.rule as u64, 0, fault.count)
 }

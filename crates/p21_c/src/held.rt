@@ -3,9 +3,13 @@
 ghost use Rattle.std.specs.Prelude.{◌≡◌, map};
 ghost use Rattle.std.specs.List.{flat_map};
 ghost use Rattle.p21_spelling.specs.Spelled.{lower, names_in, own_names};
+ghost use Rattle.p21_rules.specs.InverseCount.{AreInverseRulesOf};
+ghost use Rattle.p21_rules.specs.NotUnique.{AreRulesOf};
 
 use p21_join::Model;
 use p21_json::Terms;
+use p21_mend::MendedText;
+use p21_rule_text::Rules;
 use p21_schema::Schema;
 use p21_spelling::Spellings;
 
@@ -19,11 +23,22 @@ pub struct HeldSchema {
     pub ghost types: { names_in spellings.types.items ≡ map (λ t. lower t.name) schema.types },
 }
 
-/// A model, and the terms of the schema that its file was checked against.
+/// A model, the terms of the schema that its file was checked against, and the file.
 #[derive(Drop)]
 pub struct HeldModel {
     pub terms: Terms<'static>,
     pub model: Model<'static>,
+    pub file: &'static [u8],
+}
+
+/// The rules of a schema, and the text that they were read from.
+#[derive(Drop)]
+pub struct HeldRules {
+    pub schema: &'static HeldSchema,
+    pub text: &'static [u8],
+    pub rules: Rules,
+    pub ghost unique: { AreRulesOf schema.now.schema rules.unique.items },
+    pub ghost inverse: { AreInverseRulesOf schema.now.schema rules.inverse.items },
 }
 
 /// What a handle leads to.
@@ -31,6 +46,8 @@ pub struct HeldModel {
 pub enum Held {
     Schema(HeldSchema),
     Model(HeldModel),
+    Rules(HeldRules),
+    Mended(MendedText),
     /// What it led to was let go.
     Nothing,
 }

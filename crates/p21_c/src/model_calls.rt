@@ -66,7 +66,7 @@ pub(crate) fn record_at<'m>(
 }
 
 /// The number of an entity.
-fn number_of(entity: Option<EntityId>) -> u64 {
+pub(crate) fn number_of(entity: Option<EntityId>) -> u64 {
     match entity {
         Some(entity) => entity.place() as u64,
         None => NO_ENTITY,
@@ -76,6 +76,7 @@ fn number_of(entity: Option<EntityId>) -> u64 {
 /// How many instances there are.
 #[unsafe(no_mangle)]
 pub extern "C" fn p21_count(model: Handle, count: &mut u64) -> i32
+    // If the result is P21_OK, the number of instances of the model.
     ensures { OnModel (pos 0) result model.held (λ m. count.new ≡ length (instances_of m.model)) }
 {
     let Some(held) = model_in(model) else {
@@ -88,6 +89,7 @@ pub extern "C" fn p21_count(model: Handle, count: &mut u64) -> i32
 /// How many instance names are written as parameters, at most 2^64 - 1.
 #[unsafe(no_mangle)]
 pub extern "C" fn p21_reference_count(model: Handle, count: &mut u64) -> i32
+    // If the result is P21_OK, the number of references that are written.
     ensures { OnModel (pos 0) result model.held (λ m. count.new ≡ capped (reference_count (plain_instances (instances_of m.model)))) }
 {
     let Some(held) = model_in(model) else {
@@ -111,7 +113,9 @@ fn references_of(instances: &[RawInstance<'_>]) -> u64
 /// The place of the instance of a name.
 #[unsafe(no_mangle)]
 pub extern "C" fn p21_find(model: Handle, name: u64, place: &mut u64) -> i32
+    // If the result is P21_OK, the place of the name.
     ensures found { OnModel (pos 0) result model.held (λ m. IsPosition (instances_of m.model) name (Some place.new)) }
+    // If the result is P21_NONE, there is none.
     ensures missing { OnModel (pos 2) result model.held (λ m. IsPosition (instances_of m.model) name None) }
 {
     let Some(held) = model_in(model) else {
@@ -127,6 +131,8 @@ pub extern "C" fn p21_find(model: Handle, name: u64, place: &mut u64) -> i32
 }
 
 /// The instance at a place.
+///
+/// Tested.
 #[unsafe(no_mangle)]
 pub extern "C" fn p21_instance(model: Handle, place: u64, out: &mut CInstance) -> i32 {
     let Some(held) = model_in(model) else {
@@ -147,6 +153,8 @@ pub extern "C" fn p21_instance(model: Handle, place: u64, out: &mut CInstance) -
 }
 
 /// The names of the instances from a place on, and the entities of the simple ones, as many as there is room for in both.
+///
+/// Tested.
 #[unsafe(no_mangle)]
 pub extern "C" fn p21_instances(
     model: Handle,
@@ -175,6 +183,8 @@ pub extern "C" fn p21_instances(
 }
 
 /// A record of an instance.
+///
+/// Tested.
 #[unsafe(no_mangle)]
 pub extern "C" fn p21_record(model: Handle, place: u64, record: u64, out: &mut CRecord) -> i32 {
     let Some(held) = model_in(model) else {
@@ -194,6 +204,8 @@ pub extern "C" fn p21_record(model: Handle, place: u64, record: u64, out: &mut C
 }
 
 /// The first instance from a place on that is of an entity, or of a subtype where these count too.
+///
+/// It hands on the result of `next_of` of p21_query.
 #[unsafe(no_mangle)]
 pub extern "C" fn p21_next_of(
     model: Handle,
@@ -219,7 +231,9 @@ pub extern "C" fn p21_next_of(
 /// The first instance from a place on that refers to the instance of a name.
 #[unsafe(no_mangle)]
 pub extern "C" fn p21_next_naming(model: Handle, name: u64, from: u64, place: &mut u64) -> i32
+    // If the result is P21_OK, the first place from this one on that refers to the name.
     ensures found { OnModel (pos 0) result model.held (λ m. IsFirst (λ i. AnyHasName name (plain_instance i).records) (λ i. ¬ (AnyHasName name (plain_instance i).records)) (instances_of m.model) from (Some place.new)) }
+    // If the result is P21_NONE, there is none.
     ensures missing { OnModel (pos 2) result model.held (λ m. IsFirst (λ i. AnyHasName name (plain_instance i).records) (λ i. ¬ (AnyHasName name (plain_instance i).records)) (instances_of m.model) from None) }
 {
     let Some(held) = model_in(model) else {

@@ -33,6 +33,9 @@ impl From<AllocError> for Refusal {
 }
 
 /// Reads the text of a schema.
+///
+/// It hands on the results of `read_declarations`, `spell_names` and `Schema::build_with_key`: the schema is the
+/// reading of the text.
 #[unsafe(no_mangle)]
 pub extern "C" fn p21_schema_read(
     alloc: Global,
@@ -43,17 +46,25 @@ pub extern "C" fn p21_schema_read(
 ) -> i32 {
     match schema_of(alloc, text, key) {
         Ok(schema) => hand_out(alloc, Held::Schema(schema), out),
-        Err(error) => match schema_fault(error) {
-            Some(told) => {
-                *fault = told;
-                FAULT
-            }
-            None => MEMORY,
-        },
+        Err(error) => tell_refused(error, fault),
+    }
+}
+
+/// Tells why the text of a schema is refused.
+pub(crate) fn tell_refused(error: SchemaError, fault: &mut CFault) -> i32 {
+    match schema_fault(error) {
+        Some(told) => {
+            *fault = told;
+            FAULT
+        }
+        None => MEMORY,
     }
 }
 
 /// Reads a file, and checks it against a schema.
+///
+/// It hands on the result of `read_serial`: the model is the reading of the file against the schema, or the fault is
+/// the first.
 #[unsafe(no_mangle)]
 pub extern "C" fn p21_read(
     alloc: Global,
@@ -76,6 +87,8 @@ pub extern "C" fn p21_read(
 }
 
 /// Lets go of what a schema or a model holds. The place itself is freed by C.
+///
+/// Tested.
 #[unsafe(no_mangle)]
 pub extern "C" fn p21_clear(owner: Owner) {
     if let Some(held) = owner.get() {
@@ -100,7 +113,7 @@ fn model_of(
 ) -> Result<HeldModel, Refusal> {
     let model = read(alloc, &schema.schema, file)?;
     let terms = Terms::new(alloc, &schema.schema, &schema.spellings)?;
-    Ok(HeldModel { terms, model })
+    Ok(HeldModel { terms, model, file })
 }
 
 /// Reads a file.
@@ -123,7 +136,7 @@ fn read<'a>(alloc: Global, schema: &Schema, file: &'a [u8]) -> Result<Model<'a>,
 }
 
 /// Hands out the place of what C holds from now on.
-fn hand_out(alloc: Global, held: Held, out: &mut *mut u8) -> i32 {
+pub(crate) fn hand_out(alloc: Global, held: Held, out: &mut *mut u8) -> i32 {
     match Box::new(alloc, held) {
         Ok(boxed) => {
             let place: &'static mut Held = Box::leak(boxed);

@@ -3,12 +3,13 @@
 ghost use Rattle.std.specs.Prelude.{IfSome};
 ghost use Rattle.p21_schema.specs.Place.{IsEntityOf};
 
-use crate::codes::{HANDLE, NONE, OK};
+use crate::codes::{HANDLE, MEMORY, NONE, OK};
 use crate::handle::Handle;
 use crate::models::model_in;
-use p21_json::{attribute, attribute_count};
+use p21_json::attribute_count;
 use p21_query::{attribute_named, copy_front};
 use p21_schema::{EntityId, Schema};
+use std::alloc::Global;
 
 /// The entity of a number.
 pub(crate) fn entity_at(schema: &Schema, number: u64) -> Option<EntityId>
@@ -18,6 +19,8 @@ pub(crate) fn entity_at(schema: &Schema, number: u64) -> Option<EntityId>
 }
 
 /// The name of the schema.
+///
+/// It hands on the result of `Schema::name`.
 #[unsafe(no_mangle)]
 pub extern "C" fn p21_schema_name(model: Handle, room: &mut [u8], length: &mut u64) -> i32 {
     let Some(held) = model_in(model) else {
@@ -27,6 +30,8 @@ pub extern "C" fn p21_schema_name(model: Handle, room: &mut [u8], length: &mut u
 }
 
 /// The number of the entity of a name.
+///
+/// It hands on the result of `Schema::entity`.
 #[unsafe(no_mangle)]
 pub extern "C" fn p21_entity(model: Handle, name: &[u8], entity: &mut u64) -> i32 {
     let Some(held) = model_in(model) else {
@@ -40,6 +45,8 @@ pub extern "C" fn p21_entity(model: Handle, name: &[u8], entity: &mut u64) -> i3
 }
 
 /// How many entities the schema has.
+///
+/// It counts the entities of `Schema::declared`.
 #[unsafe(no_mangle)]
 pub extern "C" fn p21_entity_count(model: Handle, count: &mut u64) -> i32 {
     let Some(held) = model_in(model) else {
@@ -50,6 +57,8 @@ pub extern "C" fn p21_entity_count(model: Handle, count: &mut u64) -> i32 {
 }
 
 /// The name of an entity.
+///
+/// It hands on the result of `Terms::entity`.
 #[unsafe(no_mangle)]
 pub extern "C" fn p21_entity_name(
     model: Handle,
@@ -67,6 +76,8 @@ pub extern "C" fn p21_entity_name(
 }
 
 /// Whether an entity is another, or has it as an ancestor.
+///
+/// It hands on the result of `Schema::is_a`.
 #[unsafe(no_mangle)]
 pub extern "C" fn p21_is_a(model: Handle, entity: u64, other: u64, answer: &mut u32) -> i32 {
     let Some(held) = model_in(model) else {
@@ -81,6 +92,8 @@ pub extern "C" fn p21_is_a(model: Handle, entity: u64, other: u64, answer: &mut 
 }
 
 /// How many attributes a record of an entity has.
+///
+/// It hands on the result of `attribute_count`.
 #[unsafe(no_mangle)]
 pub extern "C" fn p21_attribute_count(
     model: Handle,
@@ -99,9 +112,12 @@ pub extern "C" fn p21_attribute_count(
     OK
 }
 
-/// The name of one of them.
+/// The key of one of them: its name, or where one before it has this name, that of the entity that declares it in front.
+///
+/// It hands on the result of `Terms::write_key`.
 #[unsafe(no_mangle)]
 pub extern "C" fn p21_attribute_name(
+    alloc: Global,
     model: Handle,
     entity: u64,
     own: u32,
@@ -119,11 +135,16 @@ pub extern "C" fn p21_attribute_name(
     if position >= attribute_count(schema, own != 0, entity) {
         return NONE;
     }
-    let found = attribute(schema, own != 0, entity, position);
-    hand_text(held.terms.attribute(found).as_bytes(), room, length)
+    let mut key = String::new(alloc);
+    match held.terms.write_key(&mut key, own != 0, entity, position) {
+        Ok(()) => hand_text(key.as_bytes(), room, length),
+        Err(_) => MEMORY,
+    }
 }
 
-/// The place of the one that has a name.
+/// The place of the one that has a key.
+///
+/// It hands on the result of `attribute_named`.
 #[unsafe(no_mangle)]
 pub extern "C" fn p21_attribute(
     model: Handle,

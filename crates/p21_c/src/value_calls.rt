@@ -12,6 +12,9 @@ use p21_tree::{Param, RawInstance, Record};
 use std::alloc::Global;
 
 /// The value at a path of a record of an instance, and as much of its text as there is room for.
+///
+/// It hands on the results of `parameter_at`, `write_text`, and `is_logical` of p21_json. That it says rightly
+/// whether enumerations are of BOOLEAN or LOGICAL is known by review.
 #[unsafe(no_mangle)]
 pub extern "C" fn p21_value(
     alloc: Global,

@@ -71,7 +71,7 @@ record_faultless s named i S q e f there h a k fault bad_ =
       get_below (y ∷ ys) zero o x = omega arith
       get_below (y ∷ ys) (suc a) o x = let less = get_below ys a o x in omega arith
 
--- the first fault of a record behind records without a fault is the first of the instance
+-- the first fault of a record after records without a fault is the first of the instance
 pub record_first : (s : Schema) (named : ℕ → Option Instance) (i : Instance) (S : List ℕ → Type 0) (q : ℕ) (e : Entry) (os : List Origin) (k : FaultKind) → ((n : List ℕ) → IsInSet s i n ↔ S n) → slice_get i.records q ≡ Some e → AreAttributes s i.complex e.keyword os →
     ((os' : List Origin) → AreAttributes s i.complex e.keyword os' → os' ≡ os) →
     ((r a p : ℕ) (f : FaultKind) → r < q → ¬ (HasFaultAt s named i r a p f)) → IsRecordFault s named S os e.params q k → IsFirstFault s named i k

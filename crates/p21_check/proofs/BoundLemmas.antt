@@ -22,7 +22,7 @@ use Rattle.p21_check.proofs.AnyLemmas.{in_both}
 use Rattle.p21_check.proofs.SlotLemmas.{counts_among, counts_there, derived_among, derived_there, fits_by_each, fits_derived}
 use Rattle.p21_check.proofs.Tests.{both}
 
--- one way behind another
+-- one way after another
 lead_on : {X : Type 0} {Step : X → X → Type 0} {a b c : X} → Leads Step a b → Leads Step b c → Leads Step a c
 lead_on (Leads.one h) k = Leads.more h k
 lead_on (Leads.more h j) k = Leads.more h (lead_on j k)

@@ -44,7 +44,7 @@ module _ (s : Schema) (w : IsWellFormed s) (named : ℕ → Option Instance) (i 
   pub none_in_record : ((os : List Origin) → AreAttributes s i.complex e.keyword os → AreFaultless s named S os e.params (length os)) → (a k : ℕ) (f : FaultKind) → ¬ (HasFaultAt s named i q a k f)
   none_in_record h = record_faultless s named i S q e turned there h
 
-  -- a fault that was found behind records without one is the first of the instance
+  -- a fault that was found after records without one is the first of the instance
   pub first_in_record : (os : List Origin) (k : FaultKind) → AreAttributes s i.complex e.keyword os → ((r a p : ℕ) (f : FaultKind) → r < q → ¬ (HasFaultAt s named i r a p f)) → IsRecordFault s named S os e.params q k → IsReferenceFault s named i (Some k)
   first_in_record os k are before found = record_first s named i S q e os k turned there are (λ (other : List Origin) x. one_list s w x are) before found
 
@@ -58,7 +58,7 @@ one_more s named i q before here r a p f less x =
       split (suc r) zero h = absurd (omega (arith, h))
       split (suc r) (suc q) h = ⊎_elim (λ (k : r < q). inl (omega (arith, k))) (λ (k : r ≡ q). inr (ap suc k)) (split r q (omega (arith, h)))
 
--- no record stands behind the last
+-- no record stands after the last
 pub all_before : (s : Schema) (named : ℕ → Option Instance) (i : Instance) (q : ℕ) → length i.records ≤ q → ((r a p : ℕ) (f : FaultKind) → r < q → ¬ (HasFaultAt s named i r a p f)) → IsReferenceFault s named i None
 all_before s named i q long before r a p f x = before r a p f (omega (arith, long, below i.records r x.stands.entry x.stands.there)) x where
   below : (es : List Entry) (r : ℕ) (e : Entry) → slice_get es r ≡ Some e → r < length es

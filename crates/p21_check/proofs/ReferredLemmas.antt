@@ -112,7 +112,7 @@ adds_one s A xs k known is = (
   only r zero less e = e
   only r (suc i) less e = absurd (omega arith)
 
--- some, and others behind them
+-- some, and others after them
 pub adds_both : (s : Schema) (A B C : Reference → Type 0) (xs ys zs : List Kept) → ((r : Reference) → C r ↔ (A r ⊎ B r)) → Adds s A xs ys → Adds s B ys zs → Adds s C xs zs
 adds_both s A B C xs ys zs or a b = (
   a.0 ++ b.0,
@@ -183,7 +183,7 @@ nameless_asked s w p none r a = let below = asks_below s w p a.0 r a.1 in omega 
 pub nameless_parameter : (s : Schema) (S : List ℕ → Type 0) (o : Origin) (p : Tree) → name_count p ≡ 0 → (r : Reference) → ¬ (Somewhere (AskedBy s S o p) r)
 nameless_parameter s S o p none r a = let below = refers_below a.1.refers.refers in omega (arith, none, below)
 
--- an element, and those behind it
+-- an element, and those after it
 pub adds_behind : (s : Schema) (w : Wanted) (t : Tree) (ts : Trees) (xs ys zs : List Kept) → Adds s (Somewhere (Asks s w t)) xs ys → Adds s (Somewhere (AsksAmong s w ts)) ys zs → Adds s (Somewhere (AsksAmong s w (cons t ts))) xs zs
 adds_behind s w t ts xs ys zs = adds_both s (Somewhere (Asks s w t)) (Somewhere (AsksAmong s w ts)) (Somewhere (AsksAmong s w (cons t ts))) xs ys zs (λ r. ((λ h. split h.0 r h.1), join r)) where
   split : (place : ℕ) (r : Reference) → AsksAmong s w (cons t ts) place r → Somewhere (Asks s w t) r ⊎ Somewhere (AsksAmong s w ts) r

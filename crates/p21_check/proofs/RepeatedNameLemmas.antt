@@ -26,7 +26,7 @@ nameless (tree.typed k t) h = refl
 pub no_name : (p : Param) → ((n : ℕ) → ¬ (p ≡ Ref n)) → None ≡ name_in (plain p)
 no_name p h = nameless (plain p) (λ n e. h n (reference_param p n e))
 
--- the names of the elements that are left, at one of them and behind the last
+-- the names of the elements that are left, at one of them and after the last
 pub names_left : (ps : List Param) (i : ℕ) (d : Param) (o : Option ℕ) → i < length ps → d ≡ get_or ps i d → o ≡ name_in (plain d) → names_of (drop i ps) ≡ with_name o (names_of (drop (i + 1) ps))
 names_left ps i d o h e f =
     ap names_of (drop_more ps i d h) ∙ ap (λ (x : Option ℕ). with_name x (names_of (drop (i + 1) ps))) (ap (λ (p : Param). name_in (plain p)) (sym e) ∙ sym f)

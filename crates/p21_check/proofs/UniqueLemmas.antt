@@ -81,7 +81,7 @@ kind_is s i (kind.BadAttribute r a) h = refl
 kind_is s i (kind.RepeatedReference r a) h = refl
 kind_is s i _ h = absurd h
 
--- what comes neither before nor behind is the same
+-- what comes neither before nor after is the same
 kind_same : (s : Schema) (i : Instance) (j k : FaultKind) → HasFault s i j → HasFault s i k → ¬ (ComesBefore j k) → ¬ (ComesBefore k j) → j ≡ k
 kind_same s i j k f g before behind =
     let number : kind_number j ≡ kind_number k = same_number (kind_number j) (kind_number k) (λ h. before (by_number h)) (λ h. behind (by_number h)) in

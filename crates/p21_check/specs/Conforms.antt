@@ -11,7 +11,7 @@ use Rattle.p21_express.specs.Schema as type
 use Rattle.p21_express.specs.WellFormed.{IsIn, IsEntity, IsSelect}
 use Rattle.p21_schema.specs.Select.{ReachesType, ReachesEntity}
 
--- so many: exactly the width's number where FIXED stands behind it, and otherwise at most that number
+-- so many: exactly the width's number where FIXED stands after it, and otherwise at most that number
 abbrev pub IsAllowed : Bool → ℕ → ℕ → Type 0
 IsAllowed true width n = n ≡ width
 IsAllowed false width n = n ≤ width

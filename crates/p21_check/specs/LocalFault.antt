@@ -19,7 +19,7 @@ tree_get nil k = None
 tree_get (cons t ts) zero = Some t
 tree_get (cons t ts) (suc k) = tree_get ts k
 
--- ABSTRACT SUPERTYPE stands behind the entity's name
+-- ABSTRACT SUPERTYPE stands after the entity's name
 pub record IsAbstract (s : Schema) (n : List ℕ) : Type 0 where
   pub entity : Entity
   pub declared : IsIn s.entities entity

@@ -110,5 +110,6 @@ IsReferenceFault s named i None = (r a p : ℕ) (k : FaultKind) → ¬ (HasFault
 IsReferenceFault s named i (Some k) = IsFirstFault s named i k
 
 -- the first instance of a list that has the name
+-- Of a `TypeOf` or an `EntityOf`, its ghost `named` says it.
 abbrev pub named_in : List Instance → ℕ → Option Instance
 named_in is n = find (λ i. nat_eq i.name n) is

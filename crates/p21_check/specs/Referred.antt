@@ -8,11 +8,12 @@ use Rattle.p21_check.specs.declared.wanted.Wanted.TheVariants as asked
 use Rattle.p21_check.specs.References.{Reference, HasReference}
 use Rattle.p21_check.specs.Wanted.{IsAsked}
 
--- what the numbers of a schema stand for: the names of its entities, and behind them those of its types
+-- what the numbers of a schema stand for: the names of its entities, and after them those of its types
 abbrev pub numbered : Schema → List (List ℕ)
 numbered s = map (λ e. e.name) s.entities ++ map (λ t. t.name) s.types
 
 -- the reference, with the name of the entity or the SELECT that is wanted in place of its number
+-- The entities of a schema are numbered first, then its types, each in the order of the text.
 abbrev pub plain_reference : Schema → Kept → Reference
 plain_reference s r = record { name = r.name; wanted = get_or (numbered s) r.wanted [] }
 
@@ -39,6 +40,8 @@ abbrev pub HasSomewhere : Schema → Instance → Reference → Type 0
 HasSomewhere s i r = (rec_ : ℕ) × (attr : ℕ) × (place : ℕ) × HasReference s i rec_ attr place r
 
 -- these are the references of the instance
+-- They stand for the references of the instance and for no others; their order, and how often one is there, mean
+-- nothing.
 abbrev pub AreReferencesOf : Schema → Instance → List Kept → Type 0
 AreReferencesOf s i rs = Stand s (HasSomewhere s i) rs
 
@@ -46,6 +49,6 @@ AreReferencesOf s i rs = Stand s (HasSomewhere s i) rs
 abbrev pub Somewhere : (ℕ → Reference → Type 0) → Reference → Type 0
 Somewhere Asked r = (place : ℕ) × Asked place r
 
--- what stands for these references came behind what was there
+-- what stands for these references came after what was there
 abbrev pub Adds : Schema → (Reference → Type 0) → List Kept → List Kept → Type 0
 Adds s These old new = (rs : List Kept) × (new ≡ old ++ rs) × Stand s These rs

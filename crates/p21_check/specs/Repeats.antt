@@ -38,7 +38,7 @@ abbrev pub names_among : Trees → List ℕ
 names_among nil = []
 names_among (cons t ts) = with_name (name_in t) (names_among ts)
 
--- one of the names stands there again behind itself
+-- one of the names stands there again after itself
 abbrev pub HasTwice : List ℕ → Type 0
 HasTwice [] = ⊥
 HasTwice (n ∷ ns) = IsIn ns n ⊎ HasTwice ns

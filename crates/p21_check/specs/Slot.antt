@@ -16,6 +16,7 @@ pub record DeclaresIn (s : Schema) (InSet : List ℕ → Type 0) (o : Origin) (d
   pub by : InSet d.entity
 
 -- The attribute is derived: an entity of the set declares it in DERIVE.
+-- Then no declaration counts.
 pub record IsDerived (s : Schema) (InSet : List ℕ → Type 0) (o : Origin) : Type 0 where
   pub declaration : Declaration
   pub declares : DeclaresIn s InSet o declaration

@@ -1,4 +1,4 @@
-//! What the declarations of an attribute ask of the references in a parameter.
+//! Which entity or SELECT a reference in a parameter must lead to, by the declarations of its attribute.
 
 ghost use Rattle.std.specs.Prelude.{◌≡◌, List};
 ghost use Rattle.p21_express.specs.WellFormed.{Origin};

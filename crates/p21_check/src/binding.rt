@@ -1,4 +1,4 @@
-//! Which declaration of an attribute binds an instance.
+//! Which declaration of a redeclared attribute counts for an instance.
 
 ghost use Rattle.std.specs.Prelude.{◌++◌, ◌∷◌, [], List};
 ghost use Rattle.p21_schema.specs.Declaration.{Declaration as Declared, AreResolvedIn, IsResolvedDeclaration};

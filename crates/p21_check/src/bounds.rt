@@ -1,4 +1,4 @@
-//! The bounds of an aggregate.
+//! How many elements a LIST, SET or BAG may have, and an ARRAY must have.
 
 ghost use Rattle.std.specs.Prelude.{◌↔◌, IsTrue};
 ghost use Rattle.p21_check.specs.Conforms.{IsWithin, IsSpan};

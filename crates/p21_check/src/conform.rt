@@ -1,4 +1,4 @@
-//! Whether a parameter conforms to a type.
+//! Whether a parameter fits the type of its attribute.
 
 ghost use Rattle.std.specs.Prelude.{◌≡◌, ◌↔◌, ℕ, List, Bool, true, IsTrue};
 ghost use Rattle.p21_tree.specs.Tree.{absent, enumeration};

@@ -1,4 +1,4 @@
-//! Whether an instance names another twice in one list, where no two elements may be equal.
+//! Whether a SET, or a list that is UNIQUE, names the same instance twice.
 
 ghost use Rattle.std.specs.Prelude.{◌≡◌, ◌↔◌, ◌<◌, ℕ, List, true, false, IsTrue, MatchOption, length};
 ghost use Rattle.p21_express.specs.WellFormed.{Origin};

@@ -1,4 +1,4 @@
-//! What is known of instances by the entities of a schema.
+//! Of which entity the instance of a name is.
 
 ghost use Rattle.std.specs.Prelude.{ℕ, Option, option_map};
 ghost use Rattle.p21_express.specs.Schema.{Schema};
@@ -21,6 +21,8 @@ pub enum Named<'m, 'a> {
 }
 
 /// Instances by their names, with their entities by a schema.
+///
+/// Its ghost `named` says which instance has a name, and `table` by which schema its entity is known.
 pub trait EntityOf<'a> {
     /// The schema of the entities.
     ghost table: { Self → Schema };
@@ -30,6 +32,7 @@ pub trait EntityOf<'a> {
 
     /// What is known of the instance of this name.
     fn entity_of(&self, name: u64) -> Named<'_, 'a>
+        // That there is none, that it is a simple one of this entity, or its records.
         ensures { IsKnownAs (table self.now) (named self.now name) result };
 }
 

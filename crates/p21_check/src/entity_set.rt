@@ -1,4 +1,4 @@
-//! The entities that an instance is of.
+//! The entities that a complex instance is of, as bits.
 
 ghost use Rattle.std.specs.Prelude.{◌≡◌, ◌↔◌, IsTrue};
 ghost use Rattle.p21_express.specs.WellFormed.{IsIn, IsAncestor};

@@ -1,4 +1,4 @@
-//! The header section against a schema.
+//! The header section: the types of its three entities, and the name of the schema.
 
 ghost use Rattle.std.specs.Prelude.{◌≡◌, ◌≢◌, ◌∷◌, [], length, ℕ, List, Some, None, MatchOption, MatchResult};
 ghost use Rattle.p21_text.specs.Items.{IsBody};

@@ -29,13 +29,17 @@ pub fn one_reference_fault()
 /// What has a fault has no reading: where an instance has one by itself, or one of its references is at fault, the answer that
 /// there is none is not right of it, whatever other faults it has and whichever comes first.
 pub fn fault_has_no_reading()
+    // An instance that has a fault by itself does not have the result that it has none.
     ensures local { (s : Schema) → (i : Instance) → PassesNoLocalFault s i }
+    // The same of an instance of which a reference is at fault.
     ensures references { (s : Schema) → (named : ℕ → Option Instance) → (i : Instance) → PassesNoReferenceFault s named i }
 {}
 
 /// The references of an instance decide: where each is answered, they have no fault (`answered`), and where one is not, they have
 /// one (`unanswered`).
 pub fn references_decide()
+    // Where each of what stands for the references of an instance is answered, they have no fault.
     ensures answered { (s : Schema) → (named : ℕ → Option Instance) → (i : Instance) → (rs : List Reference) → PassesAnswered s named i rs }
+    // Where one is not, they have one.
     ensures unanswered { (s : Schema) → (named : ℕ → Option Instance) → (i : Instance) → (rs : List Reference) → RefusesUnanswered s named i rs }
 {}

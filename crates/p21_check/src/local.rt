@@ -1,4 +1,4 @@
-//! The fault that an instance has by itself.
+//! The fault that an instance has without regard to other instances: entity, parameters, types.
 
 ghost use Rattle.std.specs.Prelude.{◌≡◌, ℕ, Some, None, MatchResult, IfOk};
 ghost use Rattle.p21_tree.specs.Views.{plain_instance, plain_record};
@@ -24,6 +24,12 @@ use p21_tree::{FaultKind, RawInstance, Record};
 /// LIST OF UNIQUE, by a declaration of the attribute that counts.
 ///
 /// This takes no memory but for the names of such a list that do not rise, where there are more than 16 elements and there is some.
+///
+/// Cost: O(1) for each parameter, element and character that is looked at, and the items of an enumeration. A
+/// redeclared attribute takes one look at each of its declarations, and where two are of entities neither of which is
+/// above the other, at each pair. A complex instance takes O(1) for each record and each supertype of its entity,
+/// where the schema has at most 16,384 entities (32 KB of stack). A list of n names that do not rise takes n log n
+/// and 8 n bytes for `distinct`; without that memory, n * n / 2 comparisons.
 pub fn check_local(schema: &Schema, instance: &RawInstance<'_>) -> Result<(), FaultKind>
     ensures { MatchResult result (λ _. IsLocalFault schema.now (plain_instance instance.now) None) (λ kind. IsLocalFault schema.now (plain_instance instance.now) (Some kind)) }
 {

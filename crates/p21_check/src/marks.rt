@@ -1,4 +1,4 @@
-//! Marks of entities in a table, by their places among the entities of the schema.
+//! A bit for each entity of the schema.
 
 ghost use Rattle.std.specs.Prelude.{◌≡◌, ◌∷◌, [], length};
 ghost use Rattle.p21_check.specs.Marks.{AreAdded};

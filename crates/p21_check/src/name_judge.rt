@@ -1,4 +1,4 @@
-//! Whether an instance name is answered as types ask.
+//! Whether an instance name leads to an instance of a type that is asked for.
 
 ghost use Rattle.std.specs.Prelude.{◌≡◌, ℕ, Option, None};
 ghost use Rattle.p21_express.specs.Schema.{Schema as Declared};

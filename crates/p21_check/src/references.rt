@@ -27,6 +27,8 @@ use p21_tree::{FaultKind, RawInstance, Record};
 use std::marker::PhantomData;
 
 /// Instances by their names.
+///
+/// Its ghost `named` says which instance has a name.
 pub trait TypeOf<'a> {
     /// The instance that has a name.
     ghost named: { Self → ℕ → Option Instance };
@@ -39,6 +41,8 @@ pub trait TypeOf<'a> {
 /// The first reference of an instance, by record, attribute and place in the parameter, that is at fault: it is
 /// `MissingReference` where no instance has the name, and `WrongReference` where the one that has it is of no entity that is
 /// wanted there. The instance has no fault by itself.
+///
+/// Cost: O(1) for each reference to an entity, O(w) for one to a SELECT.
 pub fn check_references<'m, 'a: 'm, M: TypeOf<'a>>(
     schema: &Schema,
     instance: &RawInstance<'a>,

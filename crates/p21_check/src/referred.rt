@@ -1,4 +1,4 @@
-//! The references of an instance, kept apart from it, so that they can be asked when it is let go.
+//! The references of an instance, kept when its tree is dropped, so that they can be checked later.
 
 ghost use Rattle.std.specs.Prelude.{◌≡◌, ◌++◌, ◌↔◌, ℕ, List, Option, Some, None, IsTrue, IfSome, OnOk, length};
 ghost use Rattle.p21_express.specs.WellFormed.{Origin};
@@ -48,6 +48,10 @@ pub type References = SmallVec<Reference, 3>;
 
 impl Reference {
     /// Whether the instance of the name, of which this is known, is of an entity that is wanted.
+    ///
+    /// It is never true where there is no instance of the name.
+    ///
+    /// Cost: O(1) for an entity, O(w) for a SELECT; of a complex instance so for each record.
     pub fn is_answered(self, schema: &Schema, named: Named<'_, '_>) -> bool
         requires of { IsReferenceOf schema.now self }
         requires known { (found : Option Instance) × IsKnownAs schema.now found named }
@@ -83,9 +87,12 @@ fn entity_count(schema: &Schema) -> usize
     schema.declared().entities.len()
 }
 
-/// Adds the references of a simple instance of this entity, which has no fault by itself, behind others. Each stands for one that the
+/// Adds the references of a simple instance of this entity, which has no fault by itself, after others. Each stands for one that the
 /// schema asks for, by a declaration that counts; their order, and how often one is there, mean nothing. Memory alone can fail,
 /// as does a reference for an entity or a SELECT whose number is 2^32 or more.
+///
+/// Cost: O(1) for each parameter, and for each element of a list that may hold references. A reference takes 16
+/// bytes.
 pub fn push_references(
     schema: &Schema,
     own: EntityId,
@@ -94,6 +101,7 @@ pub fn push_references(
 ) -> Result<(), AllocError>
     requires own { IsSimpleEntity schema.now (plain_instance instance.now) (Some own) }
     requires local { IsLocalFault schema.now (plain_instance instance.now) None }
+    // What is added stands for the references of the instance, and for no others.
     ensures { OnOk result ((rs : List Reference) × (into.new.items ≡ into.old.items ++ rs) × AreReferencesOf schema.now (plain_instance instance.now) rs) }
 {
     let records = instance.records.as_slice();

@@ -16,7 +16,7 @@ const FEW: usize = 16;
 /// Whether two elements are one instance name. Other elements are not compared.
 ///
 /// Names that rise are looked at once. Others are copied and sorted: n * log n steps for n names, in whatever order they stand. Where
-/// there is no memory for the copy, each is compared with those behind it: n * n / 2 steps.
+/// there is no memory for the copy, each is compared with those after it: n * n / 2 steps.
 pub(crate) fn repeats_name(alloc: Global, elements: &[Param<'_>]) -> bool
     ensures { IsTrue result ↔ HasTwice (names_of elements.now) }
 {
@@ -68,7 +68,7 @@ fn is_above(last: Option<u64>, name: u64) -> bool
     }
 }
 
-/// Whether one of the names stands again behind itself.
+/// Whether one of the names stands again after itself.
 fn repeats_among(elements: &[Param<'_>]) -> bool
     ensures { IsTrue result ↔ HasTwice (names_of elements.now) }
 {

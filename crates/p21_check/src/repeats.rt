@@ -1,4 +1,4 @@
-//! Whether a list in a parameter names an instance twice, where no two elements may be equal.
+//! Where in a parameter a SET, or a list that is UNIQUE, names the same instance twice.
 
 ghost use Rattle.std.specs.Prelude.{◌≡◌, ◌↔◌, true, false, IsTrue};
 ghost use Rattle.p21_express.specs.Schema.{Schema as Declared, Expr};

@@ -1,4 +1,4 @@
-//! Whether a parameter conforms to a type that is a word alone, a string or a binary.
+//! Whether a parameter fits INTEGER, REAL, NUMBER, BOOLEAN, LOGICAL, STRING or BINARY.
 
 ghost use Rattle.std.specs.Prelude.{◌≡◌, ◌↔◌, ℕ, IsTrue};
 ghost use Rattle.p21_tree.specs.Tree.{absent, derived, reference};

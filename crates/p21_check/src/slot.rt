@@ -1,4 +1,4 @@
-//! Whether a parameter may be given for an attribute.
+//! Whether a parameter may stand for an attribute: `$` for OPTIONAL, `*` for DERIVE, a value that fits.
 
 ghost use Rattle.std.specs.Prelude.{◌≡◌, ◌↔◌, List, IsTrue};
 ghost use Rattle.p21_express.specs.WellFormed.{IsAncestor};

@@ -1,4 +1,4 @@
-//! What a type asks of the references in a parameter.
+//! Which entity or SELECT a type asks for, where a parameter has a reference.
 
 ghost use Rattle.std.specs.Prelude.{◌≡◌, ◌↔◌, true, List, ℕ, Some, None, IsTrue, map};
 ghost use Rattle.p21_express.specs.Schema.{Schema, Expr, named};

@@ -1,4 +1,4 @@
-//! The width of a string or a binary.
+//! How long a STRING or BINARY may be, or must be.
 
 ghost use Rattle.std.specs.Prelude.{◌↔◌, IsTrue};
 ghost use Rattle.p21_text.specs.Items.{IsBody};

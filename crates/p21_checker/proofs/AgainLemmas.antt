@@ -20,8 +20,9 @@ use Rattle.p21_outline.specs.Faultiness.{IsFaultiness}
 use Rattle.p21_refs.specs.AllReferenceFaults.{AreReferenceFaults}
 use Rattle.p21_refs.specs.AllReferenceFaults as reference
 use Rattle.p21_check.specs.LocalFault.{IsLocalFault}
-use Rattle.p21_reader.specs.Values.{Value, Whole, whole, instances_in, HaveInstances, IsJudged}
+use Rattle.p21_reader.specs.Values.{Value, Whole, whole, instances_in, HaveInstances}
 use Rattle.p21_checker.specs.Again.{AreTexts, IsFaultOf, IsTextOf}
+use Rattle.p21_checker.specs.Checked.{IsOfText}
 
 -- a text has one instance
 pub one_instance : ((text : List ℕ) (at : ℕ) → HasOneListAtMost text at) → HasOneTree → (p : cut.Piece) (i j : Instance) → IsTextOf p i → IsTextOf p j → i ≡ j
@@ -101,19 +102,19 @@ none_told is_true s all faulty slice told value same off e h = none_faulty s all
 
 -- The instances of the pieces of a file, as they were checked.
 
-text_of : (s : Schema) (p : Piece) (v : Value) (w : Whole) → IsJudged s p v → v ≡ whole w → IsTextOf (plain_piece p) w.instance
-text_of s p v w judged is = (subst (IsJudged s p) is judged).0
+text_of : (p : Piece) (v : Value) (w : Whole) → IsOfText p v → v ≡ whole w → IsTextOf (plain_piece p) w.instance
+text_of p v w told is = subst (IsOfText p) is told
 
-texts_from : (s : Schema) (ps : List Piece) (vs : List Value) (ws : List Whole) → AllZip (IsJudged s) ps vs → vs ≡ map whole ws → AllZip IsTextOf (map plain_piece ps) (instances_in ws)
-texts_from s [] [] [] judged are = tt
-texts_from s [] [] (w ∷ ws) judged are = cc
-texts_from s [] (v ∷ vs) ws judged are = absurd judged
-texts_from s (p ∷ ps) [] ws judged are = absurd judged
-texts_from s (p ∷ ps) (v ∷ vs) [] judged are = cc
-texts_from s (p ∷ ps) (v ∷ vs) (w ∷ ws) judged are =
+texts_from : (ps : List Piece) (vs : List Value) (ws : List Whole) → AllZip IsOfText ps vs → vs ≡ map whole ws → AllZip IsTextOf (map plain_piece ps) (instances_in ws)
+texts_from [] [] [] told are = tt
+texts_from [] [] (w ∷ ws) told are = cc
+texts_from [] (v ∷ vs) ws told are = absurd told
+texts_from (p ∷ ps) [] ws told are = absurd told
+texts_from (p ∷ ps) (v ∷ vs) [] told are = cc
+texts_from (p ∷ ps) (v ∷ vs) (w ∷ ws) told are =
     let first : v ≡ whole w = cc in
     let rest : vs ≡ map whole ws = cc in
-    (text_of s p v w judged.0 first, texts_from s ps vs ws judged.1 rest)
+    (text_of p v w told.0 first, texts_from ps vs ws told.1 rest)
 
-pub texts_of : (s : Schema) (file : List ℕ) (at end : ℕ) (ps : List Piece) (vs : List Value) (is : List Instance) → AllZip (IsJudged s) ps vs → HaveInstances vs is → PiecesAre file at 0 (map plain_piece ps) end → AreTexts file at 0 is
-texts_of s file at end ps vs is judged have cut = record { pieces = map plain_piece ps; tail = end; are = cut; texts = rw have.instances (texts_from s ps vs have.wholes judged have.are) }
+pub texts_of : (file : List ℕ) (at end : ℕ) (ps : List Piece) (vs : List Value) (is : List Instance) → AllZip IsOfText ps vs → HaveInstances vs is → PiecesAre file at 0 (map plain_piece ps) end → AreTexts file at 0 is
+texts_of file at end ps vs is told have cut = record { pieces = map plain_piece ps; tail = end; are = cut; texts = rw have.instances (texts_from ps vs have.wholes told have.are) }

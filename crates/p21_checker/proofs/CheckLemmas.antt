@@ -1,12 +1,13 @@
 -- What a check of a file tells.
 use Rattle.std.proofs.Common.{◌≡◌, ◌≢◌, ◌∷◌, [], get_or, ℕ, List, Result, Ok, Err, IfOk, refl, sym, ap, ◌∙◌}
+use Rattle.std.proofs.lemmas.List.Elements.{All-nil}
 use Rattle.p21_express.specs.Schema.{Schema}
 use Rattle.p21_tree.specs.declared.faults.Fault.{Fault}
 use Rattle.p21_tree.specs.Sentence.{Instance}
 use Rattle.p21_reader.specs.AllFaults.{IsReadingWithAll}
 use Rattle.p21_reader.specs.AllFaults as faults
 use Rattle.p21_reader.specs.AllLaws.{AllFaultsGiveReading, BeginWithAnswer}
-use Rattle.p21_checker.specs.Lists.{PiecesAreDealt}
+use Rattle.p21_checker.specs.Lists.{FitsWindow, PiecesAreDealt}
 use Rattle.p21_checker.specs.Lists as dealing
 use Rattle.p21_reader.specs.LocalFault.{IsOpeningFault}
 use Rattle.p21_reader.specs.PiecesOf as pieces
@@ -28,15 +29,15 @@ use Rattle.p21_checker.specs.declared.check.FaultCheck.{FaultCheck}
 
 -- What stopped before the instances is the one fault of the file.
 
-pub stopped_pieces : (s : Schema) (file : List ℕ) (lanes : ℕ) (e : Stop) (r : Result FaultCheck CheckError) → OnFault e (IsOpeningFault s file) → IfOk r (IsStopped e) → IfOk r (λ all. PiecesAreDealt s file lanes all.dealt.items all.receipts.items)
-stopped_pieces s file lanes e (Err x) fault stopped = tt
-stopped_pieces s file lanes (stop.Fault f) (Ok r) fault stopped = record { lists = []; of_file = pieces.none fault; as_dealt = dealing.none fault stopped.2 stopped.1 }
-stopped_pieces s file lanes stop.Memory (Ok r) fault stopped = absurd stopped
+pub stopped_pieces : (s : Schema) (file : List ℕ) (lanes capacity : ℕ) (e : Stop) (r : Result FaultCheck CheckError) → OnFault e (IsOpeningFault s file) → IfOk r (IsStopped e) → IfOk r (λ all. PiecesAreDealt s file lanes capacity all.dealt.items all.receipts.items)
+stopped_pieces s file lanes capacity e (Err x) fault stopped = tt
+stopped_pieces s file lanes capacity (stop.Fault f) (Ok r) fault stopped = record { lists = []; of_file = pieces.none fault; window = All-nil (FitsWindow capacity); as_dealt = dealing.none fault stopped.2 stopped.1 }
+stopped_pieces s file lanes capacity stop.Memory (Ok r) fault stopped = absurd stopped
 
-pub stopped_returned : (s : Schema) (file : List ℕ) (lanes : ℕ) (e : Stop) (r : Result FaultCheck CheckError) → OnFault e (IsOpeningFault s file) → IfOk r (IsStopped e) → IfOk r (AllReturned s file lanes)
-stopped_returned s file lanes e (Err x) fault stopped = tt
-stopped_returned s file lanes (stop.Fault f) (Ok r) fault stopped = answers.nothing fault stopped.3
-stopped_returned s file lanes stop.Memory (Ok r) fault stopped = absurd stopped
+pub stopped_returned : (states : PieceList → CheckedList → Type 0) (s : Schema) (file : List ℕ) (lanes : ℕ) (e : Stop) (r : Result FaultCheck CheckError) → OnFault e (IsOpeningFault s file) → IfOk r (IsStopped e) → IfOk r (AllReturned states s file lanes)
+stopped_returned states s file lanes e (Err x) fault stopped = tt
+stopped_returned states s file lanes (stop.Fault f) (Ok r) fault stopped = answers.nothing fault stopped.3
+stopped_returned states s file lanes stop.Memory (Ok r) fault stopped = absurd stopped
 
 pub stopped_answer : (s : Schema) (file : List ℕ) (e : Stop) (r : Result FaultCheck CheckError) → OnFault e (IsOpeningFault s file) → IfOk r (IsStopped e) → IfOk r (TellsReadingWithAll s file)
 stopped_answer s file e (Err x) fault stopped = tt
@@ -56,10 +57,10 @@ first_told _ _ (Err (g ∷ gs)) (first {f} {rest} e) told = head (sym e ∙ told
   head : f ∷ rest ≡ g ∷ gs → f ≡ g
   head h = cc
 
-pub first_returned : {A : Type 0} (s : Schema) (file : List ℕ) (lanes : ℕ) (all : Result Counts (Vec Fault A)) (one : Result Counts Fault) (dealt : List ℕ) (receipts : List (Receipt PieceList)) (returned : List (Receipt (Returned CheckedList))) → IsFirstOf all one
-    → HaveReturned (AnswersTo (TellsAll all) s file) s file lanes dealt receipts returned → HaveReturned (AnswersTo (TellsFirst one) s file) s file lanes dealt receipts returned
-first_returned s file lanes all one dealt receipts returned firsts (answers.nothing fault none) = answers.nothing fault none
-first_returned s file lanes all one dealt receipts returned firsts (answers.results lists outs begins header cut run answer) =
+pub first_returned : {A : Type 0} (states : PieceList → CheckedList → Type 0) (s : Schema) (file : List ℕ) (lanes : ℕ) (all : Result Counts (Vec Fault A)) (one : Result Counts Fault) (dealt : List ℕ) (receipts : List (Receipt PieceList)) (returned : List (Receipt (Returned CheckedList))) → IsFirstOf all one
+    → HaveReturned states (AnswersTo (TellsAll all) s file) s file lanes dealt receipts returned → HaveReturned states (AnswersTo (TellsFirst one) s file) s file lanes dealt receipts returned
+first_returned states s file lanes all one dealt receipts returned firsts (answers.nothing fault none) = answers.nothing fault none
+first_returned states s file lanes all one dealt receipts returned firsts (answers.results lists outs begins header cut run answer) =
     answers.results lists outs begins header cut run (record { full = answer.full; is_answer = answer.is_answer; told = first_told all one answer.full firsts answer.told })
 
 reading_told : (s : Schema) (file : List ℕ) (one : Result Counts Fault) (full : Result (List Instance) (List Fault)) → AllFaultsGiveReading s file → IsReadingWithAll s file full → TellsFirst one full → (answer : Result (List Instance) Fault) × IsReading s file answer × Tells one answer

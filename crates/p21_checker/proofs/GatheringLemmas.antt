@@ -99,7 +99,7 @@ instances_more ws w = map-append (λ (x : Whole). x.instance) ws (w ∷ [])
 wholes_more : (vs : List Value) (ws : List Whole) (w : Whole) → vs ≡ map whole ws → vs ++ whole w ∷ [] ≡ map whole (ws ++ w ∷ [])
 wholes_more vs ws w are = ap (λ l. l ++ whole w ∷ []) are ∙ sym (map-append whole ws (w ∷ []))
 
--- an instance without a fault, behind others without
+-- an instance without a fault, after others without
 sound_more : (vs : List Value) (is more : List Instance) (w : Whole) → HaveInstances vs is → IsCarriedFault is w None → more ≡ is ++ w.instance ∷ [] → HaveInstances (vs ++ whole w ∷ []) more
 sound_more vs is more w h own add = record {
   wholes = h.wholes ++ w ∷ [];
@@ -181,7 +181,7 @@ grammar_more vs f is any names after found more ended e h more_is =
       found_are = more_is;
     }
 
--- behind a grammar fault nothing is looked at
+-- after a grammar fault nothing is looked at
 ended_more : (vs more : List Value) (is : List Instance) (names : InstanceNames) (found : List Fault) (ended : Bool) → ended ≡ true → GathersFaults vs is names found ended → GathersFaults (vs ++ more) is names found ended
 ended_more vs more is names [] false e h = absurd (cc)
 ended_more vs more is names (f ∷ found) false e h = absurd (cc)
@@ -253,7 +253,7 @@ module _ {X : Type 0} (P : X → Type 0) where
 
 -- Instances joined.
 
--- those of a list that have names of their own, behind others without a fault
+-- those of a list that have names of their own, after others without a fault
 sound_list : (vs : List Value) (is js : List RawInstance) → HaveInstances vs (plain_instances is) → HaveOwnNames (is ++ js) → HaveInstances (vs ++ map sound_value js) (plain_instances (is ++ js))
 sound_list vs is [] h own = subst (λ l. HaveInstances l (plain_instances (is ++ []))) (sym (append-nil vs)) (subst (λ l. HaveInstances vs (plain_instances l)) (sym (append-nil is)) h)
 sound_list vs is (j ∷ js) h own =
@@ -303,7 +303,7 @@ gathered_faulty g vs ls going some h = record {
 pub noted_gathered : (g : Gathering) (vs : List Value) (ls : List OutlineList) → g.ended ≡ false → g.faults.items ≢ [] → HaveFaults vs g.names g.faults.items → HasGathered g vs ls × (g.faults.items ≢ [])
 noted_gathered g vs ls going some h = (gathered_faulty g vs ls going some h, some)
 
--- behind a fault no outline is kept
+-- after a fault no outline is kept
 pub gathered_with : (g : Gathering) (vs : List Value) (ls more : List OutlineList) → g.faults.items ≢ [] → HasGathered g vs ls → HasGathered g vs more
 gathered_with g vs ls more some h = record { faults = h.faults; fits = fits_faulty g.faults.items g more some }
 
@@ -315,7 +315,7 @@ gathered_again g vs ls i going h again items =
     let some : g.faults.items ≢ [] = λ e. cc in
     gathered_faulty g (vs ++ sound_value i ∷ []) ls going some (subst (HaveFaults (vs ++ sound_value i ∷ []) g.names) (sym items) noted)
 
--- the instance at a place of a list, and those behind it
+-- the instance at a place of a list, and those after it
 pub record Parted (is : List RawInstance) (place : ℕ) : Type 0 where
   pub here : RawInstance
   pub later : List RawInstance
@@ -374,7 +374,7 @@ gathered_grammar g h vs ls f going ended more prior =
       some,
     )
 
--- behind a grammar fault nothing is looked at
+-- after a grammar fault nothing is looked at
 pub gathered_ended : (g : Gathering) (vs more : List Value) (ls others : List OutlineList) → g.ended ≡ true → HasGathered g vs ls → HasGathered g (vs ++ more) others × (g.faults.items ≢ [])
 gathered_ended g vs more ls others ended prior =
     let is = plain_instances (outlined_instances g.outline) in
@@ -385,7 +385,7 @@ gathered_ended g vs more ls others ended prior =
 
 -- Lists gathered.
 
--- a list of pieces behind others
+-- a list of pieces after others
 pub gathered_list : (g : Gathering) (outs : List CheckedList) (out : CheckedList) → HasGathered g (values_of outs ++ values_in out) (outlines_of outs ++ out.sound ∷ []) → IsGathered g (outs ++ out ∷ [])
 gathered_list g outs out h =
     let values : values_of (outs ++ out ∷ []) ≡ values_of outs ++ values_in out = flat_map-append values_in outs (out ∷ []) ∙ ap (λ l. values_of outs ++ l) (append-nil (values_in out)) in

@@ -58,7 +58,7 @@ names_are names is same = record {
 pub is_among : (names : InstanceNames) (is : List RawInstance) (i : RawInstance) → ((n : ℕ) → IsAmong names n ↔ Contains (map (λ (x : RawInstance). x.name) is) n) → IsNamedIn is i → IsAmong names i.name
 is_among names is i same h = subst (IsAmong names) h.2 ((same h.0.name).1 (contains_there (λ (x : RawInstance). x.name) is h.0 h.1))
 
--- among instances with names of their own none has that of one behind it
+-- among instances with names of their own none has that of one after it
 pub is_new_behind : (is : List RawInstance) (j : RawInstance) (js : List RawInstance) → HaveOwnNames (is ++ j ∷ js) → IsNewIn is j
 is_new_behind is j js own =
     λ k d less e.
@@ -74,7 +74,7 @@ is_not_repeated is i h r =
     h k i less (ap (λ x. x.name) same ∙ r.2)
 
 module _ (P Q : ℕ → Type 0) (is : List Instance) (i : Instance) (h : AreNames P is) where
-  -- the names behind one more instance, whose name is new or there
+  -- the names after one more instance, whose name is new or there
   names_more : ((n : ℕ) → Q n ↔ (P n ⊎ (n ≡ i.name))) → AreNames Q (is ++ i ∷ [])
   names_more more = record {
     each = λ x k. elim (Contains-append_cases is (i ∷ []) x k) [

@@ -24,13 +24,13 @@ use Rattle.p21_checker.specs.declared.checked_list.CheckedList.{CheckedList}
 use Rattle.p21_checker.specs.declared.lists.PieceList.{PieceList}
 use Rattle.p21_checker.specs.Lists.{pieces_in}
 
--- What the lanes of a check returned, and what an answer to it is. Where a fault stands before the instances nothing was returned. Else
--- there is a result of each list of pieces, which may be said of it; each lane received its share of the lists and returned its share of these
--- results; and the answer is one to these.
-pub data HaveReturned (IsAnswer : ℕ → List CheckedList → Type 0) (s : Schema) (file : List ℕ) (lanes : ℕ) (dealt : List ℕ) (receipts : List (Receipt PieceList)) (returned : List (Receipt (Returned CheckedList))) : Type 0 where
-  nothing : {f : Fault} → IsOpeningFault s file f → returned ≡ [] → HaveReturned IsAnswer s file lanes dealt receipts returned
+-- What the lanes of a check returned, by what may be stated of a list of pieces, and what an answer to it is. Where a fault stands before the
+-- instances nothing was returned. Else there is a result of each list, which may be stated of it; each lane received its share of the lists
+-- and returned its share of these results; and the answer is one to these.
+pub data HaveReturned (states : PieceList → CheckedList → Type 0) (IsAnswer : ℕ → List CheckedList → Type 0) (s : Schema) (file : List ℕ) (lanes : ℕ) (dealt : List ℕ) (receipts : List (Receipt PieceList)) (returned : List (Receipt (Returned CheckedList))) : Type 0 where
+  nothing : {f : Fault} → IsOpeningFault s file f → returned ≡ [] → HaveReturned states IsAnswer s file lanes dealt receipts returned
   results : {o : Opening} {tail : ℕ} (lists : List PieceList) (outs : List CheckedList) → BeginsPreface file o → IsHeaderFault s o None → PiecesAre file o.data_at 0 (map plain_piece (pieces_in lists)) tail
-      → IsRun (IsStated s) lanes lists outs dealt receipts returned → IsAnswer tail outs → HaveReturned IsAnswer s file lanes dealt receipts returned
+      → IsRun states lanes lists outs dealt receipts returned → IsAnswer tail outs → HaveReturned states IsAnswer s file lanes dealt receipts returned
 
 -- an answer with all faults to what was returned, of which this is told
 pub record AnswersTo (Told : Result (List Instance) (List Fault) → Type 0) (s : Schema) (file : List ℕ) (tail : ℕ) (outs : List CheckedList) : Type 0 where
@@ -38,12 +38,15 @@ pub record AnswersTo (Told : Result (List Instance) (List Fault) → Type 0) (s 
   pub is_answer : IsAllAnswerTo s file tail (values_of outs) full
   pub told : Told full
 
--- The answer of a check tells that to the results that its lanes returned.
-abbrev pub AllReturned : Schema → List ℕ → ℕ → FaultCheck → Type 0
-AllReturned s file lanes c = HaveReturned (AnswersTo (TellsAll c.answer) s file) s file lanes c.dealt.items c.receipts.items c.returned.items
+-- The answer of a check tells that to the results that its lanes returned, which may be stated of the lists.
+abbrev pub AllReturned : (PieceList → CheckedList → Type 0) → Schema → List ℕ → ℕ → FaultCheck → Type 0
+AllReturned states s file lanes c = HaveReturned states (AnswersTo (TellsAll c.answer) s file) s file lanes c.dealt.items c.receipts.items c.returned.items
 
+-- If there is a fault before the instances, nothing was returned. Otherwise there is a result of each list of pieces,
+-- which may be stated of it; each lane received its share of the lists and returned its share of these results; and
+-- of an answer with all faults to them the counts, or the first fault, are told.
 abbrev pub FirstReturned : Schema → List ℕ → ℕ → FileCheck → Type 0
-FirstReturned s file lanes c = HaveReturned (AnswersTo (TellsFirst c.answer) s file) s file lanes c.dealt.items c.receipts.items c.returned.items
+FirstReturned s file lanes c = HaveReturned (IsStated s) (AnswersTo (TellsFirst c.answer) s file) s file lanes c.dealt.items c.receipts.items c.returned.items
 
 -- The file has a reading, of which the answer tells the counts or the fault.
 pub record TellsReading (s : Schema) (file : List ℕ) (c : FileCheck) : Type 0 where

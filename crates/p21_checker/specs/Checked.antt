@@ -4,6 +4,7 @@ use Rattle.std.specs.List.{AllZip, flat_map}
 use Rattle.p21_express.specs.Schema.{Schema}
 use Rattle.p21_tree.specs.declared.instances.RawInstance.{RawInstance}
 use Rattle.p21_tree.specs.declared.pieces.Piece.{Piece}
+use Rattle.p21_tree.specs.Texts.{IsPieceText}
 use Rattle.p21_tree.specs.Views.{plain_instance}
 use Rattle.p21_outline.specs.declared.outline_list.OutlineList.{OutlineList}
 use Rattle.p21_outline.specs.OutlineList.{AreListed, listed_instances}
@@ -41,15 +42,35 @@ pub record AreStated (s : Schema) (ps : List Piece) (c : CheckedList) : Type 0 w
   pub kept : AreListed s c.sound
 
 -- the same of the pieces of a list
+-- Each piece is its grammar fault; or an instance, with the fault that it has by itself, if any. Those before the
+-- first that has a fault are outlined by the schema.
 abbrev pub IsStated : Schema → PieceList → CheckedList → Type 0
 IsStated s l c = AreStated s (pieces_of l) c
+
+-- where the piece is said to be an instance, that is the one whose text it is
+abbrev pub IsOfText : Piece → Value → Type 0
+IsOfText p (grammar f) = Unit {0}
+IsOfText p (whole w) = IsPieceText p w.instance
+
+-- The instances that are meant are those whose texts the pieces of the list are, and what is outlined of the first of them is so by the schema.
+pub record IsOfTexts (s : Schema) (l : PieceList) (c : CheckedList) : Type 0 where
+  pub texts : AllZip IsOfText (pieces_of l) (values_in c)
+  pub kept : AreListed s c.sound
+
+-- what is stated of lists is of their texts, whatever else it is
+abbrev pub StatesTexts : (PieceList → CheckedList → Type 0) → Schema → Type 0
+StatesTexts states s = (l : PieceList) (c : CheckedList) → states l c → IsOfTexts s l c
+
+-- what is stated of lists is what their pieces are by themselves, and nothing else
+abbrev pub StatesLocally : (PieceList → CheckedList → Type 0) → Schema → Type 0
+StatesLocally states s = (l : PieceList) (c : CheckedList) → states l c → IsStated s l c
 
 -- nothing is said yet
 pub record IsEmpty (c : CheckedList) : Type 0 where
   pub values : values_in c ≡ []
   pub kept : (s : Schema) → AreListed s c.sound
 
--- a value comes behind the others, and the outlines are still those of their instances
+-- a value comes after the others, and the outlines are still those of their instances
 pub record Adds (s : Schema) (old : CheckedList) (v : Value) (new : CheckedList) : Type 0 where
   pub values : values_in new ≡ values_in old ++ v ∷ []
   pub kept : AreListed s old.sound → AreListed s new.sound

@@ -1,5 +1,5 @@
 -- Lists of pieces, and how they are dealt.
-use Rattle.std.specs.Prelude.{◌≡◌, ◌++◌, ◌∷◌, ℕ, All, List, [], length, map, replicate, None}
+use Rattle.std.specs.Prelude.{◌≡◌, ◌≤◌, ◌*◌, ◌++◌, ◌∷◌, ℕ, All, List, [], length, map, min, replicate, None}
 use Rattle.std.specs.List.{flat_map}
 use Rattle.p21_express.specs.Schema.{Schema}
 use Rattle.p21_tree.specs.declared.faults.Fault.{Fault}
@@ -26,9 +26,21 @@ pieces_of l = l.first ∷ l.others.items
 abbrev pub pieces_in : List PieceList → List Piece
 pieces_in ls = flat_map pieces_of ls
 
--- These lists are given from now on, and then the tail, which begins at a place of the file.
+-- the list has so many pieces at most after its first
+abbrev pub HasAtMost : ℕ → PieceList → Type 0
+HasAtMost most l = length l.others.items ≤ most
+
+-- These lists are given from now on, none longer than it may be, and then the tail, which begins at a place of the file.
 abbrev pub ListsAreGiven : PieceLists → List PieceList → ℕ → Type 0
-ListsAreGiven l ls tail = AreGiven l.pieces (pieces_in ls) tail
+ListsAreGiven l ls tail = AreGiven l.pieces (pieces_in ls) tail × All (HasAtMost l.most_others) ls
+
+-- how many lists may be out on a lane of this capacity
+abbrev pub lists_out : ℕ → ℕ
+lists_out capacity = min capacity 4
+
+-- As many such lists as may be out on a lane of this capacity have together no more pieces than the capacity.
+abbrev pub FitsWindow : ℕ → PieceList → Type 0
+FitsWindow capacity l = lists_out capacity * length (pieces_of l) ≤ capacity
 
 -- the lane of each piece, where lists were dealt to these lanes, each whole
 abbrev pub lanes_of : List ℕ → List PieceList → List ℕ
@@ -52,8 +64,9 @@ pub data AreDealtIn (s : Schema) (file : List ℕ) (lanes : ℕ) (dealt : List �
   none : {f : Fault} → IsOpeningFault s file f → dealt ≡ [] → receipts ≡ [] → AreDealtIn s file lanes dealt receipts []
   all : {o : Opening} {lists : List PieceList} → BeginsPreface file o → IsHeaderFault s o None → AreDealt lanes lists dealt receipts → AreDealtIn s file lanes dealt receipts lists
 
--- The pieces of the file against the schema were dealt.
-pub record PiecesAreDealt (s : Schema) (file : List ℕ) (lanes : ℕ) (dealt : List ℕ) (receipts : List (Receipt PieceList)) : Type 0 where
+-- The pieces of the file against the schema were dealt, in lists that fit the window of a lane of this capacity.
+pub record PiecesAreDealt (s : Schema) (file : List ℕ) (lanes capacity : ℕ) (dealt : List ℕ) (receipts : List (Receipt PieceList)) : Type 0 where
   pub lists : List PieceList
   pub of_file : ArePiecesOf s file (map plain_piece (pieces_in lists))
+  pub window : All (FitsWindow capacity) lists
   pub as_dealt : AreDealtIn s file lanes dealt receipts lists

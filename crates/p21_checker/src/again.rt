@@ -1,4 +1,4 @@
-//! The reference faults of instances whose trees were let go: those at fault are read again.
+//! Reference faults, told in full: the instances that have them are read again.
 
 ghost use Rattle.std.specs.Prelude.{◌≡◌, ◌≤◌, length, None, IfOk};
 ghost use Rattle.p21_cut.specs.Cutter.{plain_piece};

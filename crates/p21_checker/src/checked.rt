@@ -1,4 +1,4 @@
-//! What a worker says of a piece.
+//! What a worker finds in a piece: an instance as it stands, its outline, or a fault.
 
 ghost use Rattle.std.specs.Prelude.{◌≡◌};
 
@@ -14,7 +14,7 @@ pub enum Checked<'a> {
     Whole(CheckedInstance<'a>),
 }
 
-/// What is kept of an instance that has a fault by itself, or stands behind a piece that has one.
+/// What is kept of an instance that has a fault by itself, or stands after a piece that has one.
 #[derive(Drop)]
 pub struct CheckedInstance<'a> {
     /// Its name.

@@ -1,4 +1,4 @@
-//! What a worker says of a list of pieces.
+//! What a worker finds in a list of pieces.
 
 ghost use Rattle.p21_checker.specs.Begin.{BeginWithFault, BeginWithFault-prop};
 
@@ -14,7 +14,7 @@ use std::alloc::{AllocError, Global};
 pub struct CheckedList<'a> {
     /// The instances before the first piece that has a fault by itself.
     pub(crate) sound: OutlineList<'a>,
-    /// That piece and those behind it.
+    /// That piece and those after it.
     pub(crate) rest: Vec<Checked<'a>>,
     ghost first: { BeginWithFault rest.items } by { BeginWithFault-prop rest.items },
 }
@@ -28,7 +28,7 @@ impl<'a> CheckedList<'a> {
     ghost use Rattle.p21_checker.specs.Begin.{HasFault};
     ghost use Rattle.p21_checker.specs.Checked.{Adds, IsEmpty, value_of};
 
-    /// No piece yet, with room for so many. It is refused for want of memory alone.
+    /// No piece yet, with room for so many. It is refused for lack of memory alone.
     pub(crate) fn with_capacity(alloc: Global, count: usize) -> Result<CheckedList<'a>, AllocError>
         ensures { IfOk result IsEmpty }
     {
@@ -38,7 +38,7 @@ impl<'a> CheckedList<'a> {
         })
     }
 
-    /// Puts an instance behind the others, with the fault that it has by itself. It is refused for want of memory alone.
+    /// Puts an instance after the others, with the fault that it has by itself. It is refused for lack of memory alone.
     #[inline(always)]
     pub(crate) fn push_instance(
         &mut self,
@@ -54,7 +54,7 @@ impl<'a> CheckedList<'a> {
         }
     }
 
-    /// Puts a piece behind the others, which has a fault by itself or stands behind one that has. It is refused for want of memory alone.
+    /// Puts a piece after the others, which has a fault by itself or stands after one that has. It is refused for lack of memory alone.
     pub(crate) fn push(&mut self, one: Checked<'a>) -> Result<(), AllocError>
         requires { (self.old.rest.items ≢ []) ⊎ HasFault one }
         ensures { OnOk result ((s : _) → Adds s self.old (value_of one.entry) self.new) }

@@ -1,12 +1,12 @@
-//! Checking pieces as the work of a crew.
+//! What a worker does with a list of pieces.
 
-ghost use Rattle.std.specs.Prelude.{◌++◌, ◌∷◌, List, [], IfOk, OnOk};
+ghost use Rattle.std.specs.Prelude.{◌++◌, ◌∷◌, All, List, [], IfOk, OnOk};
 ghost use Rattle.p21_tree.specs.declared.pieces.Piece.{Piece};
 ghost use Rattle.p21_crew.specs.Run.{IsRun};
 ghost use Rattle.p21_reader.specs.Pieces.{AreGiven};
-ghost use Rattle.p21_checker.specs.Checked.{AreStated, IsStated};
+ghost use Rattle.p21_checker.specs.Checked.{AreStated};
 ghost use Rattle.p21_checker.specs.Gathering.{IsGathered};
-ghost use Rattle.p21_checker.specs.Lists.{pieces_in};
+ghost use Rattle.p21_checker.specs.Lists.{FitsWindow, pieces_in};
 ghost use Rattle.p21_checker.specs.declared.checked_list.CheckedList.{CheckedList};
 ghost use Rattle.p21_checker.specs.declared.lists.PieceList.{PieceList};
 
@@ -25,18 +25,63 @@ use std::alloc::{AllocError, Global};
 use std::sync::Wait;
 use std::thread::Threads;
 
-/// The work of checking lists of pieces by themselves against a schema.
-#[derive(Clone, Copy)]
-struct Checking<'s> {
-    schema: &'s Schema,
+/// Checks lists of pieces by themselves.
+///
+/// Its ghost `states` says what it may say of a list.
+pub(crate) trait ListJudge {
+    /// What may be said of a list of pieces.
+    ghost states: { Self → PieceList → CheckedList → Type 0 };
+
+    /// Checks the pieces of a list by themselves. The reader may have read any pieces before. An error is lack of memory.
+    fn check_list<'a>(
+        &self,
+        alloc: Global,
+        reader: &mut InstanceReader<'a>,
+        list: PieceList<'a>,
+    ) -> Result<CheckedList<'a>, AllocError>
+        // What the judge may say of the list.
+        ensures { IfOk result (λ checked. states self.now list.entry checked) };
 }
 
-impl<'a> Work<PieceList<'a>> for Checking<'_> {
+/// Says what the pieces of a list are by themselves against a schema.
+#[derive(Clone, Copy)]
+pub(crate) struct Locally<'s> {
+    pub(crate) schema: &'s Schema,
+}
+
+impl ListJudge for Locally<'_> {
+    ghost use Rattle.p21_checker.specs.Checked.{IsStated};
+
+    ghost states = { λ judge list checked. IsStated judge.schema.now list checked };
+
+    #[inline(always)]
+    fn check_list<'a>(
+        &self,
+        alloc: Global,
+        reader: &mut InstanceReader<'a>,
+        list: PieceList<'a>,
+    ) -> Result<CheckedList<'a>, AllocError> {
+        let mut checked = CheckedList::with_capacity(alloc, list.others.len().saturating_add(1))?;
+        check(self.schema, reader, list.first, &mut checked)?;
+        for piece in list.others.as_slice() {
+            check(self.schema, reader, *piece, &mut checked)?;
+        }
+        Ok(checked)
+    }
+}
+
+/// The work of checking lists of pieces by a judge.
+#[derive(Clone, Copy)]
+struct Checking<'r, J> {
+    judge: &'r J,
+}
+
+impl<'a, J: ListJudge> Work<PieceList<'a>> for Checking<'_, J> {
     type Out = CheckedList<'a>;
 
     type Kept = InstanceReader<'a>;
 
-    ghost stated = { λ work list checked. IsStated work.schema.now list checked };
+    ghost stated = { λ work list checked. J.states work.judge.now list checked };
 
     /// That of its first piece.
     fn number(&self, list: &PieceList<'a>) -> u64 {
@@ -53,16 +98,11 @@ impl<'a> Work<PieceList<'a>> for Checking<'_> {
         kept: &mut InstanceReader<'a>,
         list: PieceList<'a>,
     ) -> Result<CheckedList<'a>, AllocError> {
-        let mut checked = CheckedList::with_capacity(alloc, list.others.len().saturating_add(1))?;
-        check(self.schema, kept, list.first, &mut checked)?;
-        for piece in list.others.as_slice() {
-            check(self.schema, kept, *piece, &mut checked)?;
-        }
-        Ok(checked)
+        self.judge.check_list(alloc, kept, list)
     }
 }
 
-/// Puts what a piece is by itself behind what is said of others. It is refused for want of memory alone.
+/// Puts what a piece is by itself after what is said of others. It is refused for lack of memory alone.
 #[inline(always)]
 fn check<'a>(
     schema: &Schema,
@@ -79,11 +119,11 @@ fn check<'a>(
     }
 }
 
-/// The run of a crew that checks pieces against a schema, in lists of half the capacity. An error is want of memory, or of a thread.
-pub(crate) fn check_pieces<'a, G: Gate + Sync, R: Threads + Wait + Sync>(
+/// The run of a crew that checks pieces by a judge, in lists of a quarter of the capacity. An error is lack of memory, or of a thread.
+pub(crate) fn check_pieces<'a, J: ListJudge + Sync, G: Gate + Sync, R: Threads + Wait + Sync>(
     rt: &R,
     alloc: Global,
-    schema: &Schema,
+    judge: &J,
     gate: &G,
     pieces: Pieces<'a>,
     gathering: Gathering<'a>,
@@ -93,11 +133,12 @@ pub(crate) fn check_pieces<'a, G: Gate + Sync, R: Threads + Wait + Sync>(
     requires { IsGathered gathering [] }
     ensures { IfOk result (λ run. (ls : List PieceList) × (cs : List CheckedList)
         × AreGiven pieces.entry (pieces_in ls) run.tail
-        × IsRun (IsStated schema.now) lanes ls cs run.dealt.items run.receipts.items run.returned.items
+        × All (FitsWindow capacity) ls
+        × IsRun (J.states judge.now) lanes ls cs run.dealt.items run.receipts.items run.returned.items
         × IsGathered run.gatherer cs) }
 {
-    // The workers read it for each piece, while this thread writes what stands beside it.
-    let checking = CachePadded::new(Checking { schema });
+    // The workers read it for each list, while this thread writes what stands beside it.
+    let checking = CachePadded::new(Checking { judge });
     let lists = PieceLists::new(alloc, pieces, most_together(capacity));
     let out = lists_out(capacity);
     run_crew(rt, alloc, &*checking, gate, lists, gathering, lanes, out)

@@ -61,7 +61,7 @@ impl<'a> Gathering<'a> {
         }
     }
 
-    /// Puts outlines of instances behind those of others that have no fault, as none has by now. Where one of them has the name of
+    /// Puts outlines of instances after those of others that have no fault, as none has by now. Where one of them has the name of
     /// another before it, that is its fault.
     fn join(&mut self, list: OutlineList<'a>) -> Result<(), AllocError>
         requires going { self.old.ended ≡ false }
@@ -82,7 +82,7 @@ impl<'a> Gathering<'a> {
         }
     }
 
-    /// Notes the first fault, that the instance at this place has the name of one before it, and the names of those behind it. The names of
+    /// Notes the first fault, that the instance at this place has the name of one before it, and the names of those after it. The names of
     /// those before it are known.
     fn note_repeated(&mut self, names: &[PlacedName], place: usize) -> Result<(), AllocError>
         requires going { self.old.ended ≡ false }
@@ -98,7 +98,7 @@ impl<'a> Gathering<'a> {
         self.note_names(&rest[1..])
     }
 
-    /// Notes the names of instances that have no fault by themselves, behind a fault.
+    /// Notes the names of instances that have no fault by themselves, after a fault.
     fn note_names(&mut self, names: &[PlacedName]) -> Result<(), AllocError>
         requires going { self.old.ended ≡ false }
         requires faulty { self.old.faults.items ≢ [] }
@@ -134,7 +134,7 @@ impl<'a> Gathering<'a> {
         Ok(())
     }
 
-    /// Gathers a piece that has a fault by itself, or stands behind a fault. Behind one of the grammar it is let go.
+    /// Gathers a piece that has a fault by itself, or stands after a fault. Behind one of the grammar it is let go.
     fn gather_one(&mut self, one: Checked<'a>) -> Result<(), AllocError>
         ensures { OnOk result ((vs : List Value) (ls : List OutlineList) → (self.old.faults.items ≢ []) ⊎ HasFault one.entry → HasGathered self.old vs ls → HasGathered self.new (vs ++ value_of one.entry ∷ []) ls × (self.new.faults.items ≢ [])) }
     {
@@ -151,7 +151,7 @@ impl<'a> Gathering<'a> {
         }
     }
 
-    /// Gathers an instance that has a fault by itself, or stands behind a fault.
+    /// Gathers an instance that has a fault by itself, or stands after a fault.
     fn note_checked(&mut self, one: &CheckedInstance<'a>) -> Result<(), AllocError>
         requires { self.old.ended ≡ false }
         ensures { OnOk result ((vs : List Value) (ls : List OutlineList) → (self.old.faults.items ≢ []) ⊎ (one.now.own ≢ None) → HasGathered self.old vs ls → HasGathered self.new (vs ++ value_of (checked.Whole one.now) ∷ []) ls × (self.new.faults.items ≢ [])) }
@@ -159,7 +159,7 @@ impl<'a> Gathering<'a> {
         self.note(one.name, one.at, one.own)
     }
 
-    /// Notes the name of an instance, and the fault that it has behind the others: a repeated name before its own.
+    /// Notes the name of an instance, and the fault that it has after the others: a repeated name before its own.
     fn note(&mut self, name: u64, at: u64, own: Option<FaultKind>) -> Result<(), AllocError>
         requires going { self.old.ended ≡ false }
         ensures going { self.new.ended ≡ self.old.ended }
@@ -190,7 +190,7 @@ impl<'a> Gathering<'a> {
     }
 
     /// The outline of all instances, where neither pieces nor the tail, which begins at this place, have a fault; else all faults. An
-    /// error is want of memory.
+    /// error is lack of memory.
     pub(crate) fn conclude(
         self,
         file: &[u8],
@@ -233,7 +233,7 @@ impl<'a> Gathers<CheckedList<'a>> for Gathering<'a> {
     }
 }
 
-/// Adds the name of an instance behind others that have these names. The answer is the fault that it has behind them: a repeated
+/// Adds the name of an instance after others that have these names. The answer is the fault that it has after them: a repeated
 /// name before its own.
 fn add_name(
     names: &mut InstanceNames,
@@ -251,7 +251,7 @@ fn add_name(
     }
 }
 
-/// The faults of all pieces, and behind them that of the tail, where none of the grammar stands before it.
+/// The faults of all pieces, and after them that of the tail, where none of the grammar stands before it.
 fn with_tail(
     mut faults: Vec<Fault>,
     ended: bool,

@@ -36,6 +36,7 @@ abbrev pub StandsAt : {S : Type 0} → IndexMap (Bor (List ℕ)) ℕ S → List 
 StandsAt m w place = (e : Bor (List ℕ) × ℕ) × (slice_get m.entries place ≡ Some e) × (e.0.now ≡ w)
 
 -- what is counted of these instances
+-- How many are complex, how many instance names are written as parameters, and how many records have each keyword.
 pub record IsTallyOf (t : Tally) (is : List Instance) : Type 0 where
   pub complex : t.complex ≡ capped (complex_count is)
   pub references : t.references ≡ capped (reference_count is)

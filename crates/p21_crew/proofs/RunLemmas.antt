@@ -99,7 +99,7 @@ module _ {P O W K C A : Type 0} where
         cut = rw (empty, open_) (λ rest tail cut. cut);
       }
 
-  -- all lanes are landed behind a whole run
+  -- all lanes are landed after a whole run
   pub run_whole : (cuts : C → List P → ℕ → Type 0) (holds : A → List O → Type 0) (stated : W → P → O → Type 0) (first : C) (work : W) (size : ℕ) (d : Dealer P O W C A K) (done : List P) (outs : List O) (tail : ℕ) (rs : List (Receipt P)) (ss : List (Receipt (Returned O)))
       → Underway cuts holds first work size d done outs → IsWhole d tail → AreLanded stated d.flights.items rs ss → length d.flights.items ≡ d.desk.lanes
       → cuts first done tail × IsRun (stated work) size done outs d.desk.dealt rs ss

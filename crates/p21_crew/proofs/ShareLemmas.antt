@@ -40,7 +40,7 @@ module _ {X : Type 0} where
   share-empty [] lane = refl
   share-empty (l ∷ dealt) lane = refl
 
-  -- lanes of pieces behind the list change nothing
+  -- lanes of pieces after the list change nothing
   pub share-longer : (dealt more : List ℕ) (lane : ℕ) (xs : List X) → length xs ≤ length dealt → share (dealt ++ more) lane xs ≡ share dealt lane xs
   share-longer [] more lane [] within = share-empty more lane
   share-longer [] more lane (x ∷ xs) within = absurd (omega arith)

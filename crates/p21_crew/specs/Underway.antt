@@ -10,7 +10,7 @@ use Rattle.p21_crew.specs.declared.flight.Flight.{Flight}
 use Rattle.p21_crew.specs.declared.dealer.Dealer.{Dealer}
 
 module _ {C P : Type 0} where
-  -- where the tail was not found, what the cutter gives from now on stands behind the pieces that were cut; else these are all
+  -- where the tail was not found, what the cutter gives from now on stands after the pieces that were cut; else these are all
   abbrev pub IsCut : (C → List P → ℕ → Type 0) → C → C → List P → Option ℕ → Type 0
   IsCut cuts first now pieces None = (rest : List P) (tail : ℕ) → cuts now rest tail → cuts first (pieces ++ rest) tail
   IsCut cuts first now pieces (Some tail) = cuts first pieces tail

@@ -1,4 +1,4 @@
-//! Where the pieces come from.
+//! What gives the pieces, one after the other: the interface of a source of pieces.
 ghost use Rattle.std.specs.Prelude.{◌<◌, ℕ, List};
 ghost use Rattle.p21_crew.specs.Cuts.{CutsNext, LeavesLess};
 
@@ -12,6 +12,8 @@ pub enum Next<P> {
 }
 
 /// What cuts a text into pieces, one after the other.
+///
+/// Its ghost `cuts` says which pieces it gives from now on and where the tail begins, and `left` how much is left.
 pub trait Cuts {
     type Piece;
 
@@ -23,6 +25,8 @@ pub trait Cuts {
 
     /// The next piece, or the tail.
     fn next(&mut self) -> Next<Self::Piece>
+        // The first of the pieces that are left, or the tail.
         ensures next { CutsNext cuts self.old result self.new }
+        // With each piece less is left.
         ensures less { LeavesLess left self.old result self.new };
 }

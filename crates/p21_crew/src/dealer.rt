@@ -1,4 +1,4 @@
-//! The one who deals the pieces and gathers what is returned.
+//! The thread that deals pieces to the workers and gathers their results.
 ghost use Rattle.std.specs.Prelude.{◌≡◌, ◌+◌, ◌<◌, ◌≤◌, ◌++◌, false, replicate, vec_len, OnOk};
 ghost use Rattle.p21_lanes.specs.LaneIn.{accepted, was_ended, SameIn};
 ghost use Rattle.p21_desk.specs.Dealt.{waiting_at};
@@ -47,7 +47,7 @@ impl<P: Drop, O: Drop, W: Work<P, Out = O>, C: Cuts<Piece = P>, A: Gathers<O>> D
 
     /// Deals all pieces and gathers what is returned for them; the answer is where the tail begins. It rests where nothing can be dealt
     /// and no result is there. It deals to so many lanes at first, and to any before it would sleep: so a worker seldom takes the dealer's
-    /// processor, and a gate at which pieces of several lanes must meet opens. An error is want of memory, here or of a worker.
+    /// processor, and a gate at which pieces of several lanes must meet opens. An error is lack of memory, here or of a worker.
     pub(crate) fn run<R: Wait>(
         &mut self,
         rt: &R,
@@ -194,7 +194,7 @@ impl<P: Drop, O: Drop, W: Work<P, Out = O>, C: Cuts<Piece = P>, A: Gathers<O>> D
     }
 }
 
-/// Deals so many pieces to one lane. An error is want of memory.
+/// Deals so many pieces to one lane. An error is lack of memory.
 fn deal_pieces(desk: &mut Desk, lane: u32, count: usize) -> Result<(), AllocError>
     requires lane { lane < desk.old.lanes }
     requires window { waiting_at desk.old lane + count ≤ desk.old.capacity }

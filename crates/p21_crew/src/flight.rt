@@ -1,4 +1,4 @@
-//! A lane with a worker at work.
+//! A lane whose worker runs in a thread of its own.
 ghost use Rattle.std.specs.Prelude.{◌≡◌, [], false, true, IfOk, IsTrue};
 ghost use Rattle.p21_lanes.specs.Lane.{IsLane};
 ghost use Rattle.p21_lanes.specs.LaneIn.{accepted, was_ended};

@@ -1,4 +1,4 @@
-//! What a worker passes before each piece.
+//! What a worker passes before each piece: a place to stop or to watch it.
 
 /// What a worker passes before it reads a piece. The workers share it by reference.
 ///
@@ -6,10 +6,14 @@
 /// together, a quarter of the capacity.
 pub trait Gate {
     /// Called by the worker of a lane before it reads the piece of a number.
+    ///
+    /// No clause says that it is called.
     fn enter(&self, lane: u32, number: u64);
 
     /// Called when all workers have ended, by a reading that goes on with what they read: where no instance has a fault by itself, the
     /// references are looked at next. Where it is not written out, it does nothing.
+    ///
+    /// No clause says that it is called.
     fn close(&self) {}
 }
 

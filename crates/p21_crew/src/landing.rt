@@ -1,4 +1,4 @@
-//! Landing all lanes.
+//! Ending all lanes and joining their threads.
 ghost use Rattle.std.specs.Prelude.{◌≡◌, [], ◌∷◌, ◌++◌, IfOk, IsTrue};
 ghost use Rattle.p21_crew.specs.Landing.{AreLanded};
 
@@ -31,7 +31,7 @@ impl<P: Drop, O: Drop> Receipts<P, O> {
         }
     }
 
-    /// Puts the receipts of one more lane behind the others. The answer is whether all are there, and the
+    /// Puts the receipts of one more lane after the others. The answer is whether all are there, and the
     /// dealer had taken each result.
     fn keep(&mut self, landed: Landed<P, O>, is_whole: bool) -> bool
         ensures clean { IsTrue result → landed.is_clean ≡ true }
@@ -50,7 +50,7 @@ impl<P: Drop, O: Drop> Receipts<P, O> {
     }
 }
 
-/// Puts an item behind the others. The answer is whether it is there.
+/// Puts an item after the others. The answer is whether it is there.
 fn push_whole<T: Drop>(items: &mut Vec<T>, item: T) -> bool
     ensures { IsTrue result → items.new.items ≡ items.old.items ++ item ∷ [] }
 {

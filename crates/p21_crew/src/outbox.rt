@@ -42,7 +42,7 @@ impl<O: Drop> Outbox<O> {
         }
     }
 
-    /// Puts a result behind the others. The answer is whether some were sent.
+    /// Puts a result after the others. The answer is whether some were sent.
     pub(crate) fn put<R: Wait>(&mut self, rt: &R, answer: Returned<O>) -> bool
         ensures lane { SameIn self.old.lane self.new.lane }
         ensures results { results_of self.new ≡ results_of self.old ++ answer ∷ [] }

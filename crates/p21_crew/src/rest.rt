@@ -1,4 +1,4 @@
-//! How the threads of a crew wait for each other.
+//! How threads sleep and wake each other.
 
 use crossbeam_utils::sync::{Parker, Unparker};
 use std::alloc::{AllocError, Global};

@@ -40,6 +40,9 @@ pub struct Run<P, O, A> {
 ///
 /// On no lane are more pieces out at a time than the capacity. An error means that memory or a thread was refused, here or to
 /// a worker; all workers have ended all the same.
+///
+/// No clause speaks of moments inside a run: that the workers read at one time, and that no more pieces are out on a
+/// lane than the capacity, is tested.
 pub fn run_crew<
     P: Drop + Send,
     O: Drop + Send,
@@ -60,6 +63,11 @@ pub fn run_crew<
     capacity: Capacity,
 ) -> Result<Run<P, O, A>, AllocError>
     requires { A.holds gatherer [] }
+    // Over any source of pieces, work, gate and gatherer: the pieces are those that the source gives before its tail.
+    // Each was dealt to exactly one lane (`dealing`). Each lane received exactly its share of the pieces, once, in
+    // order (`shares`), then its end and nothing after it (`ended`), and so returned its share of the results
+    // (`results`, `returned_ended`). The results are stated of the pieces, one by one (`values`), and were gathered
+    // in the order of the pieces.
     ensures { IfOk result (λ run. (pieces : List P) × (outs : List O) × C.cuts cutter pieces run.tail
         × IsRun (W.stated work.now) lanes pieces outs run.dealt.items run.receipts.items run.returned.items
         × A.holds run.gatherer outs) }
@@ -208,7 +216,7 @@ fn launch_all<
     Ok(flights)
 }
 
-/// Puts a lane behind the others. Where it was not started, or memory is refused, it is landed.
+/// Puts a lane after the others. Where it was not started, or memory is refused, it is landed.
 fn join_crew<P: Drop, O: Drop, W: Work<P, Out = O>, R: Threads + Wait>(
     rt: &R,
     flights: &mut Vec<Flight<P, O, W>>,

@@ -4,6 +4,8 @@ ghost use Rattle.std.specs.Prelude.{IfOk};
 use std::alloc::{AllocError, Global};
 
 /// What a worker does with the pieces of its lane. The workers share it by reference.
+///
+/// Its ghost `stated` says what it may answer for a piece.
 pub trait Work<P> {
     /// What is read of a piece.
     type Out: Drop;
@@ -19,7 +21,8 @@ pub trait Work<P> {
     /// What a worker begins with. This takes no memory.
     fn begin(&self, alloc: Global) -> Self::Kept;
 
-    /// Reads a piece. An error is want of memory.
+    /// Reads a piece. An error is lack of memory.
     fn read(&self, alloc: Global, kept: &mut Self::Kept, piece: P) -> Result<Self::Out, AllocError>
+        // A result that the work may state of the piece.
         ensures { IfOk result (λ out. stated self.now piece out) };
 }

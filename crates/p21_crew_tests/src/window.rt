@@ -5,7 +5,7 @@ use std::sync::atomic::{AtomicBool, AtomicU64, Ordering};
 use std::thread;
 use std::time::{Clock, Duration};
 
-/// A gate at which the first piece waits for 200 milliseconds, and looks whether one behind the window has entered meanwhile.
+/// A gate at which the first piece waits for 200 milliseconds, and looks whether one after the window has entered meanwhile.
 #[derive(Drop)]
 pub struct Window<'r, R> {
     rt: &'r R,
@@ -26,7 +26,7 @@ impl<'r, R: Clock> Window<'r, R> {
         }
     }
 
-    /// Whether no piece behind the window entered too early, while others entered at last.
+    /// Whether no piece after the window entered too early, while others entered at last.
     pub fn is_kept(&self) -> bool {
         !self.is_passed.load(Ordering::SeqCst) && self.greatest.load(Ordering::SeqCst) > self.last
     }

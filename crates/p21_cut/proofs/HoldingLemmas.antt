@@ -28,7 +28,7 @@ separators_on a b separators.none t = t
 separators_on a b (separators.white w s) t = separators.white w (separators_on _ b s t)
 separators_on a b (separators.comment {front = front} {rest = rest} e c s) t = separators.comment (ap (λ l. l ++ b) e ∙ append_assoc front rest b) c (separators_on rest b s t)
 
--- behind separators that cannot be extended stand no more
+-- after separators that cannot be extended stand no more
 pub none_more : (text : List ℕ) (gap more : ℕ) → Passes text gap → more ≤ length (drop gap text) → IsSeparators (take more (drop gap text)) → more ≤ 0
 none_more text gap more p k s =
     let fits : gap + more ≤ length text = (let h = p.fits in omega (arith, h, k, length-drop gap text)) in
@@ -54,7 +54,7 @@ first_before file at gap t p f =
       after_is = f.after_is;
     }
 
--- the tokens behind separators are those from before them
+-- the tokens after separators are those from before them
 tokens_before : (file : List ℕ) (at gap : ℕ) (ts : List Placed) → Passes (drop at file) gap → Tokens file (at + gap) ts → Tokens file at ts
 tokens_before file at gap ts p (tokens.last {t = t} f l) = tokens.last (first_before file at gap t p f) l
 tokens_before file at gap ts p (tokens.more {t = t} f nl rest) = tokens.more (first_before file at gap t p f) nl rest
@@ -68,7 +68,7 @@ token_list text at ts (tokens.more {t = t} {ts = others} f nl rest) = laws.more 
 pub hash_plain : (behind : List ℕ) → IsPlain 35 behind
 hash_plain behind = record { no_semicolon = λ e. omega arith; no_apostrophe = λ e. omega arith; opens_nothing = λ e. absurd (omega arith) }
 
--- the bytes up to a `;` and behind it
+-- the bytes up to a `;` and after it
 pub at_mark : (rest : List ℕ) (n : ℕ) → BeginsWithByte 59 (drop n rest) → (rest ≡ take n rest ++ 59 ∷ drop (suc n) rest) × ((take (suc n) rest ≡ take n rest ++ 59 ∷ []) × (n < length rest))
 at_mark [] zero h = absurd h
 at_mark [] (suc n) h = absurd h
@@ -113,7 +113,7 @@ all_tokens text at ts (tokens.more {t = t} {ts = others} f nl rest) =
       up_to = record { place = all.up_to.place; tokens = tokens.more f nl all.up_to.tokens; next = all.up_to.next };
     }
 
--- the tokens up to a place, and those behind it
+-- the tokens up to a place, and those after it
 tokens_on : (text : List ℕ) (at place : ℕ) (before rest : List Placed) → TokensUpTo text at before place → Tokens text place rest → Tokens text at (before ++ rest)
 tokens_on text at place before rest tokens.none h = h
 tokens_on text at place before rest (tokens.more {t = t} {ts = ts} f nl others) h = tokens.more f nl (tokens_on text t.after place ts rest others h)
@@ -143,7 +143,7 @@ closed_held file bytes start end ts before tail last tss rest e toks parts is_la
       ),
     )
 
--- behind the end of a file stand no pieces
+-- after the end of a file stand no pieces
 none_left : (file : List ℕ) (at number end : ℕ) (ps : List Piece) → drop at file ≡ [] → PiecesAre file at number ps end → (ps ≡ []) × (end ≡ at)
 none_left file at number end ps e (pieces.tail {gap = gap} p s) = let none : gap ≡ 0 = no_gap (drop at file) gap e p in (refl, omega (arith, none))
 none_left file at number end ps e (pieces.piece (pieces.made {gap = gap} {len = len} p one) more) = absurd (nothing (drop (at + gap) file) len (sym (drop-drop gap at file) ∙ ap (drop gap) e ∙ drop_all gap [] (omega arith)) one) where

@@ -6,3 +6,4 @@ pub mod StretchLemmas
 pub mod PieceTokenLemmas
 pub mod HoldingLemmas
 pub mod NextPieceLemmas
+pub mod MarkLemmas

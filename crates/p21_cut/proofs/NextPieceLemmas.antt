@@ -17,7 +17,7 @@ use Rattle.p21_cut.proofs.StretchLemmas.{OneString, first_alike, stops_at_mark}
 use Rattle.p21_cut.proofs.PieceTokenLemmas.{first_semi, first_more, first_named, tail_no_name}
 use Rattle.p21_cut.proofs.HoldingLemmas.{at_mark, hash_plain, none_more, same_placed, still_there}
 
--- ---- from behind the separators on
+-- ---- from after the separators on
 
 first_from : (file : List ℕ) (at gap : ℕ) (t : Placed) → Passes (drop at file) gap → First file at t → First file (at + gap) t
 first_from file at gap t p f =
@@ -83,7 +83,7 @@ record Back (bytes : List ℕ) (s at : ℕ) (ts : List Placed) : Type 0 where
   is_end : end.token ≡ token.end
   moved : shifted s own ≡ ts
 
--- where the file goes on behind some bytes of a piece
+-- where the file goes on after some bytes of a piece
 goes_on : (text front r : List ℕ) (s from at : ℕ) → drop s text ≡ front ++ 59 ∷ r → from ≡ s + at → at ≤ length front → drop from text ≡ drop at front ++ 59 ∷ r
 goes_on text front r s from at g begins h = ap (λ j. drop j text) begins ∙ (sym (drop-drop at s text) ∙ (ap (drop at) g ∙ drop-append-le at front (59 ∷ r) h))
 

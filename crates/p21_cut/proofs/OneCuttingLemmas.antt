@@ -19,7 +19,7 @@ either_le (suc n) (suc m) = elim (either_le n m) [ inl h ↦ inl (omega arith) |
 comment_len : (text : List ℕ) (n : ℕ) → n ≤ length text → (c : IsComment (take n text)) → n ≡ length c.body + 4
 comment_len text n h c = omega (arith, sym (length-take-le n text h), ap length c.spelled, length-append c.body (42 ∷ 47 ∷ []))
 
--- the byte at a place behind the `/*`
+-- the byte at a place after the `/*`
 comment_byte : (text : List ℕ) (n k : ℕ) → n ≤ length text → (c : IsComment (take n text)) → k + 2 < n → slice_index (c.body ++ 42 ∷ 47 ∷ []) k ≡ slice_index text (k + 2)
 comment_byte text n k h c u =
     let place : k + 2 ≡ suc (suc k) = omega arith in

@@ -76,7 +76,7 @@ front_part text body n t (tokens.token l) s = pieces.string l.fits (subst (Spell
 front_part text body n t tokens.ended s = cc
 front_part text body n t (tokens.none some nothing) s = cc
 
--- the place behind a token that an apostrophe begins
+-- the place after a token that an apostrophe begins
 pub string_parts : (file rest body : List ℕ) (at : ℕ) (t : Placed) → drop at file ≡ 39 ∷ rest → First file at t → t.token ≡ str body → PartsAre (drop at file) (t.after - at)
 string_parts file rest body at t e f s =
     let none : f.gap ≡ 0 = apostrophe_gap (drop at file) rest f.gap e f.passes in
@@ -198,7 +198,7 @@ parts_to file from at to h k before behind =
 begins_with : (b : ℕ) (file : List ℕ) (at : ℕ) → at < length file → slice_index file at ≡ b → BeginsWithByte b (drop at file)
 begins_with b file at h e = rw (drop_more file at 0 h) e
 
--- what stands behind the `#` of a piece
+-- what stands after the `#` of a piece
 behind_mark : (file : List ℕ) (start at : ℕ) → start + 1 ≤ at → drop (at - (start + 1)) (drop (start + 1) file) ≡ drop at file
 behind_mark file start at h = let place : start + 1 + (at - (start + 1)) ≡ at = omega arith in drop-drop (at - (start + 1)) (start + 1) file ∙ ap (λ n. drop n file) place
 

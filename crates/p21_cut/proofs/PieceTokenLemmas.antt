@@ -43,7 +43,7 @@ front_parts text n t (tokens.token l) nl other = token_parts text n t l.fits l.s
 front_parts text n t tokens.ended nl other = absurd (nl tokens.at_end)
 front_parts text n t (tokens.none some nothing) nl other = absurd (nl tokens.at_bad)
 
--- behind another token the parts go on
+-- after another token the parts go on
 pub first_more : (a text : List ℕ) (at k : ℕ) (t : Placed) → OneString → drop at a ≡ text → PartsAre text k → HasNoPart (drop k text) → (f : First a at t) → ¬ (IsLast t.token) → t.token ≢ token.semi
     → (f.gap + f.len ≤ k) × PartsAre (drop (f.gap + f.len) text) (k - (f.gap + f.len))
 first_more a text at k t one e all stop f nl other =
@@ -148,12 +148,12 @@ walk_on file s end at u before t f nl other (inside none no_end rest) =
 walk_on file s end at u before t f nl other (closed body semi e none k l rest) =
     closed (u ∷ body) semi (ap (λ x. u ∷ x) e) (All-cons (λ x. x.token ≢ token.semi) u body other none) k l (tokens.more f nl rest)
 
--- behind the end of a text stands nothing but its End
+-- after the end of a text stands nothing but its End
 nothing_more : (text : List ℕ) (at place : ℕ) (before : List Placed) (t : Placed) → drop at text ≡ [] → TokensUpTo text at before place → First text place t → (before ≡ []) × (t.token ≡ token.end)
 nothing_more text at place before t e tokens.none f = (refl, (first_at_end text at t e f).0)
 nothing_more text at place before t e (tokens.more {t = u} g nl rest) f = absurd (nl (subst IsLast (sym (first_at_end text at u e g).0) tokens.at_end))
 
--- a text that begins alike still does behind some of its bytes
+-- a text that begins alike still does after some of its bytes
 left_of : (text front r : List ℕ) (at : ℕ) → text ≡ front ++ 59 ∷ r → at ≤ length front → drop at text ≡ drop at front ++ 59 ∷ r
 left_of text front r at e h = ap (drop at) e ∙ drop-append-le at front (59 ∷ r) h
 

@@ -129,7 +129,7 @@ not_before P [] (c ∷ y) e h = absurd e
 not_before P (b ∷ x) [] e h = absurd e
 not_before P (b ∷ x) (c ∷ y) e h = subst (λ d. ¬ (P d)) e h
 
--- of what is behind a token the first byte alone counts
+-- of what is after a token the first byte alone counts
 pub spells_alike : (s x y : List ℕ) (t : Symbol) → BeginAlike x y → Spells s x t → Spells s y t
 spells_alike s x y token.iso e h = h
 spells_alike s x y token.end_iso e h = h

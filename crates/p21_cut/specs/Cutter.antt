@@ -22,7 +22,7 @@ place_of c = c.at
 abbrev pub number_of : Cutter → ℕ
 number_of c = c.number
 
--- the pieces that the cutter gives from now on, and the tail behind them
+-- the pieces that the cutter gives from now on, and the tail after them
 abbrev pub Gives : Cutter → List pieces.Piece → ℕ → Type 0
 Gives c ps end = pieces.PiecesAre (file_of c) (place_of c) (number_of c) ps end
 
@@ -30,7 +30,7 @@ Gives c ps end = pieces.PiecesAre (file_of c) (place_of c) (number_of c) ps end
 abbrev pub bytes_left : Cutter → ℕ
 bytes_left c = length c.file.now - c.at
 
--- A call gives the next piece, and cutting goes on behind it; or, where no piece is left, the tail, which lies in the
+-- A call gives the next piece, and cutting goes on after it; or, where no piece is left, the tail, which lies in the
 -- file, and then the cutter stays as it was.
 abbrev pub GivesNext : Cutter → Cut → Cutter → Type 0
 GivesNext old (cut.Piece p) new = pieces.IsNext (file_of old) (place_of old) (number_of old) (plain_piece p) (place_of new) × (number_of new ≡ number_of old + 1)

@@ -1,4 +1,4 @@
--- The parts of a data section that can be read one by one: pieces, and behind them the tail.
+-- The parts of a data section that can be read one by one: pieces, and after them the tail.
 use Rattle.std.specs.Prelude.{◌≡◌, ◌≢◌, ℕ, ◌+◌, ◌≤◌, List, [], ◌∷◌, length, take, drop}
 use Rattle.p21_text.specs.Separators.{IsComment}
 use Rattle.p21_text.specs.Spelling.{Spells, str}
@@ -9,7 +9,7 @@ abbrev pub BeginsWithByte : ℕ → List ℕ → Type 0
 BeginsWithByte b [] = ⊥
 BeginsWithByte b (c ∷ rest) = c ≡ b
 
--- a byte that is no `;`, no `'` and, before the text behind it, begins no `/*`
+-- a byte that is no `;`, no `'` and, before the text after it, begins no `/*`
 pub record IsPlain (b : ℕ) (behind : List ℕ) : Type 0 where
   pub no_semicolon : b ≢ 59
   pub no_apostrophe : b ≢ 39
@@ -42,7 +42,7 @@ pub record Piece : Type 0 where
   pub at : ℕ
   pub bytes : List ℕ
 
--- The next piece of a file from a place on, with its number, and the place behind it.
+-- The next piece of a file from a place on, with its number, and the place after it.
 pub data IsNext (file : List ℕ) : ℕ → ℕ → Piece → ℕ → Type 0 where
   made : {at number gap len : ℕ} → Passes (drop at file) gap → PieceIs (drop (at + gap) file) len
       → IsNext file at number (record { number = number; at = at + gap; bytes = take len (drop (at + gap) file) }) (at + gap + len)

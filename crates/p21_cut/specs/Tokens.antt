@@ -20,17 +20,19 @@ PiecesHoldTokens file at = (number end : ℕ) (ps : List Piece) (tss : List (Lis
 abbrev pub PartsHoldTokens : List ℕ → Type 0
 PartsHoldTokens file = (at number end : ℕ) (ps : List Piece) (tss : List (List Placed)) (before tail rest : List Placed) → TokensUpTo file 0 before at → PiecesAre file at number ps end → TokensOfEach ps tss → Tokens file end tail → Tokens file at rest → Tokens file 0 (before ++ rest) × Joined tss tail rest
 
--- Tokens of a text from a place on, none of them End or Bad, and the one behind them.
+-- Tokens of a text from a place on, none of them End or Bad, and the one after them.
 pub record TokensAndNext (text : List ℕ) (at : ℕ) (before : List Placed) (t : Placed) : Type 0 where
   pub place : ℕ
   pub tokens : TokensUpTo text at before place
   pub next : First text place t
 
--- What first tokens of a piece, and the one behind them, are in the file, where cutting goes on from `at` to `next`.
+-- What first tokens of a piece, and the one after them, are in the file, where cutting goes on from `at` to `next`.
+-- Before the semicolon of the piece they are those of the file. After it comes the End of the piece, while the file
+-- goes on after the piece.
 pub data InFile (file : List ℕ) (at next : ℕ) (p : Piece) (before : List Placed) (t : Placed) : Type 0 where
   -- Before the piece's semicolon they are tokens of the file. The first is a name, unless no token begins there.
   inside : HasNoSemi before → BeginsWithName (shifted p.at (before ++ t ∷ [])) ⊎ (t.token ≡ token.bad) → TokensAndNext file at (shifted p.at before) (shift p.at t) → InFile file at next p before t
-  -- Behind the semicolon stands the piece's End, and the file goes on behind the piece.
+  -- Behind the semicolon stands the piece's End, and the file goes on after the piece.
   whole : (body : List Placed) (semi : Placed) → before ≡ body ++ semi ∷ [] → HasNoSemi body → semi.token ≡ token.semi → t.token ≡ token.end → TokensUpTo file at (shifted p.at before) next → InFile file at next p before t
 
 -- first tokens of a piece are tokens of the file

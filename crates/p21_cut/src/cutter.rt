@@ -45,14 +45,17 @@ impl<'a> Cutter<'a> {
         }
     }
 
-    /// The next piece, or the tail where no `#` stands behind the separators. After a tail it is the same tail again.
+    /// The next piece, or the tail where no `#` stands after the separators. After a tail it is the same tail again.
     ///
     /// A piece runs to the end of the file where, before its `;`, an apostrophe begins no string, a `/*` begins no
     /// comment, or the file ends.
     #[inline(always)]
     pub fn next(&mut self) -> Cut<'a>
+        // The next piece of the file from the place on, or the tail; after the tail, the same tail again.
         ensures next { GivesNext self.old result self.new }
+        // With each piece fewer bytes are left.
         ensures ends { LeavesLess self.old result self.new }
+        // The file stays the same.
         ensures file { file_of self.new ≡ file_of self.old }
     {
         let start = self.at + separators_len(&self.file[self.at..]);

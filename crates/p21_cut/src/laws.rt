@@ -25,23 +25,30 @@ pub fn one_cutting(file: &[u8], at: usize)
 /// From each place of a file on there is at most one list of pieces, and one tail; and one piece at most comes next, and none where the
 /// tail begins.
 pub fn pieces_are_unique()
+    // From each place there is at most one list of pieces, and one tail.
     ensures all { (file : List ℕ) → (at : ℕ) → HasOneCuttingAtMost file at }
+    // At most one piece comes next, and none where the tail begins.
     ensures next { (file : List ℕ) → (at : ℕ) → HasOneNextAtMost file at }
 {
     one_string();
 }
 
 /// The tokens of a file from a place on are those of its pieces in turn and of its tail, up to the first place where no
-/// token begins; and all its tokens are those before a place, such as those of its preface, and these behind them.
+/// token begins; and all its tokens are those before a place, such as those of its preface, and these after them.
 pub fn pieces_hold_tokens()
+    // Up to its first Bad, the tokens of a file from a place on are those of its pieces in turn, without their Ends,
+    // and of its tail.
     ensures from_a_place { (file : List ℕ) → (at : ℕ) → PiecesHoldTokens file at }
+    // All its tokens are those before a place, such as those of its preface, and these.
     ensures of_file { (file : List ℕ) → PartsHoldTokens file }
 {
     one_string();
     tokens_are_unique();
 }
 
-/// First tokens of a piece or of the tail are tokens of the file, whatever stands behind them.
+/// First tokens of a piece or of the tail are tokens of the file, whatever stands after them.
+///
+/// Of a piece, but for the End after its semicolon, and of the tail.
 pub fn first_tokens_of_file()
     ensures of_pieces { PieceTokensAreOfFile }
     ensures of_tails { TailTokensAreOfFile }
@@ -52,8 +59,11 @@ pub fn first_tokens_of_file()
 /// Tokens of a file up to a semicolon are those of the piece that comes next, whose first token is a name unless none begins
 /// there; where no piece comes next, the tokens are those of the tail.
 pub fn tokens_of_next_piece()
+    // Tokens of a file up to a semicolon are those of the piece that comes next, without its End.
     ensures whole { FileTokensAreOfPiece }
+    // The first token of that piece is a name, unless no token begins there.
     ensures first { PieceBeginsWithName }
+    // Where no piece comes next, the tokens are those of the tail.
     ensures of_tail { FileTokensAreOfTail }
 {
     one_string();

@@ -3,6 +3,7 @@
 
 mod cutter;
 mod laws;
+mod marks;
 mod parts;
 
 pub use cutter::{Cut, Cutter};

@@ -3,10 +3,10 @@
 ghost use Rattle.std.specs.Prelude.{◌≡◌, ◌≤◌, ◌<◌, ◌+◌, ◌-◌, ◌⊎◌, length, drop, slice_index, MatchOption, IfSome};
 ghost use Rattle.p21_cut.specs.Pieces.{HasNoPart, PartsAre, PieceIs};
 
-use memchr::memchr3;
+use crate::marks::next_mark;
 use p21_text::{Token, next_token, one_string, separators_len};
 
-/// The place behind the piece that begins with the `#` at `start`.
+/// The place after the piece that begins with the `#` at `start`.
 #[inline(always)]
 pub(crate) fn piece_end(file: &[u8], start: usize) -> usize
     requires within { start < length file.now }
@@ -16,7 +16,7 @@ pub(crate) fn piece_end(file: &[u8], start: usize) -> usize
     ensures within { result ≤ length file.now }
 {
     let mut at = start + 1;
-    while let Some(len) = memchr3(b';', b'\'', b'/', &file[at..]) {
+    while let Some(len) = next_mark(&file[at..]) {
         let mark = at + len;
         if file[mark] == b';' {
             return mark + 1;
@@ -29,7 +29,7 @@ pub(crate) fn piece_end(file: &[u8], start: usize) -> usize
     file.len()
 }
 
-/// The place behind some parts that begin with the `'` or the `/` at `at`; none where no part begins there.
+/// The place after some parts that begin with the `'` or the `/` at `at`; none where no part begins there.
 fn part_end(file: &[u8], at: usize) -> Option<usize>
     requires within { at < length file.now }
     requires begins { (slice_index file.now at ≡ 39) ⊎ (slice_index file.now at ≡ 47) }
@@ -46,7 +46,7 @@ fn part_end(file: &[u8], at: usize) -> Option<usize>
     }
 }
 
-/// The place behind the string token that begins with the apostrophe at `at`.
+/// The place after the string token that begins with the apostrophe at `at`.
 fn string_end(file: &[u8], at: usize) -> Option<usize>
     requires within { at < length file.now }
     requires begins { slice_index file.now at ≡ 39 }
@@ -64,7 +64,7 @@ fn string_end(file: &[u8], at: usize) -> Option<usize>
     }
 }
 
-/// The place behind the comment that begins with the `/*` at `at`, and behind all separators that follow it.
+/// The place after the comment that begins with the `/*` at `at`, and after all separators that follow it.
 fn comment_end(file: &[u8], at: usize) -> Option<usize>
     requires within { at + 1 < length file.now }
     requires solidus { slice_index file.now at ≡ 47 }

@@ -15,7 +15,7 @@ pub(crate) enum Affinity {
 }
 
 impl Affinity {
-    /// How the column is declared behind its name.
+    /// How the column is declared after its name.
     pub(crate) fn word(self) -> &'static str {
         match self {
             Affinity::Integer => " INTEGER",

@@ -3,7 +3,7 @@
 ghost use Rattle.p21_schema.specs.Place.{IsEntityOf};
 
 use crate::failure::io_error;
-use crate::statements::{create_table, entity_name, insert, own_name};
+use crate::statements::{create_table, insert, own_name, table_name};
 use crate::views::create_view;
 use p21_json::Terms;
 use p21_rows::{Cell, InputError, Layout, Rows, Table};
@@ -22,6 +22,9 @@ const VALUES: usize = 512;
 /// How many rows a statement writes at most.
 const ROWS: usize = 32;
 
+/// How many attributes an entity with a table or a view may have: SQLite takes 2000 columns, of which a view has two for the number and the entity.
+const ATTRIBUTES: usize = 1998;
+
 /// How many tables are of no entity.
 const OWN: usize = 3;
 
@@ -32,8 +35,12 @@ pub struct Database<S: Alter + Drop> {
     conn: Connection<S>,
     /// What waits for each table: those of no entity, and then those of the entities in the order of the schema.
     waiting: Vec<Waiting>,
+    /// Whether each entity has a view, also one without instances.
+    all_entities: bool,
     /// Why a call failed.
     error: Option<Error>,
+    /// Whether a call failed since an entity has too many attributes.
+    is_too_wide: bool,
 }
 
 /// Rows that are not written yet, and the statements that write one and several.
@@ -47,13 +54,23 @@ struct Waiting {
 }
 
 impl<S: Alter + Drop> Database<S> {
-    /// A database that has taken no row.
-    pub fn new(alloc: Global, conn: Connection<S>) -> Database<S> {
+    /// A database that has taken no row. With `all_entities` it will have a view for each entity of the schema, and otherwise for each that has
+    /// instances, its subtypes' among them.
+    ///
+    /// A database tells neither its calls nor whether it failed, so over it the clause of `export_rows` says of a complete
+    /// run only that the file has a reading without a fault. That the statements are right SQL and that the database holds the rows of the model is tested
+    /// (`tests/run_sqlite`).
+    ///
+    /// Cost: At most 255 rows of each table wait. For each view the names of its columns, while it is made, and the
+    /// square of the rows of its supertype and of each table below it. The writer keeps 16 MB of pages.
+    pub fn new(alloc: Global, conn: Connection<S>, all_entities: bool) -> Database<S> {
         Database {
             alloc,
             conn,
             waiting: Vec::new(alloc),
+            all_entities,
             error: None,
+            is_too_wide: false,
         }
     }
 
@@ -63,12 +80,21 @@ impl<S: Alter + Drop> Database<S> {
             alloc: _,
             conn,
             waiting: _,
+            all_entities: _,
             error: _,
+            is_too_wide: _,
         } = self;
         conn
     }
 
-    /// Why the last call failed that did.
+    /// Whether a call failed since an entity with a table or a view has more than 1998 attributes.
+    pub fn is_too_wide(&self) -> bool {
+        self.is_too_wide
+    }
+
+    /// Why the last call failed that did; none where an entity has too many attributes.
+    ///
+    /// Tested.
     pub fn error(&self) -> Option<io::Error> {
         match self.error {
             Some(error) => Some(io_error(error)),
@@ -152,25 +178,47 @@ impl<S: Alter + Drop> Database<S> {
     ) -> Result<(), InputError>
         requires { IsEntityOf terms.now entity }
     {
-        let name = entity_name(self.alloc, terms, entity)?;
+        let attributes = layout.columns(entity).len();
+        if attributes > ATTRIBUTES {
+            self.is_too_wide = true;
+            return Err(InputError::Device);
+        }
+        let name = table_name(self.alloc, terms, entity)?;
         let sql = create_table(self.alloc, terms, layout, entity, name.as_str())?;
         self.run(sql.as_str())?;
-        let count = layout.columns(entity).len().saturating_add(1);
+        let count = attributes.saturating_add(1);
         self.wait_for(name.as_str(), count)?;
         Ok(())
     }
 
-    /// Makes the views of the supertypes.
+    /// Makes the views of the entities.
     fn add_views(&mut self, terms: &Terms<'_>, layout: &Layout<'_, '_>) -> Result<(), InputError> {
         let schema = terms.schema();
         for place in 0..schema.declared().entities.len() {
-            if let Some(entity) = schema.entity_at(place)
-                && let Some(sql) = create_view(self.alloc, terms, layout, entity)?
-            {
-                self.run(sql.as_str())?;
+            if let Some(entity) = schema.entity_at(place) {
+                self.add_view(terms, layout, entity)?;
             }
         }
         Ok(())
+    }
+
+    /// Makes the view of an entity, if it is to have one.
+    fn add_view(
+        &mut self,
+        terms: &Terms<'_>,
+        layout: &Layout<'_, '_>,
+        entity: EntityId,
+    ) -> Result<(), InputError>
+        requires { IsEntityOf terms.now entity }
+    {
+        let Some(sql) = create_view(self.alloc, terms, layout, entity, self.all_entities)? else {
+            return Ok(());
+        };
+        if terms.schema().row_count(entity) > ATTRIBUTES {
+            self.is_too_wide = true;
+            return Err(InputError::Device);
+        }
+        self.run(sql.as_str())
     }
 
     /// Rows of the next table, of so many values, will be written to a table of this name.

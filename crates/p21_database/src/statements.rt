@@ -30,7 +30,20 @@ fn is_entity(terms: &Terms<'_>, name: &str) -> bool {
     false
 }
 
-/// The name of the table or the view of an entity: with `_` in front where SQLite keeps the name for itself.
+/// The name of the table of the records of an entity: that of its view, and `.own`.
+pub(crate) fn table_name(
+    alloc: Global,
+    terms: &Terms<'_>,
+    entity: EntityId,
+) -> Result<String, AllocError>
+    requires { IsEntityOf terms.now entity }
+{
+    let mut name = entity_name(alloc, terms, entity)?;
+    name.push_str(".own")?;
+    Ok(name)
+}
+
+/// The name of the view of an entity: with `_` in front where SQLite keeps the name for itself.
 pub(crate) fn entity_name(
     alloc: Global,
     terms: &Terms<'_>,

@@ -26,7 +26,7 @@ one_at-same lane other h = let same : (lane == other) ≡ true = grind (arith, n
 one_at-other : (lane other : ℕ) → lane ≢ other → one_at lane other ≡ 0
 one_at-other lane other h = let differs : (lane == other) ≡ false = grind (arith, nat_tests, h) in ap (λ b. cond b 1 0) differs
 
--- one more piece behind those that wait
+-- one more piece after those that wait
 waiting-dealt : (dealt : List ℕ) (joined lane other : ℕ) → joined ≤ length dealt
     → waiting_of other (drop joined (dealt ++ lane ∷ [])) ≡ waiting_of other (drop joined dealt) + one_at lane other
 waiting-dealt dealt joined lane other h =

@@ -1,4 +1,4 @@
-//! The desk from which pieces are dealt to lanes.
+//! Which piece was dealt to which lane, and which comes next.
 ghost use Rattle.std.specs.Prelude.{◌≡◌, ◌+◌, ◌-◌, ◌*◌, ◌<◌, ◌≤◌, ◌↔◌, All, [], ◌∷◌, ◌++◌, length, slice_get, IsTrue, IsSome, IfOk, OnOk, OnErr, IfSome, IfNone};
 ghost use Rattle.p21_desk.specs.Dealt.{waiting_at};
 
@@ -65,6 +65,7 @@ impl Desk {
     /// Whether a piece may be dealt to a lane: exactly where fewer pieces wait on it than the capacity.
     pub fn may_deal(&self, lane: u32) -> bool
         requires { lane < self.now.lanes }
+        // It may exactly where fewer pieces wait on the lane than the capacity.
         ensures { IsTrue result ↔ (waiting_at self.now lane < self.now.capacity) }
     {
         self.waiting(lane) < u64::from(self.capacity.get())
@@ -75,9 +76,13 @@ impl Desk {
     pub fn deal(&mut self, lane: u32) -> Result<u64, AllocError>
         requires lane { lane < self.old.lanes }
         requires window { waiting_at self.old lane < self.old.capacity }
+        // The result is the number of the piece.
         ensures number { IfOk result (λ number. number ≡ length self.old.dealt) }
+        // The piece goes to this lane, after the others.
         ensures dealt { OnOk result (self.new ≡ record self.old { dealt = self.old.dealt ++ lane ∷ [] }) }
+        // One more waits there.
         ensures waits { OnOk result (waiting_at self.new lane ≡ waiting_at self.old lane + 1) }
+        // A refusal changes nothing.
         ensures refused { OnErr result (self.new ≡ self.old) }
     {
         let number = self.dealt.len() as u64;
@@ -89,10 +94,15 @@ impl Desk {
     /// The lane of the first piece that was not joined yet, which is the one to be joined next; `None` exactly where all
     /// pieces were joined.
     pub fn next_lane(&self) -> Option<u32>
+        // The lane of the first piece that was not joined.
         ensures next { result ≡ slice_get self.now.dealt self.now.joined }
+        // There is one only where not all pieces were joined.
         ensures some { IsSome result ↔ (self.now.joined < length self.now.dealt) }
+        // It is one of the lanes.
         ensures lane { IfSome result (λ lane. lane < self.now.lanes) }
+        // Pieces wait on it.
         ensures waits { IfSome result (λ lane. 0 < waiting_at self.now lane) }
+        // There is none only where all were joined.
         ensures none { IfNone result (self.now.joined ≡ length self.now.dealt) }
     {
         self.dealt.get(self.joined).copied()
@@ -111,9 +121,13 @@ impl Desk {
     /// The lane of each piece that was dealt. Those that wait are in all at no moment more than the capacity for each lane.
     #[tactic(auto, using(crate::proofs::DeskLemmas::waiting_in_all))]
     pub fn dealt(&self) -> &[u32]
+        // The lane of each piece.
         ensures dealt { result.now ≡ self.now.dealt }
+        // Each is one of the lanes.
         ensures lanes { All (λ lane. lane < self.now.lanes) result.now }
+        // No more pieces were joined than dealt.
         ensures joined { self.now.joined ≤ length result.now }
+        // On all lanes together no more pieces wait than the capacity for each lane.
         ensures window { length result.now - self.now.joined ≤ self.now.lanes * self.now.capacity }
     {
         self.dealt.as_slice()
@@ -122,7 +136,9 @@ impl Desk {
     /// How many pieces wait on a lane: at no moment more than the capacity.
     pub fn waiting(&self, lane: u32) -> u64
         requires { lane < self.now.lanes }
+        // How many pieces wait on the lane.
         ensures value { result ≡ waiting_at self.now lane }
+        // Never more than the capacity.
         ensures window { result ≤ self.now.capacity }
     {
         self.waiting[lane as usize]
@@ -130,7 +146,9 @@ impl Desk {
 
     /// The lane of each piece that was dealt.
     pub fn into_dealt(self) -> Vec<u32>
+        // The lane of each piece.
         ensures dealt { result.items ≡ self.dealt }
+        // Each is one of the lanes.
         ensures lanes { All (λ lane. lane < self.lanes) result.items }
     {
         self.dealt

@@ -28,6 +28,7 @@ impl LaneCount {
 
     /// The number of `n` lanes, or `None` where `n` is 0 or above `MAX`.
     pub fn new(n: u32) -> Option<LaneCount>
+        // A number of lanes is a number from 1 to 64, and each such number is one.
         ensures { SomeIff result ((0 < n) × (n ≤ 64)) n }
     {
         if 0 < n && n <= LaneCount::MAX {

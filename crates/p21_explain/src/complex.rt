@@ -1,8 +1,8 @@
 //! Which rule a complex instance breaks.
 
 use crate::explained::Subject;
-use crate::said::Said;
 use p21_express::EntityDecl;
+use p21_printed::Said;
 use std::alloc::AllocError;
 
 /// Adds which rule the records of a complex instance break, by their keywords; answers the number of the record.

@@ -2,18 +2,17 @@
 
 ghost use Rattle.std.specs.Prelude.{◌≤◌, length, IfOk};
 ghost use Rattle.std.specs.String.{string_bytes};
-ghost use Rattle.p21_explain.specs.Printed.{IsPrinted};
+ghost use Rattle.p21_printed.specs.Printed.{IsPrinted};
 
 use crate::attributes::Attribute;
-use crate::excerpt::paragraph;
 use crate::faults::say_instance_fault;
 use crate::grammar::{say_bad_token, say_truncated, say_unexpected};
 use crate::header::{say_header_entities, say_wrong_schema};
 use crate::instance::Instance;
-use crate::json::object;
-use crate::said::Said;
+use crate::instances::NamedInstances;
 use p21_cut::{Cut, Cutter};
 use p21_express::EntityDecl;
+use p21_printed::{Finding, Format, Lines, Said, in_text, print_finding};
 use p21_schema::Schema;
 use p21_spelling::Spellings;
 use p21_tree::{Fault, FaultKind};
@@ -28,6 +27,8 @@ pub struct Subject<'a> {
     /// The path of the file.
     pub path: &'a str,
     pub file: &'a [u8],
+    /// Where the instances are that its faults name; of others it is said that there are none.
+    pub named: &'a NamedInstances,
 }
 
 impl<'a> Subject<'a> {
@@ -56,39 +57,41 @@ impl<'a> Subject<'a> {
     }
 }
 
-/// How a fault is explained.
-#[derive(Clone, Copy, Debug, PartialEq, Eq)]
-pub enum Format {
-    /// Lines of text: the path with the line and the column of the place to look at, and the fault's own place as the report gives it;
-    /// that line of the file, in 120 columns, with a caret under the place; and what is wrong.
-    Text,
-    /// A line with an object of JSON.
-    Json,
-}
-
 /// A fault of a file, explained. `kind` is the name of its kind in the report.
 ///
-/// The file is the one that the schema was asked about, and the fault is one of it; of another file or fault less is said. No byte of the
+/// The file is the one that the schema was asked about, the lines are its own, and the fault is one of it; of another file or fault less is said. Of faults in
+/// their order no more of a line is looked at than lies between them. No byte of the
 /// file or the path is printed as it is that could be one of control. Memory alone can fail.
 pub fn explain_fault(
     alloc: Global,
     subject: Subject<'_>,
+    lines: &mut Lines<'_>,
     fault: &Fault,
     kind: &[u8],
     format: Format,
 ) -> Result<String, AllocError>
+    // What is printed, as text or as an object of JSON, has no control characters but line ends, whatever the file,
+    // the schema and the path hold. What it says and where its caret is, is tested.
     ensures { IfOk result (λ text. IsPrinted (string_bytes text)) }
 {
     let mut said = Said::new(alloc);
     let at = in_text(subject.file, fault.at);
     let looked_at = say_fault(&mut said, subject, fault.kind, at)?;
-    printed(alloc, subject, fault.at, looked_at, kind, &said, format)
+    let found = Finding {
+        path: subject.path,
+        at: looked_at,
+        reported: fault.at,
+        what: thing_at(fault.kind),
+        kind,
+    };
+    print_finding(alloc, lines, &found, &said, format)
 }
 
-/// What is said of a fault: by the place that the report gives, the place to look at, and the name of its kind.
+/// What is said of a fault of an instance by a rule: by the place of the instance, the place to look at, and the name of its kind.
 pub(crate) fn printed(
     alloc: Global,
     subject: Subject<'_>,
+    lines: &mut Lines<'_>,
     reported: u64,
     looked_at: usize,
     kind: &[u8],
@@ -97,21 +100,23 @@ pub(crate) fn printed(
 ) -> Result<String, AllocError>
     ensures { IfOk result (λ text. IsPrinted (string_bytes text)) }
 {
-    let (path, file) = (subject.path, subject.file);
-    let at = looked_at.min(file.len());
-    match format {
-        Format::Text => paragraph(alloc, path, file, at, reported, said),
-        Format::Json => object(alloc, path, file, at, kind, said),
-    }
+    let found = Finding {
+        path: subject.path,
+        at: looked_at,
+        reported,
+        what: "instance",
+        kind,
+    };
+    print_finding(alloc, lines, &found, said, format)
 }
 
-/// A place in a text; its end where it is not so long.
-pub(crate) fn in_text(text: &[u8], at: u64) -> usize
-    ensures { result ≤ length text.now }
-{
-    match usize::try_from(at) {
-        Ok(at) => at.min(text.len()),
-        Err(_) => text.len(),
+/// What stands at the place that the report gives of a fault.
+fn thing_at(kind: FaultKind) -> &'static str {
+    match kind {
+        FaultKind::BadToken => "string",
+        FaultKind::Unexpected | FaultKind::Truncated | FaultKind::TooDeep => "token",
+        FaultKind::HeaderEntities | FaultKind::WrongSchema => "header",
+        _ => "instance",
     }
 }
 
@@ -137,7 +142,7 @@ fn say_fault(
     requires { at ≤ length subject.file.now }
 {
     match kind {
-        FaultKind::BadToken => say_bad_token(said, subject.file, at)?,
+        FaultKind::BadToken => return say_bad_token(said, subject.file, at),
         FaultKind::Unexpected => return say_unexpected(said, subject.file, at),
         FaultKind::Truncated => say_truncated(said, subject.file, at)?,
         FaultKind::TooDeep => said.say(

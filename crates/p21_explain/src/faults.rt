@@ -7,12 +7,13 @@ use crate::complex::{is_subtype, say_broken_rule};
 use crate::explained::Subject;
 use crate::instance::{Instance, Spot};
 use crate::names::say_nearest;
+use crate::parts::{part_in, say_part};
 use crate::redeclared::say_declared;
 use crate::references::{say_kind, say_named};
-use crate::said::{Front, Said, article};
 use crate::types::{Base, base_of, base_under, is_of_reals, type_named};
 use crate::values::say_value;
 use p21_express::TypeExpr;
+use p21_printed::{Front, Said, article};
 use p21_schema::{EntityId, Schema};
 use p21_text::Token;
 use p21_tree::FaultKind;
@@ -93,13 +94,20 @@ fn say_repeated(
 }
 
 /// Adds what is there in an attribute's place, and what was perhaps meant.
-fn say_bad_value(
+fn say_bad_value<'a>(
     said: &mut Said,
-    instance: &Instance<'_>,
-    attribute: Option<Attribute<'_>>,
+    instance: &Instance<'a>,
+    attribute: Option<Attribute<'a>>,
     rec: u64,
     attr: u64,
 ) -> Result<usize, AllocError> {
+    if let Some(attribute) = attribute {
+        let texpr = &attribute.declared.texpr;
+        if let Some(part) = part_in(said.alloc, instance, rec, attr, texpr)? {
+            say_part(said, instance, &part)?;
+            return Ok(part.at);
+        }
+    }
     let spot = Spot::Parameter { rec, attr };
     let at = instance.place_of(spot).min(instance.bytes.len());
     said.say(". Found ")?;

@@ -4,18 +4,18 @@ ghost use Rattle.std.specs.Prelude.{◌≤◌, length};
 
 use crate::instances::{data_start, last_before};
 use crate::mistakes::{instead_of_file, meant_by_bytes, meant_by_token};
-use crate::place::place_of;
-use crate::said::{Front, Said};
+use crate::spoiled::{say_spoiler, spoiler_of};
 use crate::walk::Walk;
 use memchr::{memchr, memchr_iter};
+use p21_printed::{Front, Said, place_of};
 use p21_text::{Lexed, Token, next_token};
 use p21_tree::{TreeError, read_whole};
 use std::alloc::{AllocError, Global};
 
-/// What an instance may stand behind.
+/// What an instance may stand after it.
 const PREFACE: &[u8] = b"ISO-10303-21;HEADER;ENDSEC;DATA;";
 
-/// What the grammar may expect: how it is written, and what it is called. The first stands for the two behind it, where it fits.
+/// What the grammar may expect: how it is written, and what it is called. The first stands for the two after it, where it fits.
 const EXPECTED: [(&str, &str); 13] = [
     ("$", "a parameter"),
     ("A(", "a keyword"),
@@ -42,7 +42,7 @@ struct Before<'a> {
     last: Token<'a>,
     from: usize,
     to: usize,
-    /// A text behind which the grammar expects what it expects there.
+    /// A text after which the grammar expects what it expects there.
     text: Vec<u8>,
 }
 
@@ -116,7 +116,7 @@ impl<'a> Before<'a> {
         }
     }
 
-    /// Adds behind what a fault stands.
+    /// Adds after what a fault stands.
     fn say_behind(&self, said: &mut Said) -> Result<(), AllocError> {
         match self.last {
             Token::Str(body) => said.say((" after the string '", Front(body), "'")),
@@ -178,8 +178,26 @@ fn say_either(said: &mut Said, names: &[&str]) -> Result<(), AllocError> {
     Ok(())
 }
 
+/// Adds what a byte is with which no token begins, and what the grammar expects; answers the place to look at: in a string, what spoils it.
+pub(crate) fn say_bad_token(said: &mut Said, file: &[u8], at: usize) -> Result<usize, AllocError>
+    requires { at ≤ length file.now }
+{
+    let rest = &file[at..];
+    if rest.first() == Some(&b'\'') {
+        if let Some(spoiler) = spoiler_of(file, at) {
+            said.say("In the string that begins ")?;
+            say_place(said, file, at)?;
+            said.say(", ")?;
+            say_spoiler(said, spoiler)?;
+            return Ok(spoiler.at);
+        }
+    }
+    say_no_token(said, file, at)?;
+    Ok(at)
+}
+
 /// Adds what a byte is with which no token begins, and what the grammar expects.
-pub(crate) fn say_bad_token(said: &mut Said, file: &[u8], at: usize) -> Result<(), AllocError>
+fn say_no_token(said: &mut Said, file: &[u8], at: usize) -> Result<(), AllocError>
     requires { at ≤ length file.now }
 {
     let mut before = Before::read(said.alloc, file, at)?;
@@ -228,7 +246,7 @@ fn is_never_closed(text: &[u8]) -> bool {
     }
 }
 
-/// Whether the quotes of a text stand in pairs, one right behind the other.
+/// Whether the quotes of a text stand in pairs, one right after the other.
 fn has_paired_quotes(text: &[u8]) -> bool {
     let mut single: Option<usize> = None;
     for at in memchr_iter(b'\'', text) {

@@ -2,14 +2,12 @@
 
 ghost use Rattle.std.specs.Prelude.{◌≤◌, length, OnOk, IfOk};
 ghost use Rattle.std.specs.String.{string_bytes};
-ghost use Rattle.p21_explain.specs.Printed.{IsPrinted};
+ghost use Rattle.p21_printed.specs.Printed.{IsPrinted};
 
 use crate::attributes::attribute_in;
-use crate::excerpt::push_line;
 use crate::explained::{Subject, instance_at};
 use crate::instance::Instance;
-use crate::said::{Front, Said};
-use crate::shown::new_text;
+use p21_printed::{Front, Said, new_text, push_line};
 use p21_tree::{Fault, FaultKind};
 use std::alloc::{AllocError, Global};
 
@@ -30,6 +28,7 @@ struct Group<'a> {
 ///
 /// The file is the one that the schema was asked about, and the faults are some of it. Memory alone can fail.
 pub fn summary(alloc: Global, subject: Subject<'_>, faults: &[Fault]) -> Result<String, AllocError>
+    // As for `explain_fault`.
     ensures { IfOk result (λ text. IsPrinted (string_bytes text)) }
 {
     let mut groups = Vec::new(alloc);

@@ -3,8 +3,8 @@
 ghost use Rattle.std.specs.Prelude.{◌≤◌, length};
 
 use crate::explained::Subject;
-use crate::said::{Front, Said};
 use crate::walk::Walk;
+use p21_printed::{Front, Said};
 use p21_text::{Lexed, Token};
 use std::alloc::AllocError;
 

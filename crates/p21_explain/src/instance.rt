@@ -20,13 +20,13 @@ pub(crate) enum Spot {
     Parameter { rec: u64, attr: u64 },
     /// A further token of a parameter.
     Inside { rec: u64, attr: u64 },
-    /// The parenthesis behind the parameters of a record.
+    /// The parenthesis after the parameters of a record.
     Close { rec: u64 },
 }
 
 impl Spot {
     /// Whether it is one of a parameter.
-    fn is_in(self, rec: u64, attr: u64) -> bool {
+    pub(crate) fn is_in(self, rec: u64, attr: u64) -> bool {
         self == (Spot::Parameter { rec, attr }) || self == (Spot::Inside { rec, attr })
     }
 }
@@ -77,6 +77,11 @@ impl<'a> Instance<'a> {
             tokens,
             keywords,
         })
+    }
+
+    /// Its tokens.
+    pub(crate) fn tokens(&self) -> &[Placed<'a>] {
+        &self.tokens
     }
 
     /// The first token that stands at a spot.
@@ -225,7 +230,7 @@ impl<'a> Spots<'a> {
         }
     }
 
-    /// The next token; none behind the last.
+    /// The next token; none after the last.
     fn next(&mut self) -> Option<Placed<'a>> {
         let (open, last) = (self.walk.open(), self.walk.last());
         let lexed = self.walk.next();

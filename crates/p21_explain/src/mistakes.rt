@@ -59,7 +59,7 @@ fn begins(text: &[u8], letters: &[u8]) -> bool {
         .is_some_and(|front| front.eq_ignore_ascii_case(letters))
 }
 
-/// What was perhaps meant by bytes with which no token begins, behind a token.
+/// What was perhaps meant by bytes with which no token begins, after a token.
 pub(crate) fn meant_by_bytes(bytes: &[u8], behind: Token<'_>) -> &'static str {
     match (bytes, behind) {
         ([b'a'..=b'z', ..], Token::Str(_)) => {
@@ -89,7 +89,7 @@ pub(crate) fn meant_by_bytes(bytes: &[u8], behind: Token<'_>) -> &'static str {
 /// How a value is written that is not given.
 const NOT_GIVEN: &str = " A value that is not given is written `$`.";
 
-/// What was perhaps meant by a token that does not fit behind another.
+/// What was perhaps meant by a token that does not fit after another.
 pub(crate) fn meant_by_token(token: Token<'_>, behind: Token<'_>) -> &'static str {
     let word = match token {
         Token::Keyword(word) => word,
@@ -109,7 +109,7 @@ pub(crate) fn meant_by_token(token: Token<'_>, behind: Token<'_>) -> &'static st
     }
 }
 
-/// The same behind a keyword.
+/// The same after a keyword.
 fn meant_behind_word(token: Token<'_>, word: &[u8]) -> &'static str {
     if is_one_of(word, &["TRUE", "FALSE"]) {
         return " A BOOLEAN is written `.T.` or `.F.`.";

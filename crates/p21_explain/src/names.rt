@@ -1,8 +1,8 @@
 //! Names that are near a name.
 
 use crate::explained::Subject;
-use crate::said::Said;
 use p21_express::EntityDecl;
+use p21_printed::Said;
 use std::alloc::{AllocError, Global};
 use strsim::generic_levenshtein;
 
@@ -29,7 +29,7 @@ pub(crate) fn say_nearest(
     }
 }
 
-/// The nearest entity and the one behind it, where they are near enough; of several that are as near the first of the text.
+/// The nearest entity and the one after it, where they are near enough; of several that are as near the first of the text.
 fn nearest<'a>(
     alloc: Global,
     entities: &'a [EntityDecl],

@@ -2,9 +2,9 @@
 
 use crate::attributes::Attribute;
 use crate::explained::Subject;
-use crate::said::Said;
 use crate::types::{article_of, say_meaning, say_type};
 use p21_express::{AttrDecl, EntityDecl};
+use p21_printed::Said;
 use p21_schema::Schema;
 use std::alloc::AllocError;
 

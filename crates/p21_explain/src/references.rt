@@ -1,10 +1,8 @@
 //! What an instance name refers to.
 
-use crate::explained::Subject;
+use crate::explained::{Subject, instance_at};
 use crate::instance::Instance;
-use crate::instances::find;
-use crate::place::place_of;
-use crate::said::{Said, article};
+use p21_printed::{Said, article};
 use std::alloc::AllocError;
 
 /// Adds what the first instance of a name is and where it stands: `an IfcWall at line 12`.
@@ -13,12 +11,13 @@ pub(crate) fn say_named(
     subject: Subject<'_>,
     name: u64,
 ) -> Result<(), AllocError> {
-    let Some(piece) = find(said.alloc, subject.file, name)? else {
+    let Some(found) = subject.named.get(name) else {
         return said.say("no instance");
     };
-    let at = (piece.at as usize).min(subject.file.len());
-    say_kind(said, &Instance::read(said.alloc, subject, &piece)?)?;
-    said.say((" at line ", place_of(subject.file, at).line as u64))
+    if let Some(instance) = instance_at(said.alloc, subject, found.at)? {
+        say_kind(said, &instance)?;
+    }
+    said.say((" at line ", found.line as u64))
 }
 
 /// Adds what an instance is: its entity, or of a complex one those of its records.

@@ -1,30 +1,38 @@
-//! A fault of a schema or of a device, explained.
+//! A fault of a schema, explained.
 
 ghost use Rattle.std.specs.Prelude.{◌≤◌, length, IfOk};
 ghost use Rattle.std.specs.String.{string_bytes};
-ghost use Rattle.p21_explain.specs.Printed.{IsPrinted};
+ghost use Rattle.p21_printed.specs.Printed.{IsPrinted};
 
-use crate::excerpt::{paragraph, push_line};
-use crate::explained::{Format, in_text};
-use crate::json::object;
 use crate::mistakes::instead_of_schema;
-use crate::place::place_of;
-use crate::said::{Front, Said};
-use crate::shown::new_text;
 use p21_express::SchemaError;
+use p21_mend::{Change, Form, MendedText};
+use p21_printed::{
+    Finding, Format, Front, Lines, Said, in_text, place_of, print_finding, print_line,
+};
 use p21_spelling::next_word;
 use std::alloc::{AllocError, Global};
 
+/// A schema that is refused.
+#[derive(Clone, Copy, Debug)]
+pub struct RefusedSchema<'a> {
+    /// The path of the schema.
+    pub path: &'a str,
+    /// What is changed in its text where it is mended, in the order of places.
+    pub changes: &'a [Change],
+}
+
 /// A fault of a schema's text, explained as `explain_fault` explains those of a file. `Memory` is no fault of a text, and here too want of
-/// memory.
+/// memory. Where mending changes what stands at the fault, this is said.
 pub fn explain_schema_fault(
     alloc: Global,
-    path: &str,
-    text: &[u8],
+    refused: RefusedSchema<'_>,
+    lines: &mut Lines<'_>,
     error: &SchemaError,
     kind: &[u8],
     format: Format,
 ) -> Result<String, AllocError>
+    // As for `explain_fault`.
     ensures { IfOk result (λ printed. IsPrinted (string_bytes printed)) }
 {
     let place = match error {
@@ -36,47 +44,81 @@ pub fn explain_schema_fault(
         | SchemaError::BadRedeclaration(place) => *place,
         SchemaError::Memory => return Err(AllocError),
     };
+    let text = lines.text();
     let at = in_text(text, place);
     let mut said = Said::new(alloc);
     say_rule(&mut said, text, at, error)?;
-    match format {
-        Format::Text => paragraph(alloc, path, text, at, place, &said),
-        Format::Json => object(alloc, path, text, at, kind, &said),
+    if refused.changes.iter().any(|change| change.at == at) {
+        said.say(" `--mend` makes this change.")?;
+    }
+    let found = Finding {
+        path: refused.path,
+        at,
+        reported: place,
+        what: "schema",
+        kind,
+    };
+    print_finding(alloc, lines, &found, &said, format)
+}
+
+/// Each form of a schema's text that is not supported, as the error that refuses it, in the order of places.
+pub fn unsupported_forms(
+    alloc: Global,
+    found: &MendedText,
+) -> Result<Vec<SchemaError>, AllocError> {
+    let mut forms = Vec::new(alloc);
+    for change in &found.changes {
+        forms.push((change.at, refused_form(change)))?;
+    }
+    for at in &found.left {
+        forms.push((*at, SchemaError::NotSupported(*at as u64)))?;
+    }
+    forms.sort_by_key(|form: &(usize, SchemaError)| form.0)?;
+    let mut errors = Vec::new(alloc);
+    for (_, error) in &forms {
+        errors.push(*error)?;
+    }
+    Ok(errors)
+}
+
+/// The error that refuses what is changed.
+fn refused_form(change: &Change) -> SchemaError {
+    let at = change.at as u64;
+    match change.form {
+        Form::ByteOrderMark | Form::EndOfText | Form::Version | Form::Abstract => {
+            SchemaError::Syntax(at)
+        }
+        _ => SchemaError::NotSupported(at),
     }
 }
 
-/// A device that failed, in a line: its path or name, and what the system says of it. Memory alone can fail.
-pub fn explain_device<'a>(
-    alloc: Global,
-    path: &'a str,
-    words: &'a str,
-    format: Format,
-) -> Result<String, AllocError>
-    ensures { IfOk result (λ text. IsPrinted (string_bytes text)) }
-{
-    let mut said = Said::new(alloc);
-    said.say((path, ": ", words))?;
-    in_a_line(alloc, path, b"", 0, b"Device", &said, format)
-}
-
-/// What is said in a line of a file, or of a place in its text.
-pub(crate) fn in_a_line(
+/// A change in a schema's text, which is mended, in a line with its place.
+pub fn explain_change(
     alloc: Global,
     path: &str,
-    text: &[u8],
-    place: u64,
-    kind: &[u8],
-    said: &Said,
+    lines: &mut Lines<'_>,
+    change: &Change,
     format: Format,
 ) -> Result<String, AllocError>
-    ensures { IfOk result (λ text. IsPrinted (string_bytes text)) }
+    // As for `explain_fault`.
+    ensures { IfOk result (λ printed. IsPrinted (string_bytes printed)) }
 {
-    if format == Format::Json {
-        return object(alloc, path, text, in_text(text, place), kind, said);
+    let at = change.at.min(lines.text().len());
+    let place = lines.place(at);
+    let mut said = Said::new(alloc);
+    if format == Format::Text {
+        said.say((path, ":", place.line as u64))?;
+        said.say((":", place.column as u64, ": "))?;
     }
-    let mut line = new_text(alloc);
-    push_line(&mut line, said.bytes())?;
-    Ok(line)
+    said.say(change.form.sentence())?;
+    let found = Finding {
+        path,
+        at,
+        reported: at as u64,
+        what: "schema",
+        kind: b"Mended",
+    };
+    print_line(alloc, lines, &found, &said, format)
 }
 
 /// The words of forms that are not supported, and what to do about each.
@@ -85,7 +127,7 @@ const FORMS: [(&str, &str); 7] = [
     ("REFERENCE", LONG_FORM),
     (
         "SUBTYPE_CONSTRAINT",
-        " Remove it, up to END_SUBTYPE_CONSTRAINT and its `;`: it does not affect conformance as it is checked here.",
+        " Remove it, up to END_SUBTYPE_CONSTRAINT and its `;`, and if it says ABSTRACT SUPERTYPE, write that at the entity: nothing else of it affects conformance as it is checked here.",
     ),
     (
         "EXTENSIBLE",
@@ -148,7 +190,7 @@ fn say_rule(said: &mut Said, text: &[u8], at: usize, error: &SchemaError) -> Res
     }
 }
 
-/// What to do about what begins a text and is not expected behind what stands before it.
+/// What to do about what begins a text and is not expected after what stands before it.
 fn syntax_advice(before: &[u8], rest: &[u8]) -> &'static str {
     if before.is_empty() {
         return instead_of_schema(rest).unwrap_or("");
@@ -167,7 +209,7 @@ fn syntax_advice(before: &[u8], rest: &[u8]) -> &'static str {
     }
 }
 
-/// Whether a text ends with a word, in either case, and so many words behind that.
+/// Whether a text ends with a word, in either case, and so many words after that.
 fn ends_with(text: &[u8], word: &[u8], behind: usize) -> bool {
     text.rsplit(|byte| byte.is_ascii_whitespace())
         .filter(|it| !it.is_empty())
@@ -185,7 +227,7 @@ fn form_advice(word: &[u8]) -> &'static str {
     " At most 64 aggregates may be nested: declare a TYPE for the inner ones."
 }
 
-/// Whether nothing stands between the word that begins a text and the semicolon behind it: under a type it then names another.
+/// Whether nothing stands between the word that begins a text and the semicolon after it: under a type it then names another.
 fn stands_alone(text: &[u8]) -> bool {
     let Some((_, behind)) = next_word(text) else {
         return false;
@@ -213,7 +255,7 @@ fn say_select_alone(
     said.say("`, which admits the same values.")
 }
 
-/// The place of the name that is declared behind TYPE.
+/// The place of the name that is declared after TYPE.
 fn type_at(text: &[u8], name: &[u8]) -> Option<usize> {
     let mut rest = text;
     let mut is_behind_type = false;

@@ -2,125 +2,133 @@
 
 ghost use Rattle.std.specs.Prelude.{IfOk};
 ghost use Rattle.std.specs.String.{string_bytes};
-ghost use Rattle.p21_explain.specs.Printed.{IsPrinted};
+ghost use Rattle.p21_printed.specs.Printed.{IsPrinted};
 
-use crate::explained::{Format, Subject, in_text, instance_at, printed};
+use crate::explained::{Subject, instance_at, printed};
 use crate::faults::say_record;
 use crate::instance::{Instance, Spot};
 use crate::references::say_named;
-use crate::refused::in_a_line;
-use crate::said::{Front, Said};
-use p21_rule_text::{PassedOver, RuleKind, Rules};
-use p21_rules::{InverseCount, InverseRule, NotUnique};
+use crate::rule::{BrokenInverse, BrokenUnique, Reason, RuleForm, UncheckedRule};
+use p21_printed::{Finding, Format, Front, Lines, Said, in_text, print_line};
 use p21_schema::AttrId;
 use p21_spelling::{Spellings, next_word};
 use std::alloc::{AllocError, Global};
 
-/// An instance that is not unique by one of the rules, explained as `explain_fault` explains a fault.
+/// An instance that breaks a rule UNIQUE, explained as `explain_fault` explains a fault.
 pub fn explain_not_unique(
     alloc: Global,
     subject: Subject<'_>,
-    rules: &Rules,
-    fault: &NotUnique,
+    lines: &mut Lines<'_>,
+    broken: &BrokenUnique<'_>,
     format: Format,
 ) -> Result<String, AllocError>
+    // As for `explain_fault`.
     ensures { IfOk result (λ text. IsPrinted (string_bytes text)) }
 {
     let mut said = Said::new(alloc);
-    let at = match instance_at(alloc, subject, fault.at)? {
-        Some(instance) => say_not_unique(&mut said, &instance, rules, fault)?,
-        None => in_text(subject.file, fault.at),
+    let at = match instance_at(alloc, subject, broken.at)? {
+        Some(instance) => say_not_unique(&mut said, &instance, broken)?,
+        None => in_text(subject.file, broken.at),
     };
-    printed(alloc, subject, fault.at, at, b"NotUnique", &said, format)
+    printed(
+        alloc,
+        subject,
+        lines,
+        broken.at,
+        at,
+        b"NotUnique",
+        &said,
+        format,
+    )
 }
 
 /// Adds which values an earlier instance has too, and by which rule; answers the place to look at.
 fn say_not_unique(
     said: &mut Said,
     instance: &Instance<'_>,
-    rules: &Rules,
-    fault: &NotUnique,
+    broken: &BrokenUnique<'_>,
 ) -> Result<usize, AllocError> {
-    let Some(rule) = rules.unique.get(fault.rule) else {
-        return Ok(instance.at);
-    };
     let subject = instance.subject;
-    let at = say_values(said, instance, &rule.attributes)?;
-    said.say((" of #", fault.earlier, " too, "))?;
-    say_named(said, subject, fault.earlier)?;
-    said.say((": rule ", spelling(&rules.labels, fault.rule), " of "))?;
-    said.say((
-        spelling(&subject.spellings.entities, rule.entity.place()),
-        ".",
-    ))?;
+    let at = say_values(said, instance, broken.attributes)?;
+    said.say((" of #", broken.earlier, " too, "))?;
+    say_named(said, subject, broken.earlier)?;
+    said.say((": rule ", broken.rule.label, " of "))?;
+    let entity = broken.rule.entity;
+    said.say((spelling(&subject.spellings.entities, entity.place()), "."))?;
     Ok(instance.at.saturating_add(at))
 }
 
-/// An instance to which too few or too many others refer, explained as `explain_fault` explains a fault.
+/// An instance that breaks the bounds of an INVERSE attribute, explained as `explain_fault` explains a fault. The text is that of the
+/// schema.
 pub fn explain_inverse_count(
     alloc: Global,
     subject: Subject<'_>,
-    schema_text: &[u8],
-    rules: &Rules,
-    fault: &InverseCount,
+    lines: &mut Lines<'_>,
+    text: &[u8],
+    broken: &BrokenInverse<'_>,
     format: Format,
 ) -> Result<String, AllocError>
+    // As for `explain_fault`.
     ensures { IfOk result (λ text. IsPrinted (string_bytes text)) }
 {
     let mut said = Said::new(alloc);
-    let at = match instance_at(alloc, subject, fault.at)? {
-        Some(instance) => say_inverse_count(&mut said, &instance, schema_text, rules, fault)?,
-        None => in_text(subject.file, fault.at),
+    let at = match instance_at(alloc, subject, broken.at)? {
+        Some(instance) => say_inverse_count(&mut said, &instance, text, broken)?,
+        None => in_text(subject.file, broken.at),
     };
-    printed(alloc, subject, fault.at, at, b"InverseCount", &said, format)
+    printed(
+        alloc,
+        subject,
+        lines,
+        broken.at,
+        at,
+        b"InverseCount",
+        &said,
+        format,
+    )
 }
 
 /// Adds how many refer to an instance, and how many may; answers the place to look at.
 fn say_inverse_count(
     said: &mut Said,
     instance: &Instance<'_>,
-    schema_text: &[u8],
-    rules: &Rules,
-    fault: &InverseCount,
+    text: &[u8],
+    broken: &BrokenInverse<'_>,
 ) -> Result<usize, AllocError> {
-    let Some(rule) = rules.inverse.get(fault.rule) else {
-        return Ok(instance.at);
-    };
     let spellings = instance.subject.spellings;
     say_record(said, instance, 0)?;
     said.say("; ")?;
     let from = said.len();
-    say_referring(said, rule, fault.count)?;
-    said.say(spelling(&spellings.attributes, rule.attribute.place()))?;
-    said.say((" of ", spelling(&spellings.entities, rule.source.place())))?;
+    say_referring(said, broken)?;
+    said.say(spelling(&spellings.attributes, broken.attribute.place()))?;
+    said.say((" of ", spelling(&spellings.entities, broken.source.place())))?;
     said.found = said.since(from);
-    let name = spelling(&rules.inverse_names, fault.rule);
     said.say(", and ")?;
-    say_attribute(said, spelled(schema_text, name))?;
-    let entity = spelling(&spellings.entities, rule.entity.place());
+    say_attribute(said, spelled(text, broken.rule.label))?;
+    let entity = spelling(&spellings.entities, broken.rule.entity.place());
     said.say((" of ", entity, " asks for "))?;
-    say_bounds(said, rule)?;
+    say_bounds(said, broken)?;
     Ok(instance.at)
 }
 
 /// Adds how many refer to an instance, in front of the attribute by which they do.
-fn say_referring(said: &mut Said, rule: &InverseRule, count: u64) -> Result<(), AllocError> {
-    let refer = match (rule.is_bag, count) {
+fn say_referring(said: &mut Said, broken: &BrokenInverse<'_>) -> Result<(), AllocError> {
+    let refer = match (broken.is_bag, broken.count) {
         (true, 1) => " reference to it is in ",
         (true, _) => " references to it are in ",
         (false, 1) => " instance refers to it by ",
         (false, _) => " instances refer to it by ",
     };
-    said.say((count, refer))
+    said.say((broken.count, refer))
 }
 
 /// Adds what the bounds of a rule ask for.
-fn say_bounds(said: &mut Said, rule: &InverseRule) -> Result<(), AllocError> {
-    match rule.high {
-        None => said.say(("at least ", rule.low, ".")),
-        Some(high) if high == rule.low => said.say(("exactly ", high, ".")),
-        Some(high) if rule.low == 0 => said.say(("at most ", high, ".")),
-        Some(high) => said.say((rule.low, " to ", high, ".")),
+fn say_bounds(said: &mut Said, broken: &BrokenInverse<'_>) -> Result<(), AllocError> {
+    match broken.high {
+        None => said.say(("at least ", broken.low, ".")),
+        Some(high) if high == broken.low => said.say(("exactly ", high, ".")),
+        Some(high) if broken.low == 0 => said.say(("at most ", high, ".")),
+        Some(high) => said.say((broken.low, " to ", high, ".")),
     }
 }
 
@@ -169,42 +177,79 @@ pub fn explain_passed_over(
     path: &str,
     text: &[u8],
     spellings: &Spellings,
-    rule: &PassedOver,
+    unchecked: &UncheckedRule<'_>,
     format: Format,
 ) -> Result<String, AllocError>
+    // As for `explain_fault`.
     ensures { IfOk result (λ text. IsPrinted (string_bytes text)) }
 {
     let mut said = Said::new(alloc);
     said.say((path, ": "))?;
-    match rule.kind {
-        RuleKind::Unique => said.say(("rule ", rule.label.as_slice()))?,
-        RuleKind::Inverse => {
+    match unchecked.rule.form {
+        RuleForm::Unique => said.say(("rule ", unchecked.rule.label))?,
+        RuleForm::Inverse => {
             said.say("INVERSE attribute ")?;
-            say_attribute(&mut said, spelled(text, &rule.label))?;
+            say_attribute(&mut said, spelled(text, unchecked.rule.label))?;
         }
     }
     said.say(" of ")?;
     let from = said.len();
-    said.say(spelling(&spellings.entities, rule.entity.place()))?;
+    said.say(spelling(&spellings.entities, unchecked.rule.entity.place()))?;
     said.entity = said.since(from);
-    said.say(" was not checked: ")?;
-    say_why(&mut said, text, rule)?;
-    in_a_line(alloc, path, text, rule.at, b"NotChecked", &said, format)
+    said.say(" was not checked")?;
+    say_reason(&mut said, text, unchecked)?;
+    let found = Finding {
+        path,
+        at: in_text(text, unchecked.at),
+        reported: unchecked.at,
+        what: "rule",
+        kind: b"NotChecked",
+    };
+    print_line(alloc, &mut Lines::new(text), &found, &said, format)
 }
 
-/// Adds why a rule was not checked.
-fn say_why(said: &mut Said, text: &[u8], rule: &PassedOver) -> Result<(), AllocError> {
-    if rule.attribute.is_empty() {
-        return said.say("its bounds are not numbers.");
-    }
-    let attribute = spelled(text, &rule.attribute);
-    match rule.kind {
-        RuleKind::Unique => {
-            said.say("its attribute ")?;
-            say_attribute(said, attribute)?;
+/// Adds why a rule was not checked, and of a rule UNIQUE in which instances, where it was in others.
+fn say_reason(
+    said: &mut Said,
+    text: &[u8],
+    unchecked: &UncheckedRule<'_>,
+) -> Result<(), AllocError> {
+    let form = unchecked.rule.form;
+    match unchecked.reason {
+        Reason::NoNumbers => said.say(": its bounds are not numbers."),
+        Reason::NotExplicit { attribute } => {
+            said.say(": ")?;
+            say_its_attribute(said, text, form, attribute)?;
             said.say(" is derived or inverse.")
         }
-        RuleKind::Inverse => said.say(("it is FOR ", attribute, ", which is derived or inverse.")),
+        Reason::DerivedBy { attribute, subtype } => {
+            let entity = spelled(text, subtype);
+            if form == RuleForm::Unique {
+                said.say((" in instances of ", entity))?;
+            }
+            said.say(": ")?;
+            say_its_attribute(said, text, form, attribute)?;
+            match form {
+                RuleForm::Unique => said.say(" is derived there."),
+                RuleForm::Inverse => said.say((" is derived in instances of ", entity, ".")),
+            }
+        }
+    }
+}
+
+/// Adds the attribute of a rule, in front of what it is: `its attribute Id`, or `it is FOR Parts, which`.
+fn say_its_attribute(
+    said: &mut Said,
+    text: &[u8],
+    form: RuleForm,
+    name: &[u8],
+) -> Result<(), AllocError> {
+    match form {
+        RuleForm::Unique => {
+            said.say("its attribute ")?;
+            say_attribute(said, spelled(text, name))
+        }
+        RuleForm::Inverse => said.say(("it is FOR ", spelled(text, name), ", which")),
     }
 }
 

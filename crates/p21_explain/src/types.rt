@@ -1,8 +1,8 @@
 //! Types in EXPRESS.
 
 use crate::explained::Subject;
-use crate::said::{Said, article};
 use p21_express::{Declarations, TypeDecl, TypeExpr, Under};
+use p21_printed::{Said, article};
 use p21_schema::{Bounds, Resolved, ResolvedExpr, Schema, Width};
 use std::alloc::AllocError;
 
@@ -113,7 +113,7 @@ fn say_under<'a>(
 }
 
 /// Adds names in parentheses, of very many the first alone: as the schema of the subject spells them, or as they are.
-fn say_names(
+pub(crate) fn say_names(
     said: &mut Said,
     subject: Option<Subject<'_>>,
     names: &[Vec<u8>],

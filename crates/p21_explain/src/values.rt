@@ -2,8 +2,8 @@
 
 ghost use Rattle.std.specs.Prelude.{◌≤◌, length};
 
-use crate::said::{Front, Said};
 use crate::walk::Walk;
+use p21_printed::{Front, Said};
 use p21_text::{Lexed, Token, binary_bits, next_token, string_len};
 use std::alloc::AllocError;
 
@@ -58,7 +58,7 @@ fn say_count(said: &mut Said, count: u64, one: &str, several: &str) -> Result<()
 }
 
 /// How many elements the list has whose parenthesis stands at a place.
-fn element_count(text: &[u8], at: usize) -> u64
+pub(crate) fn element_count(text: &[u8], at: usize) -> u64
     requires { at ≤ length text.now }
 {
     let mut walk = Walk::new(text, at);

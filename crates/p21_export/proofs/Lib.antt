@@ -1,3 +1,2 @@
 pub mod ModelLemmas
-pub mod RefusalLemmas
 pub mod SpellingLemmas

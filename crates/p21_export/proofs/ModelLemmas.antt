@@ -1,5 +1,6 @@
 -- The instances of a file that was read name entities, and lines that are written part by part.
-use Rattle.std.proofs.Common.{◌≡◌, ◌⊎◌, ℕ, Bool, true, false, List, [], ◌∷◌, ◌++◌, Ok, Option, None, inl, inr, ◌+◌, ◌≤◌, length, take, drop, map, refl, sym, ap, subst, ◌∙◌, ⊎_elim, ◌*◌, arith}
+use Rattle.std.proofs.Common.{◌≡◌, ◌⊎◌, ℕ, Bool, true, false, List, [], ◌∷◌, ◌++◌, Result, Ok, Err, Option, None, inl, inr, ◌+◌, ◌≤◌, length, take, drop, map, refl, sym, ap, subst, ◌∙◌, ⊎_elim, ◌*◌, arith}
+use Rattle.std.specs.Prelude.{IfErr, OnOk}
 use Rattle.std.specs.List.{AllByRecursion}
 use Rattle.std.specs.Fork.{slice_chunk}
 use Rattle.std.specs.Str.{bytes_eq}
@@ -13,6 +14,9 @@ use Rattle.p21_express.specs.WellFormed.{IsIn, IsEntity}
 use Rattle.p21_tree.specs.Grammar.{Entry}
 use Rattle.p21_tree.specs.declared.instances.RawInstance.{RawInstance}
 use Rattle.p21_tree.specs.Sentence.{Instance}
+use Rattle.p21_tree.specs.declared.faults.Fault.{Fault}
+use Rattle.p21_reader.specs.Laws.{HasOneReadingAtMost}
+use Rattle.p21_reader.specs.LocalFault.{IsLocalFaultOfFile, IsOpeningFault}
 use Rattle.p21_tree.specs.Views.{plain_instance}
 use Rattle.p21_tree.specs.declared.faults.FaultKind.TheVariants as kind
 use Rattle.p21_reader.specs.InstanceFault.{HaveNoFault, IsInstanceFault}
@@ -22,6 +26,12 @@ use Rattle.p21_reader.specs.Reading as reading
 use Rattle.p21_json.specs.Instances.{AreKnown}
 use Rattle.p21_json.specs.Lines.{AreLines}
 use Rattle.p21_json.specs.Lines as lines
+use Rattle.p21_run.specs.Due.{most_calls}
+use Rattle.p21_run.specs.Run.{Change, IsTold}
+use Rattle.p21_run.specs.declared.outcome.Outcome.{Outcome}
+use Rattle.p21_run.specs.declared.input.InputError.{InputError}
+use Rattle.p21_run.specs.declared.input.InputError.TheVariants as error
+use Rattle.p21_export.specs.Export.{HasLongLines, IsLeft, IsLong}
 
 by_test : (b : Bool) (n m : List ℕ) → bytes_eq n m ≡ b → (n ≡ m) ⊎ ¬ (n ≡ m)
 by_test true n m e = inl ((bytes_eq-Decides n m).0 e)
@@ -55,7 +65,7 @@ known_from s all earlier (i ∷ later) e h =
 pub known_read : (s : Schema) (file : List ℕ) (is : List Instance) → IsReading s file (Ok is) → AllByRecursion (λ i. AreKnown s i.records) is
 known_read s file is (reading.read local answered) = known_from s is [] is refl local.faultless
 
--- lines, and lines behind them
+-- lines, and lines after them
 pub lines_then : (s : Schema) (is js : List Instance) (text more : List ℕ) → AreLines s is text → AreLines s js more → AreLines s (is ++ js) (text ++ more)
 lines_then s [] js [] more lines.none k = k
 lines_then s [] js (_ ∷ _) more h k = elim h [ ]
@@ -130,3 +140,60 @@ pub chunks_more : (s : Schema) (a b c : Option (List ℕ)) (is : List RawInstanc
 chunks_more s a b c is size i text w ls t =
     let next : i * size + size ≡ (i + 1) * size = omega arith in
     subst (λ (l : List RawInstance). WrittenUpTo s a c (map plain_instance is) (map plain_instance l)) (drop-drop size (i * size) is ∙ ap (λ (n : ℕ). drop n is) next) (written_more s a b c (map plain_instance is) (drop (i * size) is) size text w ls t)
+
+-- ---- lines that are long
+
+whole_assoc : (a b c d e : List Instance) → a ++ ((b ++ (c ++ d)) ++ e) ≡ (a ++ b) ++ (c ++ (d ++ e))
+whole_assoc a b c d e = simp append_assoc
+
+-- lines of some instances that are long
+pub long_whole : (s : Schema) (is : List Instance) (text : List ℕ) → AreLines s is text → most_calls ≤ length text → HasLongLines s is
+long_whole s is text are long = record { before = []; part = is; behind = []; parts = sym (append-nil is); lines = text; are_lines = are; long = long }
+
+-- long lines of a part are ones of the whole
+pub long_part : (s : Schema) (is : List RawInstance) (start len : ℕ) → HasLongLines s (map plain_instance (take len (drop start is))) → HasLongLines s (map plain_instance is)
+long_part s is start len h =
+    let front = map plain_instance (take start is) in
+    let back = map plain_instance (drop len (drop start is)) in
+    record {
+      before = front ++ h.before;
+      part = h.part;
+      behind = h.behind ++ back;
+      parts = split is start ∙ ap (λ (l : List Instance). front ++ l) (split (drop start is) len ∙ ap (λ (l : List Instance). l ++ back) h.parts) ∙ whole_assoc front h.before h.part h.behind back;
+      lines = h.lines;
+      are_lines = h.are_lines;
+      long = h.long;
+    }
+
+pub long_chunk : (s : Schema) (is : List RawInstance) (size n : ℕ) (text : List ℕ) → AreLines s (map plain_instance (slice_chunk is size n)) text → most_calls ≤ length text → HasLongLines s (map plain_instance is)
+long_chunk s is size n text are long = long_part s is (n * size) size (long_whole s (map plain_instance (slice_chunk is size n)) text are long)
+
+-- ---- what stands before the instances
+
+pub ok_both : {T E : Type 0} (A B : Type 0) (r : Result T E) → OnOk r A → OnOk r B → OnOk r (A × B)
+ok_both A B (Ok x) a b = (a, b)
+ok_both A B (Err e) a b = tt
+
+abbrev failure : {T E : Type 0} → Result T E → E → E
+failure (Ok x) other = other
+failure (Err e) other = e
+
+-- the writer is left so where a call of the last writer's fails
+pub left_of : {T K : Type 0} (failed marked : K → Bool) (s : Schema) (file : List ℕ) (old mid new : K) (r : Result T InputError) → failed mid ≡ failed old → (failed mid ≡ false → failed new ≡ true → r ≡ Err error.Device) → IfErr r (λ e. e ≡ error.Device → marked new ≡ false → IsLong s file) → IfErr r (IsLeft failed marked s file old new)
+left_of failed marked s file old mid new (Ok x) same fails why = tt
+left_of failed marked s file old mid new (Err e) same fails why = record { failing = λ was is. ap (λ r. failure r e) (fails (same ∙ was) is); why = why }
+
+pub on_err : {T E : Type 0} {P Q : E → Type 0} (r : Result T E) → ((e : E) → P e → Q e) → IfErr r P → IfErr r Q
+on_err (Ok x) f holds = holds
+on_err (Err e) f holds = f e holds
+
+ok_err : {T E : Type 0} {x : T} {e : E} → ◌≡◌ {A = Result T E} (Ok x) (Err e) → ⊥
+ok_err e = cc
+
+-- a file with a model has no fault before its instances
+pub no_opening_fault : (s : Schema) (file : List ℕ) (is : List Instance) (f : Fault) → HasOneReadingAtMost s file → IsReading s file (Ok is) → IsOpeningFault s file f → ⊥
+no_opening_fault s file is f one whole bad = ok_err (one (Ok is) (Err f) whole (reading.local (IsLocalFaultOfFile.in_opening bad)))
+
+-- what is told of a text is told of an equal one
+pub told_of : {K : Type 0} {out : Change K} {a b : List ℕ} {due o : Outcome} → a ≡ b → IsTold out a due o → IsTold out b due o
+told_of {K} {out} {a} {b} {due} {o} e told = subst (λ x. IsTold out x due o) e told

@@ -1,25 +1,26 @@
 //! Writing a model.
 
-ghost use Rattle.std.specs.Prelude.{◌≡◌, ◌+◌, ◌<◌, ◌≤◌, ℕ, List, Ok, Err, IfOk, OnOk, drop, false, length, map, take, true};
+ghost use Rattle.std.specs.Prelude.{◌≡◌, ◌+◌, ◌<◌, ◌≤◌, ℕ, List, Ok, Err, IfErr, IfOk, OnOk, drop, false, length, map, take, true};
 ghost use Rattle.std.specs.Fork.{slice_chunk};
 ghost use Rattle.std.specs.Io.KnownBytes.{Appends};
 ghost use Rattle.std.specs.List.{AllByRecursion};
-ghost use Rattle.p21_tree.specs.Texts.{BeginsPreface};
 ghost use Rattle.p21_tree.specs.Views.{plain_instance, plain_preface};
 ghost use Rattle.p21_reader.specs.Reading.{IsReading};
 ghost use Rattle.p21_spelling.specs.Spelled.{AreSpelled};
+ghost use Rattle.p21_run.specs.Due.{most_calls};
 ghost use Rattle.p21_run.specs.declared.input.InputError.TheVariants.{Device};
 ghost use Rattle.p21_json.specs.Header.{IsHeaderParts};
 ghost use Rattle.p21_json.specs.Instances.{AreKnown};
 ghost use Rattle.p21_json.specs.Lines.{AreLines, IsLineOf};
-ghost use Rattle.p21_export.specs.Export.{IsExport};
+ghost use Rattle.p21_export.specs.Export.{HasLongLines, IsLeft, IsWritten};
 
+use crate::preface::preface_of_model;
 use p21_desk::LaneCount;
 use p21_json::{Terms, write_header, write_lines};
 use p21_run::{InputError, OutputError, Sink, WRITE_CALLS, write_bounded};
 use p21_schema::Schema;
 use p21_spelling::Spellings;
-use p21_tree::{Preface, RawInstance, TreeError, read_preface};
+use p21_tree::{Preface, RawInstance};
 use std::alloc::{AllocError, Global};
 use std::thread::{Threads, map_indices};
 
@@ -40,25 +41,13 @@ pub(crate) fn write_model<R: Threads + Sync, K: Sink>(
 ) -> Result<(), InputError>
     requires spelled { AreSpelled schema.now spelled.now }
     requires read { IsReading schema.now file.now (Ok (map plain_instance instances.now)) }
-    ensures written { OnOk result ((text : List ℕ) × (IsExport schema.now file.now text × Appends (K.taken out.old) (K.taken out.new) text)) }
-    ensures unfailed { OnOk result (K.failed out.new ≡ K.failed out.old) }
-    ensures failed { K.failed out.old ≡ false → K.failed out.new ≡ true → result ≡ Err Device }
+    ensures written { OnOk result (IsWritten K.failed K.taken schema.now file.now out.old out.new) }
+    ensures left { IfErr result (IsLeft K.failed K.marked schema.now file.now out.old out.new) }
 {
     let terms = Terms::new(alloc, schema, spelled)?;
-    let preface = preface_of(alloc, file)?;
+    let preface = preface_of_model(alloc, schema, file)?;
     write_first(alloc, &terms, &preface, out)?;
     write_others(rt, alloc, &terms, instances, lanes, out)
-}
-
-/// What stands before the instances of a file that was read.
-fn preface_of<'a>(alloc: Global, file: &'a [u8]) -> Result<Preface<'a>, InputError>
-    ensures { IfOk result (λ preface. BeginsPreface file.now (plain_preface preface) × (3 ≤ length preface.entities.items)) }
-{
-    match read_preface(alloc, file) {
-        Ok(preface) if preface.entities.len() >= 3 => Ok(preface),
-        Ok(_) | Err(TreeError::Grammar(_)) => Err(InputError::Device),
-        Err(TreeError::Memory) => Err(InputError::Memory),
-    }
 }
 
 /// Writes the line of a header.
@@ -72,6 +61,7 @@ fn write_first<K: Sink>(
     ensures written { OnOk result ((first : List ℕ) × (IsLineOf terms.now (IsHeaderParts (plain_preface preface.now)) first × Appends (K.taken out.old) (K.taken out.new) first)) }
     ensures unfailed { OnOk result (K.failed out.new ≡ K.failed out.old) }
     ensures failed { K.failed out.old ≡ false → K.failed out.new ≡ true → result ≡ Err Device }
+    ensures cause { IfErr result (λ e. e ≡ Device → K.marked out.new ≡ false → (line : List ℕ) × IsLineOf terms.now (IsHeaderParts (plain_preface preface.now)) line × (most_calls ≤ length line)) }
 {
     let text = write_header(alloc, terms, preface)?;
     write(out, text.as_slice())
@@ -90,6 +80,7 @@ fn write_others<R: Threads + Sync, K: Sink>(
     ensures written { OnOk result ((others : List ℕ) × (AreLines terms.now (map plain_instance instances.now) others × Appends (K.taken out.old) (K.taken out.new) others)) }
     ensures unfailed { OnOk result (K.failed out.new ≡ K.failed out.old) }
     ensures failed { K.failed out.old ≡ false → K.failed out.new ≡ true → result ≡ Err Device }
+    ensures cause { IfErr result (λ e. e ≡ Device → K.marked out.new ≡ false → HasLongLines terms.now (map plain_instance instances.now)) }
 {
     let mut start = 0;
     while start < instances.len() {
@@ -131,6 +122,7 @@ fn write_round<R: Threads + Sync, K: Sink>(
     ensures written { OnOk result ((lines : List ℕ) × (AreLines terms.now (map plain_instance instances.now) lines × Appends (K.taken out.old) (K.taken out.new) lines)) }
     ensures unfailed { OnOk result (K.failed out.new ≡ K.failed out.old) }
     ensures failed { K.failed out.old ≡ false → K.failed out.new ≡ true → result ≡ Err Device }
+    ensures cause { IfErr result (λ e. e ≡ Device → K.marked out.new ≡ false → HasLongLines terms.now (map plain_instance instances.now)) }
 {
     let size = instances.len().div_ceil(lanes.get() as usize).max(1);
     let part = move |number: usize| -> Result<Vec<u8>, AllocError>
@@ -165,10 +157,11 @@ fn lines_of_part(
 }
 
 /// Writes a text.
-pub(crate) fn write<K: Sink>(out: &mut K, text: &[u8]) -> Result<(), InputError>
+fn write<K: Sink>(out: &mut K, text: &[u8]) -> Result<(), InputError>
     ensures written { OnOk result (Appends (K.taken out.old) (K.taken out.new) text.now) }
     ensures unfailed { OnOk result (K.failed out.new ≡ K.failed out.old) }
     ensures failed { K.failed out.old ≡ false → K.failed out.new ≡ true → result ≡ Err Device }
+    ensures cause { IfErr result (λ e. e ≡ Device → K.marked out.new ≡ false → most_calls ≤ length text.now) }
 {
     match write_bounded(out, text, WRITE_CALLS) {
         Ok(()) => Ok(()),

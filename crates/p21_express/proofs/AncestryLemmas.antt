@@ -109,7 +109,7 @@ module _ (s : Schema) (d : AreDistinct (declared_names s)) (unknown : HasNoUnkno
   is_entity (Leads.more h l) = is_entity l
 
   module _ (cycles : HasNoCycle (IsSupertype s)) (table : Bits) (ancestry : IsAncestry s table) (position : ℕ) (e : List ℕ) (here : IsEntityAt s position e) (r : Redeclaration) where
-    -- the ancestor behind SELF is none
+    -- the ancestor after SELF is none
     pub no_entity : IsPosition (IsEntityAt s) r.of None → (i : ℕ) → ¬ (IsAgainAt s e r i)
     no_entity none i h = let x = is_entity h.again.ancestor in none x.0 x.1
 

@@ -1,4 +1,4 @@
--- BASED_ON behind ENUMERATION or SELECT.
+-- BASED_ON after ENUMERATION or SELECT.
 use Rattle.std.proofs.Common.{◌≡◌, true, List, [], ◌∷◌, None, refl}
 use Rattle.std.specs.Prelude.{codes}
 use Rattle.p21_express.specs.Word.{Word, begins_name}

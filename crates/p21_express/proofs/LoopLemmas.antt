@@ -56,7 +56,7 @@ module _ {X : Type 0} (stops : List Word → Bool) (item : List Word → Option 
   pub is_done : (rest : List Word) (so_far : List X) → Going stops item whole rest so_far → stops rest ≡ true → many_at stops item whole ≡ Some (so_far, rest)
   is_done rest so_far g go = done-fuel rest so_far g.fuel g.enough go g.same
 
--- a first one, and others behind it
+-- a first one, and others after it
 abbrev pub list_at : {X : Type 0} → (List Word → Bool) → (List Word → Option (X × List Word)) → Option (X × List Word) → Option (List X × List Word)
 list_at stops item start = start >>= λ x. many_at stops item x.1 >>= λ xs. Some (x.0 ∷ xs.0, xs.1)
 

@@ -73,7 +73,7 @@ pub met_more : {X Y : Type 0} (before after : Option Y) (places : BTreeMap (Bor 
 met_more {X} before after places name_of xs i x lt is met =
     subst (HasMet before after places) (sym (map_more name_of xs i x lt ∙ ap (λ (z : X). map name_of (take i xs) ++ name_of z ∷ []) (sym is))) met
 
--- one more declaration, behind others
+-- one more declaration, after others
 pub declared_more : {X Y Z : Type 0} (before after : Option Y) (places : BTreeMap (Bor (List ℕ)) ℕ) (plain_of : X → Z) (name_of : Z → List ℕ) (front : List (List ℕ)) (xs : List X) (i : ℕ) (x : X) → i < length xs → x ≡ get_or xs i x → HasMet before after places ((front ++ map name_of (map plain_of (take i xs))) ++ name_of (plain_of x) ∷ []) → HasMet before after places (front ++ map name_of (map plain_of (take (i + 1) xs)))
 declared_more {X} before after places plain_of name_of front xs i x lt is met =
     let so_far = map plain_of (take i xs) in

@@ -63,7 +63,7 @@ ended_none : (ws : List source.Word) (s : Option Schema) → eqb (length ws) 0 �
 ended_none [] s h = absurd cc
 ended_none (w ∷ ws) s h = refl
 
--- words behind the end
+-- words after the end
 pub schema_trailing : (ws first behind mid last : List Word) (n : List ℕ) (x : List Entity × List Defined) (rest : List source.Word) → word_at (codes "SCHEMA") ws ≡ Some first → name_at first ≡ Some (n, behind) → declarations_at behind ≡ Some (x, mid) → word_at (codes "END_SCHEMA") mid ≡ Some last → symbol_at 59 last ≡ Some (words_of rest) → eqb (length rest) 0 ≡ false → schema_at ws ≡ None
 unfolding schema_at
 schema_trailing ws first behind mid last n x rest a b c d e f = rw (a, b, c, d, e) (ended_none rest _ f)

@@ -76,7 +76,7 @@ falls_left (mark.Finished ∷ ms) [] (suc v) h = falls_left ms [] v h
 falls_left (mark.Finished ∷ ms) (ns ∷ g) (suc v) h = falls_left ms g v h
 
 module _ (g : List (List ℕ)) (ms : List Mark) (rest : List (ℕ × ℕ)) (finished : List ℕ) (c : Bool) (v taken : ℕ) where
-  -- before the last vertex was taken from the way, and behind
+  -- before the last vertex was taken from the way, and after it
   abbrev pub whole : State
   whole = record { marks = ms; way = (v, taken) ∷ rest; finished = finished; is_cyclic = c }
 

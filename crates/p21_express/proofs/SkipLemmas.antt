@@ -1,4 +1,4 @@
--- Words that are passed over: what is read is in the grammar, and what is in the grammar is read.
+-- Words that are skipped: what is read is in the grammar, and what is in the grammar is read.
 use Rattle.std.proofs.Common.{◌≡◌, ℕ, zero, suc, ◌-◌, ◌<◌, Bool, true, false, List, [], ◌∷◌, ◌++◌, length, take, Option, Some, refl, sym, ap, subst, ◌∙◌, arith, ◌||◌}
 use Rattle.std.proofs.Math.Seq.{take-append_seam}
 use Rattle.std.proofs.lemmas.List.{length-append}

@@ -124,7 +124,7 @@ pub unknown_misfit : (s : Schema) (u : Unfit) → HasNoRepeated s → OnUnfit u 
 unknown_misfit s unfit.Memory r h = tt
 unknown_misfit s (unfit.Found m left) r h = names_misfit s m r h
 
--- the last check, behind the others
+-- the last check, after the others
 pub checked : (s : Schema) (r : Result (Unit {0}) Unfit) → HasNoRepeated s → HasNoUnknown s → HasNoCycles s → MatchResult r (λ _. AllByRecursion (IsRedeclaring s) s.entities) (λ e. OnUnfit e (Only misfit.BadRedeclaration (¬ (AllByRecursion (IsRedeclaring s) s.entities)))) → MatchResult r (λ _. IsWellFormed s) (λ e. OnUnfit e (IsMisfit s))
 checked s (Ok x) repeated unknown cycles h = record { repeated = repeated; unknown = unknown; cycles = cycles; redeclared = h }
 checked s (Err e) repeated unknown cycles h = only_misfit s misfit.BadRedeclaration (¬ (AllByRecursion (IsRedeclaring s) s.entities)) e (λ n. (repeated, unknown, cycles, n)) h

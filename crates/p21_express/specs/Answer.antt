@@ -23,7 +23,7 @@ HasNoForm text = (s : Schema) → IsForm text s → ⊥
 abbrev pub HasNoReading : List ℕ → Type 0
 HasNoReading text = (s : Schema) → IsReading text s → ⊥
 
--- what an error says of the text: for want of memory nothing
+-- what an error says of the text: for lack of memory nothing
 abbrev pub OnRefusal : SchemaError → Type 0 → Type 0
 OnRefusal (errors.Syntax at) P = P
 OnRefusal (errors.NotSupported at) P = P

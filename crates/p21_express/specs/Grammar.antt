@@ -1,4 +1,4 @@
--- The grammar of a schema: some words are such a thing, and others stand behind it. A word is the grammar's
+-- The grammar of a schema: some words are such a thing, and others stand after it. A word is the grammar's
 -- exactly at a place where a rule names it; anywhere else it is a name.
 use Rattle.std.specs.Prelude.{◌≡◌, ℕ, suc, Bool, true, false, List, [], ◌∷◌, ◌++◌, Option, Some, None, if◌then◌else◌, ◌||◌, codes, ℤ, pos, neg_ℤ}
 use Rattle.p21_express.specs.declared.declarations.Bounds.{Bounds}
@@ -17,9 +17,9 @@ pub data Many {X : Type 0} (stops : List Word → Bool) (Item : List Word → X 
   none : {ws : List Word} → stops ws ≡ true → Many stops Item ws [] ws
   more : {ws mid rest : List Word} {x : X} {xs : List X} → stops ws ≡ false → Item ws x mid → Many stops Item mid xs rest → Many stops Item ws (x ∷ xs) rest
 
--- ---- words that are passed over
+-- ---- words that are skipped
 
--- The words up to the first `stop` outside brackets, of which so many are open, and those behind it. Round and square
+-- The words up to the first `stop` outside brackets, of which so many are open, and those after it. Round and square
 -- brackets are counted together; one that closes none of them does not fit.
 pub data UpTo (stop : ℕ) : ℕ → List Word → List Word → List Word → Type 0 where
   stops : {rest : List Word} → UpTo stop 0 (symbol stop ∷ rest) [] rest
@@ -28,12 +28,12 @@ pub data UpTo (stop : ℕ) : ℕ → List Word → List Word → List Word → T
   outside : {w : Word} {ws tokens rest : List Word} → is_opening w ≡ false → is_closing w ≡ false → is_symbol stop w ≡ false → UpTo stop 0 ws tokens rest → UpTo stop 0 (w ∷ ws) (w ∷ tokens) rest
   inside : {depth : ℕ} {w : Word} {ws tokens rest : List Word} → is_opening w ≡ false → is_closing w ≡ false → UpTo stop (suc depth) ws tokens rest → UpTo stop (suc depth) (w ∷ ws) (w ∷ tokens) rest
 
--- the word opens one more of what is passed over, where there is such a word
+-- the word opens one more of what is skipped, where there is such a word
 abbrev pub is_again : Option (List ℕ) → Word → Bool
 is_again None w = false
 is_again (Some n) w = is_name n w
 
--- The words behind the name that ends what is passed over. So many more of its kind are open.
+-- The words after the name that ends what is skipped. So many more of its kind are open.
 pub data Ends (again : Option (List ℕ)) (last : List ℕ) : ℕ → List Word → List Word → Type 0 where
   ends : {rest : List Word} → Ends again last 0 (name last ∷ rest) rest
   closes : {depth : ℕ} {ws rest : List Word} → Ends again last depth ws rest → Ends again last (suc depth) (name last ∷ ws) rest
@@ -74,7 +74,7 @@ bound_from None minus = None
 bound_from (Some n) true = Some (neg_ℤ (pos n))
 bound_from (Some n) false = Some (pos n)
 
--- the bound that some words give: one integer, perhaps behind one sign
+-- the bound that some words give: one integer, perhaps after one sign
 abbrev pub bound_of : List Word → Option ℤ
 bound_of [] = None
 bound_of (w ∷ []) = bound_from (value_of w) false
@@ -129,12 +129,12 @@ pub data NamesAre : List Word → List (List ℕ) → List Word → Type 0 where
 
 -- ---- entities
 
--- an attribute's name, and the entity behind SELF where it is declared again
+-- an attribute's name, and the entity after SELF where it is declared again
 pub record Naming : Type 0 where
   pub name : List ℕ
   pub of : Option (List ℕ)
 
--- attr = id | SELF '\' id '.' id; no RENAMED stands behind the second form
+-- attr = id | SELF '\' id '.' id; no RENAMED stands after the second form
 pub data NamingIs : List Word → Naming → List Word → Type 0 where
   new : {n : List ℕ} {rest : List Word} → is_name (codes "SELF") (name n) ≡ false → NamingIs (name n ∷ rest) (record { name = n; of = None }) rest
   again : {n e : List ℕ} {rest : List Word} → begins_name (codes "RENAMED") rest ≡ false → NamingIs (name (codes "SELF") ∷ symbol 92 ∷ name e ∷ symbol 46 ∷ name n ∷ rest) (record { name = n; of = Some e }) rest
@@ -166,7 +166,7 @@ begins_rules [] = false
 begins_rules (name n ∷ ws) = is_rules_word n || is_name (codes "END_ENTITY") (name n)
 begins_rules (_ ∷ ws) = false
 
--- the words go on with what stands behind the explicit attributes of an entity
+-- the words go on with what stands after the explicit attributes of an entity
 abbrev pub ends_attributes : List Word → Bool
 ends_attributes ws = begins_name (codes "DERIVE") ws || begins_rules ws
 
@@ -197,7 +197,7 @@ abbrev pub joined : List (List Attribute) → List Attribute
 joined [] = []
 joined (xs ∷ xss) = xs ++ joined xss
 
--- an entity behind the word ENTITY
+-- an entity after the word ENTITY
 pub data EntityIs : List Word → Entity → List Word → Type 0 where
   made : {n : List ℕ} {ws subtype body derive rules rest : List Word} {abstract : Bool} {supertypes : List (List ℕ)} {attributes : List (List Attribute)} {derived : List Derived} → SupertypeIs ws abstract subtype → SubtypeIs subtype supertypes (symbol 59 ∷ body) → Many ends_attributes AttributesAre body attributes derive → DerivesAre derive derived rules → RulesEnd rules (symbol 59 ∷ rest)
       → EntityIs (name n ∷ ws) (record { name = n; is_abstract = abstract; supertypes = supertypes; attributes = joined attributes; derived = derived }) rest
@@ -215,7 +215,7 @@ pub data TypeEnds : List Word → List Word → Type 0 where
   none : {rest : List Word} → TypeEnds (name (codes "END_TYPE") ∷ rest) rest
   some : {ws rest : List Word} → Ends None (codes "END_TYPE") 0 ws rest → TypeEnds (name (codes "WHERE") ∷ ws) rest
 
--- a type behind the word TYPE
+-- a type after the word TYPE
 pub data TypeIs : List Word → Defined → List Word → Type 0 where
   made : {n : List ℕ} {ws mid rest : List Word} {u : Underlying} → UnderIs ws u (symbol 59 ∷ mid) → TypeEnds mid (symbol 59 ∷ rest) → TypeIs (name n ∷ symbol 61 ∷ ws) (record { name = n; under = u }) rest
 
@@ -247,6 +247,6 @@ types_of (an_entity e ∷ ds) = types_of ds
 types_of (a_type t ∷ ds) = t ∷ types_of ds
 types_of (skipped ∷ ds) = types_of ds
 
--- schema = SCHEMA id ';' { decl } END_SCHEMA ';', and no words behind it. A text sets no rule.
+-- schema = SCHEMA id ';' { decl } END_SCHEMA ';', and no words after it. A text sets no rule.
 pub data SchemaIs : List Word → Schema → Type 0 where
   made : {n : List ℕ} {ws : List Word} {ds : List Declaration} → Many (begins_name (codes "END_SCHEMA")) DeclarationIs ws ds (name (codes "END_SCHEMA") ∷ symbol 59 ∷ []) → SchemaIs (name (codes "SCHEMA") ∷ name n ∷ symbol 59 ∷ ws) (record { name = n; entities = entities_of ds; types = types_of ds; distinct = false })

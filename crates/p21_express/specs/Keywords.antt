@@ -22,6 +22,6 @@ under_word_of n = if bytes_eq n (codes "ENUMERATION") then unders.Enumeration el
 unfoldable pub decl_word_of : List ℕ → DeclWord
 decl_word_of n = if bytes_eq n (codes "ENTITY") then decls.Entity else (if bytes_eq n (codes "TYPE") then decls.Type else (if bytes_eq n (codes "FUNCTION") then decls.Function else (if bytes_eq n (codes "PROCEDURE") then decls.Procedure else (if bytes_eq n (codes "RULE") then decls.Rule else (if bytes_eq n (codes "CONSTANT") then decls.Constant else (if bytes_eq n (codes "USE") then decls.Unsupported else (if bytes_eq n (codes "REFERENCE") then decls.Unsupported else (if bytes_eq n (codes "SUBTYPE_CONSTRAINT") then decls.Unsupported else decls.Unknown))))))))
 
--- where the rules of an entity begin, behind its attributes
+-- where the rules of an entity begin, after its attributes
 unfoldable pub is_rules_word : List ℕ → Bool
 is_rules_word n = bytes_eq n (codes "INVERSE") || (bytes_eq n (codes "UNIQUE") || bytes_eq n (codes "WHERE"))

@@ -1,4 +1,4 @@
--- Reading the words of a text in upper case: what stands first, and the text behind it, or nothing.
+-- Reading the words of a text in upper case: what stands first, and the text after it, or nothing.
 use Rattle.std.specs.Prelude.{ℕ, zero, suc, Bool, true, false, List, [], ◌∷◌, Option, Some, None, ◌==◌, ◌||◌, ◌&&◌, not, nat_le, if◌then◌else◌, take, drop, option_map}
 use Rattle.std.specs.List.{prefix_len}
 use Rattle.p21_express.specs.Word.{Word, name, integer, string, symbol}
@@ -31,7 +31,7 @@ string_by true true rest doubled plain = doubled
 string_by true false rest doubled plain = Some rest
 string_by false second rest doubled plain = plain
 
--- behind the apostrophe that closes a string
+-- after the apostrophe that closes a string
 unfoldable pub string_end : List ℕ → Option (List ℕ)
 string_end [] = None
 string_end (b ∷ []) = if b == 39 then Some [] else None
@@ -51,13 +51,13 @@ remark_by false true zero rest again plain = Some rest
 remark_by false true (suc depth) rest again plain = again depth
 remark_by false false depth rest again plain = plain
 
--- behind the `*)` that closes a remark, within which so many others are open
+-- after the `*)` that closes a remark, within which so many others are open
 unfoldable pub remark_end : ℕ → List ℕ → Option (List ℕ)
 remark_end depth [] = None
 remark_end depth (b ∷ []) = None
 remark_end depth (b ∷ c ∷ rest) = remark_by (opens_remark b c) (closes_remark b c) depth rest (λ k. remark_end k rest) (remark_end depth (c ∷ rest))
 
--- what stands first, and the text behind it
+-- what stands first, and the text after it
 abbrev pub with_word : Word → Option (List ℕ) → Option (Option Word × List ℕ)
 with_word w None = None
 with_word w (Some rest) = Some (Some w, rest)
@@ -66,12 +66,12 @@ abbrev pub with_none : Option (List ℕ) → Option (Option Word × List ℕ)
 with_none None = None
 with_none (Some rest) = Some (None, rest)
 
--- behind the first byte
+-- after the first byte
 abbrev pub behind_first : List ℕ → Option (List ℕ)
 behind_first [] = None
 behind_first (b ∷ rest) = Some rest
 
--- behind the quote that closes a string
+-- after the quote that closes a string
 abbrev pub quoted_end : List ℕ → Option (List ℕ)
 quoted_end text = behind_first (drop (prefix_len not_quote text) text)
 
@@ -88,7 +88,7 @@ name_front text = Some (Some (name (take (prefix_len part text) text)), drop (pr
 abbrev pub integer_front : List ℕ → Option (Option Word × List ℕ)
 integer_front text = Some (Some (integer (number_of (take (prefix_len digit text) text))), drop (prefix_len digit text) text)
 
--- a line remark, behind its first byte
+-- a line remark, after its first byte
 abbrev pub line_front : List ℕ → Option (Option Word × List ℕ)
 line_front text = Some (None, drop (prefix_len not_line_end text) text)
 
@@ -96,7 +96,7 @@ line_front text = Some (None, drop (prefix_len not_line_end text) text)
 abbrev pub other_front : ℕ → List ℕ → Option (Option Word × List ℕ)
 other_front b text = if nat_le 33 b && nat_le b 126 then Some (Some (symbol b), text) else None
 
--- what stands at the front behind the first byte b
+-- what stands at the front after the first byte b
 unfoldable pub front_of : ℕ → List ℕ → Option (Option Word × List ℕ)
 front_of b text =
     if white b then Some (None, text)

@@ -1,4 +1,4 @@
--- Reading words one after the other: what is read first, and the words behind it, or nothing.
+-- Reading words one after the other: what is read first, and the words after it, or nothing.
 use Rattle.std.specs.Prelude.{◌≡◌, ℕ, zero, suc, Bool, true, false, List, [], ◌∷◌, ◌-◌, map, length, take, Option, Some, None, Result, Ok, Err, if◌then◌else◌, codes, pos, option_map}
 use Rattle.p21_express.specs.declared.word.Word as source
 use Rattle.p21_express.specs.declared.word.Word.TheVariants as words
@@ -73,12 +73,12 @@ stop_by false zero false false ws again = again 0
 stop_by false (suc depth) stop true ws again = again depth
 stop_by false (suc depth) stop false ws again = again (suc depth)
 
--- the words behind the first `stop` outside brackets
+-- the words after the first `stop` outside brackets
 unfoldable pub behind_stop : ℕ → ℕ → List Word → Option (List Word)
 behind_stop stop depth [] = None
 behind_stop stop depth (w ∷ ws) = stop_by (is_opening w) depth (is_symbol stop w) (is_closing w) ws (λ k. behind_stop stop k ws)
 
--- the words up to the first `stop` outside brackets, and those behind it
+-- the words up to the first `stop` outside brackets, and those after it
 unfoldable pub up_to : ℕ → List Word → Option (List Word × List Word)
 up_to stop ws = do
   rest ← behind_stop stop 0 ws
@@ -91,7 +91,7 @@ ends_by true opens (suc depth) ws again = again depth
 ends_by false true depth ws again = again (suc depth)
 ends_by false false depth ws again = again depth
 
--- the words behind the name that ends what is passed over
+-- the words after the name that ends what is skipped
 unfoldable pub ends_at : Option (List ℕ) → List ℕ → ℕ → List Word → Option (List Word)
 ends_at again last depth [] = None
 ends_at again last depth (w ∷ ws) = ends_by (is_name last w) (is_again again w) depth ws (λ k. ends_at again last k ws)
@@ -162,7 +162,7 @@ bag_at ws = do
   rest ← word_at (codes "OF") b.1
   Some (schema.bag b.0, rest)
 
--- an aggregate behind its word
+-- an aggregate after its word
 abbrev pub aggregate_at : AggregateWord → List Word → Option (Aggregate × List Word)
 aggregate_at aggregates.Array ws = array_at ws
 aggregate_at aggregates.List ws = list_at ws
@@ -189,7 +189,7 @@ binary_at ws = do
   w ← width_at ws
   Some (schema.binary w.0, w.1)
 
--- a type that is no aggregate, behind its word
+-- a type that is no aggregate, after its word
 abbrev pub simple_at : List ℕ → SimpleWord → List Word → Option (Expr × List Word)
 simple_at n simples.Integer ws = Some (schema.integer, ws)
 simple_at n simples.Number ws = Some (schema.number, ws)
@@ -200,12 +200,12 @@ simple_at n simples.Text ws = text_at ws
 simple_at n simples.Binary ws = binary_at ws
 simple_at n simples.Named ws = Some (schema.named n, ws)
 
--- a type behind its first word, where no aggregate may be nested
+-- a type after its first word, where no aggregate may be nested
 abbrev pub flat_at : List ℕ → TypeWord → List Word → Option (Expr × List Word)
 flat_at n (types.Simple w) ws = simple_at n w ws
 flat_at n (types.Aggregate w) ws = None
 
--- a type behind its first word, where one more may be nested, whose element `item` reads
+-- a type after its first word, where one more may be nested, whose element `item` reads
 abbrev pub nested_at : (List Word → Option (Expr × List Word)) → List ℕ → TypeWord → List Word → Option (Expr × List Word)
 nested_at item n (types.Simple w) ws = simple_at n w ws
 nested_at item n (types.Aggregate w) ws = do
@@ -243,7 +243,7 @@ names_at ws = do
 
 -- ---- entities
 
--- behind SELF
+-- after SELF
 unfoldable pub again_at : List Word → Option (Naming × List Word)
 again_at ws = do
   e ← symbol_at 92 ws
@@ -311,7 +311,7 @@ of_group ws = do
   rest ← group_at g
   Some rest.1
 
--- behind ABSTRACT
+-- after ABSTRACT
 unfoldable pub abstract_at : List Word → Option (List Word)
 abstract_at ws = do
   s ← word_at (codes "SUPERTYPE") ws
@@ -387,7 +387,7 @@ skipped_at again last ws = do
   rest ← symbol_at 59 end
   Some (skipped, rest)
 
--- a declaration behind its first word
+-- a declaration after its first word
 abbrev pub declaration_by : DeclWord → List Word → Option (Declaration × List Word)
 declaration_by decls.Entity ws = entity_at ws >>= λ e. Some (an_entity e.0, e.1)
 declaration_by decls.Type ws = type_at ws >>= λ t. Some (a_type t.0, t.1)

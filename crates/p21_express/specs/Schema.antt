@@ -21,7 +21,7 @@ pub data Expr : Type 0 where
   aggregate : Aggregate → Expr → Expr
   named : List ℕ → Expr
 
--- an explicit attribute; `of` is the entity behind SELF, where it is declared again
+-- an explicit attribute; `of` is the entity after SELF, where it is declared again
 pub record Attribute : Type 0 where
   pub name : List ℕ
   pub of : Option (List ℕ)

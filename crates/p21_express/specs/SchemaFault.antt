@@ -62,6 +62,8 @@ abbrev pub FailsRedeclared : Schema → Type 0
 FailsRedeclared s = HasNoRepeated s × HasNoUnknown s × HasNoCycles s × ¬ (AllByRecursion (IsRedeclaring s) s.entities)
 
 -- The fault is of the first condition that the text fails, and stands within the text. Want of memory says nothing.
+-- Words that are no schema are Syntax or NotSupported; of those that are one, the kind is Repeated, then UnknownName
+-- or NotSupported (a SELECT alone under a TYPE), then Cycle, then BadRedeclaration.
 abbrev pub IsSchemaFault : List ℕ → SchemaError → Type 0
 IsSchemaFault text (errors.Syntax at) = HasNoForm text × (at ≤ length text)
 IsSchemaFault text (errors.NotSupported at) = (HasNoForm text ⊎ HasFormOf text FailsSelects) × (at ≤ length text)

@@ -173,7 +173,7 @@ abbrev pub redeclarations : Entity → List Redeclaration
 redeclarations e = again_explicit e.attributes ++ again_derived e.derived
 
 -- The attribute that an entity declares again: the one that is newly declared under that name in the ancestor
--- behind SELF and in its ancestors. In DERIVE any may be declared again, explicitly none of DERIVE.
+-- after SELF and in its ancestors. In DERIVE any may be declared again, explicitly none of DERIVE.
 pub record DeclaresAgain (s : Schema) (entity : List ℕ) (r : Redeclaration) (d : List ℕ) : Type 0 where
   pub ancestor : IsAncestor s entity r.of
   pub origin : IsOrigin s r.of r.name d

@@ -19,7 +19,7 @@ IsDigit b = (48 ≤ b) × (b ≤ 57)
 abbrev pub IsNamePart : ℕ → Type 0
 IsNamePart b = IsLetter b ⊎ (IsDigit b ⊎ (b ≡ 95))
 
--- the value of digits to the base 10, behind those of the value `high`
+-- the value of digits to the base 10, after those of the value `high`
 abbrev pub decimal_from : ℕ → List ℕ → ℕ
 decimal_from high [] = high
 decimal_from high (b ∷ rest) = decimal_from (10 * high + (b - 48)) rest
@@ -42,7 +42,7 @@ IsAtLineEnd (b ∷ rest) = b ≡ 10
 abbrev pub GoesOnWithPair : ℕ → ℕ → List ℕ → Type 0
 GoesOnWithPair b c text = (rest : List ℕ) × (text ≡ b ∷ c ∷ rest)
 
--- So many remarks are open at the front of a text, and `rest` stands behind the `*)` that closes the outermost:
+-- So many remarks are open at the front of a text, and `rest` stands after the `*)` that closes the outermost:
 -- each `(*` opens one more.
 pub data Closes : ℕ → List ℕ → List ℕ → Type 0 where
   closed : {rest : List ℕ} → Closes 0 rest rest
@@ -50,14 +50,14 @@ pub data Closes : ℕ → List ℕ → List ℕ → Type 0 where
   closes : {depth : ℕ} {text rest : List ℕ} → Closes depth text rest → Closes (suc depth) (42 ∷ 41 ∷ text) rest
   passes : {depth b : ℕ} {text rest : List ℕ} → ¬ (GoesOnWithPair 40 42 (b ∷ text)) → ¬ (GoesOnWithPair 42 41 (b ∷ text)) → Closes (suc depth) text rest → Closes (suc depth) (b ∷ text) rest
 
--- A text behind the apostrophe that opens a string, and what stands behind the one that closes it: a doubled
+-- A text after the apostrophe that opens a string, and what stands after the one that closes it: a doubled
 -- apostrophe closes nothing.
 pub data EndsString : List ℕ → List ℕ → Type 0 where
   closes : {rest : List ℕ} → GoesOnWithout (λ b. b ≡ 39) rest → EndsString (39 ∷ rest) rest
   doubled : {text rest : List ℕ} → EndsString text rest → EndsString (39 ∷ 39 ∷ text) rest
   passes : {b : ℕ} {text rest : List ℕ} → b ≢ 39 → EndsString text rest → EndsString (b ∷ text) rest
 
--- a byte that stands by itself, where `rest` is behind it: no letter, digit or quote, and it opens no remark
+-- a byte that stands by itself, where `rest` is after it: no letter, digit or quote, and it opens no remark
 pub record IsSymbol (b : ℕ) (rest : List ℕ) : Type 0 where
   pub low : 33 ≤ b
   pub high : b ≤ 126
@@ -68,7 +68,7 @@ pub record IsSymbol (b : ℕ) (rest : List ℕ) : Type 0 where
   pub no_line_remark : ¬ (GoesOnWithPair 45 45 (b ∷ rest))
   pub no_remark : ¬ (GoesOnWithPair 40 42 (b ∷ rest))
 
--- What stands at the front of a text, and the text behind it: a white byte or a remark, which is no word, or a word.
+-- What stands at the front of a text, and the text after it: a white byte or a remark, which is no word, or a word.
 pub data Front : List ℕ → Option Word → List ℕ → Type 0 where
   white : {b : ℕ} {rest : List ℕ} → IsWhite b → Front (b ∷ rest) None rest
   line_remark : {text rest : List ℕ} (body : List ℕ) → text ≡ body ++ rest → AllByRecursion (λ b. b ≢ 10) body → IsAtLineEnd rest → Front (45 ∷ 45 ∷ text) None rest

@@ -91,7 +91,7 @@ pub fn begins_rules(words: &[Word]) -> bool
     }
 }
 
-/// Whether what stands behind the explicit attributes of an entity begins.
+/// Whether what stands after the explicit attributes of an entity begins.
 fn ends_attributes(words: &[Word]) -> bool
     ensures { result ≡ ends_attributes (words_of words.now) }
 {

@@ -1,4 +1,4 @@
-//! A type once more.
+//! A copy of a type.
 
 ghost use Rattle.std.specs.Prelude.{◌≡◌, IfOk};
 ghost use Rattle.p21_express.specs.Plain.{plain_expr};

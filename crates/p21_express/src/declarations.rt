@@ -3,7 +3,7 @@
 /// The declarations of a schema.
 #[derive(Debug, Drop)]
 pub struct Declarations {
-    /// The name behind SCHEMA.
+    /// The name after SCHEMA.
     pub name: Vec<u8>,
     pub entities: Vec<EntityDecl>,
     pub types: Vec<TypeDecl>,
@@ -13,7 +13,7 @@ pub struct Declarations {
 #[derive(Debug, Drop)]
 pub struct EntityDecl {
     pub name: Vec<u8>,
-    /// Whether ABSTRACT SUPERTYPE stands behind the name.
+    /// Whether ABSTRACT SUPERTYPE stands after the name.
     pub is_abstract: bool,
     /// The names of SUBTYPE OF.
     pub supertypes: Vec<Vec<u8>>,
@@ -27,7 +27,7 @@ pub struct EntityDecl {
 #[derive(Debug, Drop)]
 pub struct AttrDecl {
     pub name: Vec<u8>,
-    /// The entity behind SELF, where the attribute is declared again.
+    /// The entity after SELF, where the attribute is declared again.
     pub of: Option<Vec<u8>>,
     pub optional: bool,
     pub texpr: TypeExpr,
@@ -37,7 +37,7 @@ pub struct AttrDecl {
 #[derive(Debug, Drop)]
 pub struct DeriveDecl {
     pub name: Vec<u8>,
-    /// The entity behind SELF, where the attribute is declared again.
+    /// The entity after SELF, where the attribute is declared again.
     pub of: Option<Vec<u8>>,
 }
 
@@ -88,7 +88,7 @@ pub enum TypeExpr {
     },
     List {
         bounds: Bounds,
-        /// Whether UNIQUE stands behind OF: no two elements may be equal.
+        /// Whether UNIQUE stands after OF: no two elements may be equal.
         unique: bool,
         item: Box<TypeExpr>,
     },

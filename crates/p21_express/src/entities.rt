@@ -23,7 +23,7 @@ fn of_group<'t, 'a>(words: &'t [Word<'a>]) -> Result<&'t [Word<'a>], Refusal>
     Ok(rest)
 }
 
-/// What stands behind ABSTRACT.
+/// What stands after ABSTRACT.
 #[tactic(auto, unfolding(crate::specs::Reader::abstract_at))]
 fn behind_abstract<'t, 'a>(words: &'t [Word<'a>]) -> Result<&'t [Word<'a>], Refusal>
     ensures { Gives (λ x. words_of x.now) result (abstract_at (words_of words.now)) }
@@ -63,7 +63,7 @@ fn subtype<'t, 'a>(alloc: Global, words: &'t [Word<'a>]) -> Result<(Names, &'t [
     Ok((Names::new(alloc), words))
 }
 
-/// What stands behind the rules of an entity and END_ENTITY.
+/// What stands after the rules of an entity and END_ENTITY.
 #[tactic(auto, unfolding(crate::specs::Reader::rules_end))]
 fn rules_end<'t, 'a>(words: &'t [Word<'a>]) -> Result<&'t [Word<'a>], Refusal>
     ensures { Gives (λ x. words_of x.now) result (rules_end (words_of words.now)) }
@@ -78,7 +78,7 @@ fn rules_end<'t, 'a>(words: &'t [Word<'a>]) -> Result<&'t [Word<'a>], Refusal>
     Err(Refusal::syntax(words.len()))
 }
 
-/// An entity behind the word ENTITY.
+/// An entity after the word ENTITY.
 #[tactic(auto, unfolding(crate::specs::Reader::entity_at))]
 pub(crate) fn entity<'t, 'a>(
     alloc: Global,

@@ -1,4 +1,4 @@
-//! An aggregate without its element.
+//! LIST, SET, BAG or ARRAY with its bounds, without its element.
 
 ghost use Rattle.std.specs.Prelude.{◌≡◌, IfOk};
 ghost use Rattle.p21_express.specs.Plain.{plain_expr};

@@ -1,4 +1,4 @@
-//! Why declarations do not fit together.
+//! Names that declarations give twice, use without a declaration, or use in a cycle.
 
 ghost use Rattle.std.specs.Prelude.{◌≡◌};
 ghost use Rattle.p21_express.specs.declared.misfit.Unfit.TheVariants.{Memory};

@@ -36,11 +36,11 @@ impl Names {
     }
 }
 
-/// The name of an attribute, with the entity behind SELF where it is declared again.
+/// The name of an attribute, with the entity after SELF where it is declared again.
 #[derive(Clone, Copy)]
 pub struct AttrName<'a> {
     pub name: &'a [u8],
-    /// The entity behind SELF.
+    /// The entity after SELF.
     pub of: Option<&'a [u8]>,
     /// How many words stand from the naming on.
     pub place: usize,
@@ -86,7 +86,7 @@ fn names_inside<'t, 'a>(
     Ok((names, rest))
 }
 
-/// The entity and the name behind SELF.
+/// The entity and the name after SELF.
 #[tactic(auto, unfolding(crate::specs::Reader::again_at))]
 fn again<'t, 'a>(
     words: &'t [Word<'a>],
@@ -107,7 +107,7 @@ fn again<'t, 'a>(
     Ok((naming, rest))
 }
 
-/// The name of an attribute, perhaps behind SELF, and the words behind it. `RENAMED` behind one with SELF is refused as `NotSupported`, and any other
+/// The name of an attribute, perhaps after SELF, and the words after it. `RENAMED` after one with SELF is refused as `NotSupported`, and any other
 /// word that does not fit as `Syntax`.
 #[tactic(auto, unfolding(crate::specs::Reader::naming_at))]
 pub fn naming<'t, 'a>(words: &'t [Word<'a>]) -> Result<(AttrName<'a>, &'t [Word<'a>]), Refusal>
@@ -125,7 +125,7 @@ pub fn naming<'t, 'a>(words: &'t [Word<'a>]) -> Result<(AttrName<'a>, &'t [Word<
     Ok((naming, rest))
 }
 
-/// A comma, the name of an attribute behind it, and the words behind that one. It is refused as `naming` says.
+/// A comma, the name of an attribute after it, and the words after that one. It is refused as `naming` says.
 #[tactic(auto, unfolding(crate::specs::Reader::next_naming))]
 pub fn next_naming<'t, 'a>(words: &'t [Word<'a>]) -> Result<(AttrName<'a>, &'t [Word<'a>]), Refusal>
     ensures { Gives (λ x. (plain_naming x.0, words_of x.1.now)) result (next_naming (words_of words.now)) }

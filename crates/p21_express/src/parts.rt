@@ -1,4 +1,4 @@
-//! Single words, and words that are passed over.
+//! Single words of a schema, and the parts that are skipped: algorithms, rules, WHERE clauses.
 
 ghost use Rattle.std.specs.Prelude.{◌≡◌, ◌<◌, length, IfOk};
 ghost use Rattle.p21_express.specs.Word.{begins_name, begins_symbol};
@@ -8,7 +8,9 @@ ghost use Rattle.p21_express.specs.Reader.{words_of, Gives, name_at, word_at, sy
 use crate::refusal::Refusal;
 use crate::word::Word;
 
-/// Any name, and the words behind it. Another word is refused as `Syntax`, and so is the end.
+/// Any name, and the words after it. Another word is refused as `Syntax`, and so is the end.
+///
+/// No clause constrains the kind or the place of the error. The same is true of the other readers of words.
 pub fn name<'t, 'a>(words: &'t [Word<'a>]) -> Result<(&'a [u8], &'t [Word<'a>]), Refusal>
     ensures { Gives (λ x. (x.0.now, words_of x.1.now)) result (name_at (words_of words.now)) }
 {
@@ -38,7 +40,7 @@ pub fn begins_symbol(words: &[Word], symbol: u8) -> bool
     }
 }
 
-/// The words behind this word of the grammar. Another is refused as `Syntax`, and so is the end.
+/// The words after this word of the grammar. Another is refused as `Syntax`, and so is the end.
 pub fn word<'t, 'a>(words: &'t [Word<'a>], name: &[u8]) -> Result<&'t [Word<'a>], Refusal>
     ensures { Gives (λ x. words_of x.now) result (word_at name.now (words_of words.now)) }
 {
@@ -48,7 +50,7 @@ pub fn word<'t, 'a>(words: &'t [Word<'a>], name: &[u8]) -> Result<&'t [Word<'a>]
     }
 }
 
-/// The words behind this symbol. Another word is refused as `Syntax`, and so is the end.
+/// The words after this symbol. Another word is refused as `Syntax`, and so is the end.
 pub fn symbol<'t, 'a>(words: &'t [Word<'a>], symbol: u8) -> Result<&'t [Word<'a>], Refusal>
     ensures { Gives (λ x. words_of x.now) result (symbol_at symbol (words_of words.now)) }
 {
@@ -58,7 +60,7 @@ pub fn symbol<'t, 'a>(words: &'t [Word<'a>], symbol: u8) -> Result<&'t [Word<'a>
     }
 }
 
-/// The words up to the first `stop` outside brackets, and those behind it. A bracket that closes none is refused as `Syntax`, and so is the end.
+/// The words up to the first `stop` outside brackets, and those after it. A bracket that closes none is refused as `Syntax`, and so is the end.
 #[tactic(auto, unfolding(crate::specs::Reader::up_to))]
 pub fn up_to<'t, 'a>(
     words: &'t [Word<'a>],
@@ -70,10 +72,12 @@ pub fn up_to<'t, 'a>(
     Ok((&words[..words.len() - rest.len() - 1], rest))
 }
 
-/// The words behind the first `stop` outside brackets. A bracket that closes none is refused as `Syntax`, and so is the end.
+/// The words after the first `stop` outside brackets. A bracket that closes none is refused as `Syntax`, and so is the end.
 #[tactic(auto, unfolding(crate::specs::Reader::behind_stop))]
 pub fn behind_stop<'t, 'a>(words: &'t [Word<'a>], stop: u8) -> Result<&'t [Word<'a>], Refusal>
+    // The words after the first such symbol outside brackets.
     ensures same { Gives (λ x. words_of x.now) result (behind_stop stop 0 (words_of words.now)) }
+    // They are fewer.
     ensures shorter { IfOk result (λ x. length x.now < length words.now) }
 {
     let mut depth: usize = 0;
@@ -95,7 +99,7 @@ pub fn behind_stop<'t, 'a>(words: &'t [Word<'a>], stop: u8) -> Result<&'t [Word<
     Err(Refusal::syntax(0))
 }
 
-/// The words behind the name that ends what is passed over. Where `again` is a name, each further one opens one more. The
+/// The words after the name that ends what is skipped. Where `again` is a name, each further one opens one more. The
 /// end is refused as `Syntax`.
 #[tactic(auto, unfolding(crate::specs::Reader::ends_at))]
 pub fn behind<'t, 'a>(
@@ -131,7 +135,7 @@ fn is_again(word: Word, again: Option<&[u8]>) -> bool
     }
 }
 
-/// Whether the name stands there, and the words behind it.
+/// Whether the name stands there, and the words after it.
 pub fn if_name<'t, 'a>(words: &'t [Word<'a>], name: &[u8]) -> (bool, &'t [Word<'a>])
     ensures { (result.0, words_of result.1.now) ≡ if_name name.now (words_of words.now) }
 {
@@ -141,7 +145,7 @@ pub fn if_name<'t, 'a>(words: &'t [Word<'a>], name: &[u8]) -> (bool, &'t [Word<'
     }
 }
 
-/// The words of a group in parentheses, and those behind it.
+/// The words of a group in parentheses, and those after it.
 #[tactic(auto, unfolding(crate::specs::Reader::group_at))]
 pub(crate) fn group<'t, 'a>(
     words: &'t [Word<'a>],

@@ -25,6 +25,7 @@ use std::alloc::{AllocError, Global};
 
 /// The place of a text from which on so many of its words stand, by the places of its words as `scan` has them.
 pub fn place_at(places: &[usize], left: usize) -> u64
+    // The place is at most the greatest of the places. That it is the place of the word is known by review.
     ensures { (n : ℕ) → AllByRecursion (λ place. place ≤ n) places.now → result ≤ n }
 {
     match places.get(places.len().saturating_sub(left.saturating_add(1))) {
@@ -58,6 +59,8 @@ fn misfit_error(misfit: Misfit, place: u64) -> SchemaError
 
 /// The error of words that were refused, by the places of the words of the text as `scan` has them.
 pub fn refused_as(refusal: Refusal, places: &[usize]) -> SchemaError
+    // The error has the kind of the refusal, or says that memory ran out; its place is at most the greatest of the
+    // places.
     ensures { (n : ℕ) → AllByRecursion (λ place. place ≤ n) places.now → IsRefusedAs n refusal result }
 {
     match refusal {
@@ -105,7 +108,7 @@ struct Form {
     declarations: Declarations,
     entity_places: Vec<EntityPlaces>,
     type_places: Vec<TypePlaces>,
-    /// Where the words of the text begin, and the place behind the last.
+    /// Where the words of the text begin, and the place after the last.
     places: Vec<usize>,
 }
 
@@ -137,9 +140,18 @@ fn read_form(alloc: Global, text: &[u8]) -> Result<Form, SchemaError>
 /// A text that has no reading is refused with the first fault of the first check that finds one: its form, repeated names,
 /// unknown names, cycles, redeclarations. Places are byte offsets from the text's first byte. `Memory` says that there was
 /// no memory left.
+///
+/// Cost: O(t log t) for t words of the text. Where attributes are redeclared, O(n / 64) for each supertype that is
+/// named and n * n / 8 bytes while they are checked, for n declarations; for each redeclaration, the entities that
+/// newly declare its name.
 pub fn read_declarations(alloc: Global, text: &[u8]) -> Result<Declarations, SchemaError>
+    // The declarations are the reading of the text.
     ensures ok { IfOk result (λ found. IsReading text.now (plain_schema found)) }
+    // An error other than out of memory means that the text has no reading.
     ensures err { IfErr result (λ e. OnRefusal e (HasNoReading text.now)) }
+    // The kind of the fault is that of the first check that the text fails. Where its form fails, the kind is Syntax
+    // or NotSupported, and where its names fail, UnknownName or NotSupported: which of the two is tested. The place
+    // is within the text; which place is tested.
     ensures fault { IfErr result (λ e. IsSchemaFault text.now e) }
 {
     let found = read_form(alloc, text)?;

@@ -53,7 +53,7 @@ impl Found {
     }
 }
 
-/// A declaration that is passed over, behind its first word.
+/// A declaration that is skipped, after its first word.
 #[tactic(auto, unfolding(crate::specs::Reader::skipped_at))]
 fn skipped<'t, 'a>(
     words: &'t [Word<'a>],

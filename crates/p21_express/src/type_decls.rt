@@ -14,7 +14,7 @@ use crate::types::type_expr;
 use crate::word::Word;
 use std::alloc::Global;
 
-/// The items of an ENUMERATION, behind that word.
+/// The items of an ENUMERATION, after that word.
 #[tactic(auto, unfolding(crate::specs::Reader::enumeration_at))]
 fn enumeration<'t, 'a>(
     alloc: Global,
@@ -29,7 +29,7 @@ fn enumeration<'t, 'a>(
     Ok((Under::Items(items.names), items.places, rest))
 }
 
-/// The items of a SELECT, behind that word.
+/// The items of a SELECT, after that word.
 #[tactic(auto, unfolding(crate::specs::Reader::select_at))]
 fn select<'t, 'a>(
     alloc: Global,
@@ -75,7 +75,7 @@ fn under<'t, 'a>(
     }
 }
 
-/// What stands behind the rules of a type and END_TYPE.
+/// What stands after the rules of a type and END_TYPE.
 #[tactic(auto, unfolding(crate::specs::Reader::type_ends))]
 fn type_end<'t, 'a>(words: &'t [Word<'a>]) -> Result<&'t [Word<'a>], Refusal>
     ensures { Gives (λ x. words_of x.now) result (type_ends (words_of words.now)) }
@@ -87,7 +87,7 @@ fn type_end<'t, 'a>(words: &'t [Word<'a>]) -> Result<&'t [Word<'a>], Refusal>
     word(words, b"END_TYPE")
 }
 
-/// A type behind the word TYPE.
+/// A type after the word TYPE.
 #[tactic(auto, unfolding(crate::specs::Reader::type_at))]
 pub(crate) fn type_decl<'t, 'a>(
     alloc: Global,

@@ -24,7 +24,7 @@ fn width_count(words: &[Word]) -> Option<u64>
     }
 }
 
-/// The bound that some words give: one whole number, perhaps behind one sign.
+/// The bound that some words give: one whole number, perhaps after one sign.
 fn bound(words: &[Word]) -> Option<i64>
     ensures { result ≡ bound_of (words_of words.now) }
 {
@@ -72,7 +72,7 @@ fn if_bounds<'t, 'a>(words: &'t [Word<'a>]) -> Result<(Bounds, &'t [Word<'a>]), 
     Ok((bounds, words))
 }
 
-/// An aggregate without its element, behind its first word.
+/// An aggregate without its element, after its first word.
 #[tactic(auto, unfolding(crate::specs::Reader::array_at, crate::specs::Reader::list_at, crate::specs::Reader::set_at, crate::specs::Reader::bag_at))]
 fn layer<'t, 'a>(
     first: AggregateWord,
@@ -117,7 +117,7 @@ fn width<'t, 'a>(words: &'t [Word<'a>]) -> Result<(Width, &'t [Word<'a>]), Refus
     Ok((width, rest))
 }
 
-/// A type that is no aggregate, behind its first word, which is `first`.
+/// A type that is no aggregate, after its first word, which is `first`.
 #[tactic(auto, unfolding(crate::specs::Reader::real_at, crate::specs::Reader::text_at, crate::specs::Reader::binary_at))]
 fn simple<'t, 'a>(
     alloc: Global,
@@ -149,7 +149,7 @@ fn simple<'t, 'a>(
 }
 
 /// A type in which so many more aggregates may be nested; how many words stand from the name in it on, where it has
-/// one; and the words behind it.
+/// one; and the words after it.
 pub(crate) fn type_expr<'t, 'a>(
     alloc: Global,
     words: &'t [Word<'a>],

@@ -43,7 +43,9 @@ impl Word<'_> {
 
     /// The value of a whole number of at most 18 digits.
     pub fn value(self) -> Option<u64>
+        // The value of a whole number of at most 18 digits.
         ensures value { result ≡ value_of (word_of self.entry) }
+        // It is below 10^18.
         ensures small { IfSome result (λ v. v < 10 ^ 18) }
     {
         match self {

@@ -67,7 +67,7 @@ fn quote_len(text: &[u8]) -> usize
     text.iter().take_while(|byte| **byte != b'"').count()
 }
 
-/// What stands behind the apostrophe that closes a string.
+/// What stands after the apostrophe that closes a string.
 #[tactic(auto, unfolding(crate::specs::Lexer::string_end))]
 fn behind_string(text: &[u8]) -> Option<&[u8]>
     ensures { option_map (λ x. x.now) result ≡ string_end text.now }
@@ -100,7 +100,7 @@ fn closes_remark(first: u8, second: u8) -> bool
     first == b'*' && second == b')'
 }
 
-/// What stands behind the `*)` that closes a remark, within which others may be open.
+/// What stands after the `*)` that closes a remark, within which others may be open.
 fn behind_remark(text: &[u8]) -> Option<&[u8]>
     ensures { option_map (λ x. x.now) result ≡ remark_end 0 text.now }
 {
@@ -161,7 +161,7 @@ fn number(digits: &[u8]) -> Option<Whole>
     })
 }
 
-/// What stands at the front of a text, where it is a word, and the text behind it.
+/// What stands at the front of a text, where it is a word, and the text after it.
 #[tactic(auto, unfolding(crate::specs::Lexer::front_of))]
 fn front(text: &[u8]) -> Option<(Option<Word<'_>>, &[u8])>
     ensures { option_map plain_front result ≡ front_at text.now }
@@ -205,7 +205,7 @@ fn front(text: &[u8]) -> Option<(Option<Word<'_>>, &[u8])>
 pub struct Scanned<'a> {
     /// In the order of the text.
     pub words: Vec<Word<'a>>,
-    /// Where each word begins, and behind them where the last one is followed by nothing: the end of the text, or the
+    /// Where each word begins, and after them where the last one is followed by nothing: the end of the text, or the
     /// byte where no word begins.
     pub places: Vec<usize>,
     /// Whether the words reach the end of the text.
@@ -214,8 +214,11 @@ pub struct Scanned<'a> {
 
 /// The words of a text in upper case. Memory alone can fail; a byte where no word begins, or an open string or remark, ends the words.
 pub fn scan(alloc: Global, text: &[u8]) -> Result<Scanned<'_>, AllocError>
+    // Where it reaches the end of a text in upper case, these are the words of the text.
     ensures whole { IfOk result (λ s. IsTrue s.is_whole → UpperWords text.now (words_of s.words.items)) }
+    // Where it does not, the text has no words.
     ensures broken { IfOk result (λ s. s.is_whole ≡ false → HasNoWords text.now) }
+    // The places of the words, and the one after the last, are within the text.
     ensures places { IfOk result (λ s. AllByRecursion (λ place. place ≤ length text.now) s.places.items) }
 {
     let mut words = Vec::new(alloc);

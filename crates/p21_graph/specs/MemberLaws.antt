@@ -63,7 +63,7 @@ distinct_apart [] ys x h i = absurd i
 distinct_apart (z ∷ zs) ys x h (inl e) = λ j. h.0 (in_right zs ys z (subst (λ u. IsIn ys u) (sym e) j))
 distinct_apart (z ∷ zs) ys x h (inr i) = distinct_apart zs ys x h.1 i
 
--- a list without repeats stays one with what is not in it behind
+-- a list without repeats stays one with what is not in it after it
 pub distinct_push : {X : Type 0} (xs : List X) (x : X) → AreDistinct xs → ¬ (IsIn xs x) → AreDistinct (xs ++ x ∷ [])
 distinct_push [] x h n = ((λ i. i), tt)
 distinct_push (y ∷ ys) x h n = ((λ i. ⊎_elim (λ (l : IsIn ys y). h.0 l) (λ (r : IsIn (x ∷ []) y). ⊎_elim (λ (e : x ≡ y). n (inl (sym e))) (λ (b : ⊥). b) r) (in_either ys (x ∷ []) y i)), distinct_push ys x h.1 (λ i. n (inr i)))

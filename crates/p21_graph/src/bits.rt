@@ -17,7 +17,7 @@ pub struct Bits {
     pub columns: usize,
     /// How many words a row has.
     width: usize,
-    /// The words of all rows, those of each behind those of the one before.
+    /// The words of all rows, those of each after those of the one before.
     words: Vec<u64>,
     ghost columns_fit: { columns ≤ width * BITS },
     ghost rows_fit: { length words.items ≡ rows * width },

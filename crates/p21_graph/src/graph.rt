@@ -85,7 +85,7 @@ fn place(
     Ok(())
 }
 
-/// All vertices, each behind its neighbors.
+/// All vertices, each after its neighbors.
 pub fn order(alloc: Global, graph: &Graph) -> Result<Vec<usize>, AllocError>
     requires edges { AreEdgesBelow (plain_graph graph.now) (length (plain_graph graph.now)) }
     requires cycles { HasNoCycle (HasEdge (plain_graph graph.now)) }

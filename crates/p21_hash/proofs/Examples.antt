@@ -13,7 +13,7 @@ use Rattle.p21_hash.specs.declared.keywords.KeywordHasher.{KeywordHasher}
 abbrev fixed : HashKey
 fixed = record { seed = 0 }
 
--- the first three numbers of SplitMix64 behind 0, as they are published
+-- the first three numbers of SplitMix64 after 0, as they are published
 first_number : number_of fixed 1 ≡ 0xe220_a839_7b1d_cdaf
 first_number = refl
 

@@ -15,6 +15,7 @@ number_of key place =
     bit_xor twice (twice / 2 ^ 31)
 
 -- the multiplier of stretches, made odd
+-- The numbers of a key are those of the generator SplitMix64 that begins with it.
 abbrev pub instance_names_of : HashKey → InstanceNameHashing
 instance_names_of key = record { stretch_multiplier = bit_or (number_of key 1) 1 }
 

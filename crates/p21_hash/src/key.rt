@@ -27,6 +27,8 @@ impl Default for HashKey {
 
 impl HashKey {
     /// The key of a number. Where it is to keep names and keywords from colliding, nobody else knows the number.
+    ///
+    /// No contract of another crate depends on which hash it is, or on the key.
     pub fn new(seed: u64) -> HashKey
         ensures { result.seed ≡ seed }
     {

@@ -39,7 +39,7 @@ impl BuildHasher for KeywordHashing {
     }
 }
 
-/// Hashes keywords, which come byte by byte. What comes in longer pieces, as their length does, is passed over.
+/// Hashes keywords, which come byte by byte. What comes in longer pieces, as their length does, is skipped.
 ///
 /// Seven bytes each are a word, a coefficient of a polynomial that is evaluated at a point of the key, modulo a prime number; the value
 /// is spread by a multiplication. So two keywords of at most 7 n bytes share one of the places of a table with a probability, over the
@@ -50,7 +50,7 @@ pub struct KeywordHasher {
     spread_multiplier: u64,
     /// The value of the words before this one.
     sum: u64,
-    /// The bytes behind those, at most six, behind a bit that is set.
+    /// The bytes after those, at most six, after a bit that is set.
     word: u64,
 }
 

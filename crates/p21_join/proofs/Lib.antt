@@ -1,4 +1,4 @@
-pub mod PlaceLemmas
+pub mod PlaceBlockLemmas
 pub mod NameLemmas
 pub mod FindLemmas
 pub mod EntityLemmas

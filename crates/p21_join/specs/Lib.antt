@@ -1,3 +1,4 @@
+pub mod PlaceBlocks
 pub mod InstancePlaces
 pub mod Names
 pub mod Model

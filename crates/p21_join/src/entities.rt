@@ -25,7 +25,7 @@ pub struct ModelEntities<'m, 'a> {
 impl<'m, 'a> ModelEntities<'m, 'a> {
     ghost use Rattle.p21_join.specs.Entities.{model_of, schema_of, viewed_model, viewed_schema};
 
-    /// Looks up the entities of all instances of a model, once each. It is refused for want of memory alone.
+    /// Looks up the entities of all instances of a model, once each. It is refused for lack of memory alone.
     pub fn new(
         alloc: Global,
         schema: &'m Schema,

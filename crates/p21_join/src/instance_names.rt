@@ -1,4 +1,4 @@
-//! The names of instances, without the instances.
+//! The set of the names of instances.
 
 ghost use Rattle.std.specs.Prelude.{ℕ, ◌↔◌, List, Contains, IsSome, map};
 ghost use Rattle.p21_tree.specs.declared.instances.RawInstance.{RawInstance};
@@ -39,6 +39,7 @@ impl InstanceNames {
 
     /// The names of the instances that were joined, which are let go. This takes no memory.
     pub fn of(joiner: Joiner<'_>) -> InstanceNames
+        // A name is among them exactly where an instance that was joined has it.
         ensures { (name : ℕ) → IsAmong result name ↔ Contains (map (λ i. i.name) (joined joiner.entry)) name }
     {
         InstanceNames::of_places(joiner.into_places())
@@ -46,14 +47,18 @@ impl InstanceNames {
 
     /// The names that have a place. This takes no memory.
     pub fn of_places(places: InstancePlaces) -> InstanceNames
+        // A name is among them exactly where it has a place.
         ensures places { (name : ℕ) → IsAmong result name ↔ IsSome (place_of places name) }
+        // Where the places are those of some instances, exactly where one of these has the name.
         ensures instances { (is : List RawInstance) → HasPlacesOf places is → (name : ℕ) → IsAmong result name ↔ Contains (map (λ i. i.name) is) name }
     {
         InstanceNames { table: places }
     }
 
-    /// Adds a name to the others, where it is new; the answer is whether it is. It is refused for want of memory alone, and then
+    /// Adds a name to the others, where it is new; the answer is whether it is. It is refused for lack of memory alone, and then
     /// nothing is changed.
+    ///
+    /// A refusal changes nothing.
     pub fn add(&mut self, name: u64) -> Result<bool, AllocError>
         ensures { AddsName self.old name result self.new }
     {

@@ -1,146 +1,123 @@
-//! Where the instances of names stand.
+//! Where the instance of a name stands in the file.
 
-ghost use Rattle.std.specs.Prelude.{◌≡◌, ℕ, IfOk, IfSome, IsTrue, None, OnErr, Some, nat_eq};
-ghost use Rattle.indexmap.specs.IndexMap.{get};
-ghost use Rattle.p21_join.specs.InstancePlaces.{place_by};
+ghost use Rattle.std.specs.Prelude.{◌≡◌, ℕ, None, slice_index_or};
+ghost use Rattle.p21_join.specs.PlaceBlocks.{place_by};
 
-use indexmap::IndexMap;
-use p21_hash::{HashKey, InstanceNameHashing};
+use crate::place_blocks::{PlaceBlocks, number_of, place_by};
+use p21_hash::HashKey;
 use std::alloc::{AllocError, Global};
 
-/// How many names in a row are a block.
-const BLOCK_NAMES: u64 = 16;
+/// How many names the dense part covers at most for each of them that has a place.
+const NAMES_A_PLACE: usize = 4;
 
-/// For each name of a block, in their order, the place of its instance and one more, or 0 where there is none.
-type Block = [u32; 16];
+/// How many more names that have a place the dense part reckons with than it has.
+const MORE_PLACES: usize = 64;
 
 /// The places of instances by their names.
 ///
-/// Most names of a file stand in rows. So they are kept in blocks, and the block that was used last is looked at first: of a row
-/// of names only one in sixteen is hashed.
+/// Most files number their instances from 1 on. So a name below four times the count of those in the dense part stands there, in a
+/// table by the name itself; each other name is kept in a block. The dense part takes at most 16 bytes for each name in it, and each 16
+/// for the 64 names that it reckons with.
 #[derive(Drop)]
 pub struct InstancePlaces {
-    /// By the number of the block.
-    blocks: IndexMap<u64, Block, InstanceNameHashing>,
-    /// Where the block that was used last stands among the blocks.
-    latest: usize,
+    /// By the name: the number that stands for a place.
+    dense: Vec<u32>,
+    /// How many names have a place in the dense part.
+    held: usize,
+    /// The places of the names that the dense part did not cover when they came.
+    blocks: PlaceBlocks,
 }
 
 impl InstancePlaces {
-    ghost use Rattle.p21_join.specs.InstancePlaces.{InsertsPlace, IsBlockAt, KeepsOtherPlaces, KeepsPlaces, place_of};
+    ghost use Rattle.p21_join.specs.InstancePlaces.{InsertsPlace, KeepsOtherPlaces, KeepsPlaces, place_of};
 
     /// No name has a place yet. This takes no memory. Names are hashed by this key.
     pub fn with_key(alloc: Global, key: HashKey) -> InstancePlaces
         ensures { (name : ℕ) → place_of result name ≡ None }
     {
         InstancePlaces {
-            blocks: IndexMap::with_hasher(alloc, key.instance_names()),
-            latest: 0,
+            dense: Vec::new(alloc),
+            held: 0,
+            blocks: PlaceBlocks::with_key(alloc, key),
         }
     }
 
     /// The place of a name, or `None` where it has none.
+    #[inline(always)]
     pub fn place(&self, name: u64) -> Option<usize>
         ensures { result ≡ place_of self.now name }
     {
-        let block = self.blocks.get(&(name / BLOCK_NAMES))?;
-        place_by(block[(name % BLOCK_NAMES) as usize])
+        match self.dense_place(name) {
+            Some(place) => Some(place),
+            None => self.blocks.place(name),
+        }
     }
 
-    /// Keeps the place of a name that has none; the answer is whether it had none. It is refused for want of memory alone, as is a
+    /// The place that a name has in the dense part.
+    #[inline(always)]
+    fn dense_place(&self, name: u64) -> Option<usize>
+        ensures { result ≡ place_by (slice_index_or self.now.dense.items name 0) }
+    {
+        match self.dense.get(name as usize) {
+            Some(number) => place_by(*number),
+            None => None,
+        }
+    }
+
+    /// Keeps the place of a name that has none; the result is whether it had none. It is refused for lack of memory alone, as is a
     /// place from 2^32 - 1 on, and then nothing is changed.
+    ///
+    /// Other places stay, and a refusal changes none.
     #[inline(always)]
     pub fn insert(&mut self, name: u64, place: usize) -> Result<bool, AllocError>
         ensures { InsertsPlace self.old name place result self.new }
     {
-        let at = self.block(name / BLOCK_NAMES)?;
-        let (_, block) = self.blocks.pair_mut(at);
-        let within = (name % BLOCK_NAMES) as usize;
-        if block[within] != 0 {
+        if self.place(name).is_some() {
             return Ok(false);
         }
+        self.make_room(name)?;
         let Some(number) = number_of(place) else {
             return Err(AllocError);
         };
-        block[within] = number;
-        Ok(true)
+        match self.dense.get_mut(name as usize) {
+            Some(slot) => {
+                *slot = number;
+                self.held = self.held.saturating_add(1);
+                Ok(true)
+            }
+            None => self.blocks.insert(name, place),
+        }
     }
 
-    /// Lets go of the place of a name. A name that has none stays without.
+    /// Has the dense part cover a name that is small enough. It is refused for lack of memory alone.
+    #[inline(always)]
+    fn make_room(&mut self, name: u64) -> Result<(), AllocError>
+        ensures { KeepsPlaces self.old self.new }
+    {
+        if name < self.dense.len() as u64 {
+            return Ok(());
+        }
+        let most = self
+            .held
+            .saturating_add(MORE_PLACES)
+            .saturating_mul(NAMES_A_PLACE);
+        if name >= most as u64 {
+            return Ok(());
+        }
+        let len = self.dense.len().saturating_mul(2);
+        self.dense.resize(len.max(name as usize + 1).min(most), 0)
+    }
+
+    /// Drops the place of a name. A name that has none stays without.
     pub fn remove(&mut self, name: u64)
+        // The name has no place.
         ensures gone { place_of self.new name ≡ None }
+        // Each other name has the place that it had.
         ensures others { KeepsOtherPlaces self.old name self.new }
     {
-        if let Some(block) = self.blocks.get_mut(&(name / BLOCK_NAMES)) {
-            block[(name % BLOCK_NAMES) as usize] = 0;
+        if let Some(slot) = self.dense.get_mut(name as usize) {
+            *slot = 0;
         }
+        self.blocks.remove(name);
     }
-
-    /// Where the block of this number stands among the blocks. Where there was none it is made. It is refused for want of memory
-    /// alone.
-    #[inline(always)]
-    fn block(&mut self, number: u64) -> Result<usize, AllocError>
-        ensures found { IfOk result (IsBlockAt self.new number) }
-        ensures places { KeepsPlaces self.old self.new }
-        ensures absent { OnErr result (get nat_eq self.old.blocks number ≡ None) }
-    {
-        if self.is_latest(number) {
-            return Ok(self.latest);
-        }
-        let at = self.find_block(number)?;
-        self.latest = at;
-        Ok(at)
-    }
-
-    /// Whether the block that was used last has this number.
-    #[inline(always)]
-    fn is_latest(&self, number: u64) -> bool
-        ensures { IsTrue result → IsBlockAt self.now number self.now.latest }
-    {
-        match self.blocks.get_index(self.latest) {
-            Some((latest, _)) => *latest == number,
-            None => false,
-        }
-    }
-
-    /// The same as `block`, by a look-up.
-    fn find_block(&mut self, number: u64) -> Result<usize, AllocError>
-        ensures found { IfOk result (IsBlockAt self.new number) }
-        ensures places { KeepsPlaces self.old self.new }
-        ensures absent { OnErr result (get nat_eq self.old.blocks number ≡ None) }
-    {
-        match self.blocks.get_index_of(&number) {
-            Some(at) => Ok(at),
-            None => self.add_block(number),
-        }
-    }
-
-    /// Makes the block of a number that has none, in which no name has a place; the answer is where it stands.
-    fn add_block(&mut self, number: u64) -> Result<usize, AllocError>
-        requires { get nat_eq self.old.blocks number ≡ None }
-        ensures found { IfOk result (IsBlockAt self.new number) }
-        ensures places { KeepsPlaces self.old self.new }
-    {
-        let at = self.blocks.len();
-        self.blocks.insert(number, [0; 16])?;
-        Ok(at)
-    }
-}
-
-/// The number that stands for a place, where there is one.
-fn number_of(place: usize) -> Option<u32>
-    ensures { IfSome result (λ number. place_by number ≡ Some place) }
-{
-    if place < u32::MAX as usize {
-        Some(place as u32 + 1)
-    } else {
-        None
-    }
-}
-
-/// The place for which a number stands.
-fn place_by(number: u32) -> Option<usize>
-    ensures { result ≡ place_by number }
-{
-    (number as usize).checked_sub(1)
 }

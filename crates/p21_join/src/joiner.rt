@@ -1,4 +1,4 @@
-//! A model in the making.
+//! Putting instances together into a model, each name once.
 
 ghost use Rattle.std.specs.Prelude.{◌≡◌, []};
 ghost use Rattle.p21_join.specs.Names.{HasPlacesOf, HasPlacesOf-prop, HaveOwnNames};
@@ -50,11 +50,16 @@ impl<'a> Joiner<'a> {
         }
     }
 
-    /// Joins an instance behind the others. It is handed back as `Duplicate` exactly where one of them has its name, and
+    /// Joins an instance after the others. It is handed back as `Duplicate` exactly where one of them has its name, and
     /// as `Memory` where there was no memory left, or where 2^32 - 1 are joined, more than a file within the bound holds; then nothing is
     /// changed.
+    ///
+    /// Cost: O(1): a look-up of the block of 16 names to which the name belongs, which is that of the name before in
+    /// most files. A block takes some 90 bytes.
     #[inline(always)]
     pub fn add(&mut self, instance: RawInstance<'a>) -> Result<(), JoinError<'a>>
+        // It is handed back as a duplicate exactly where its name is there. Then, or for out of memory, nothing is
+        // changed.
         ensures { Joins (joined self.old) instance.entry result (joined self.new) }
     {
         let name = instance.name;

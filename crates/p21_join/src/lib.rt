@@ -6,6 +6,7 @@ mod instance_names;
 mod instance_places;
 mod joiner;
 mod model;
+mod place_blocks;
 
 pub use entities::{EntityView, ModelEntities};
 pub use instance_names::InstanceNames;

@@ -45,6 +45,8 @@ impl<'a> Model<'a> {
     }
 
     /// All instances, in file order.
+    ///
+    /// That no two have one name is a fact of the type (`own_names`).
     pub fn instances(&self) -> &[RawInstance<'a>]
         ensures { result.now ≡ instances_of self.now }
     {
@@ -60,6 +62,8 @@ impl<'a> Model<'a> {
     }
 
     /// The instance of a name.
+    ///
+    /// Cost: O(1).
     pub fn find(&self, name: u64) -> Option<&RawInstance<'a>>
         ensures { Finds (instances_of self.now) name result }
     {

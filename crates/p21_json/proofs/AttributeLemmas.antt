@@ -1,5 +1,6 @@
 -- Declarations of attributes, and which instances are of their entities.
-use Rattle.std.proofs.Common.{◌≡◌, ◌↔◌, ◌+◌, ◌<◌, ◌≤◌, ℕ, zero, suc, List, [], ◌∷◌, Bool, true, false, IsTrue, inl, inr, map, length, drop, get_or, nat_eq, not, refl, sym, ap, subst, ◌∙◌, ⊎_elim, add-one, arith}
+use Rattle.std.proofs.Common.{◌≡◌, ◌↔◌, ◌+◌, ◌<◌, ◌≤◌, ℕ, zero, suc, List, [], ◌∷◌, Bool, true, false, IsTrue, inl, inr, map, length, drop, get_or, nat_eq, not, take, Some, refl, sym, ap, subst, ◌∙◌, ⊎_elim, add-one, arith}
+use Rattle.std.specs.Prelude.{slice_get}
 use Rattle.std.specs.List.{AllZip}
 use Rattle.std.proofs.lemmas.Bool.Decides.{nat_tests}
 use Rattle.p21_express.specs.Schema.{Schema, Entity, Expr}
@@ -15,14 +16,16 @@ use Rattle.p21_schema.specs.declared.declarations.Form.TheVariants as coded
 use Rattle.p21_schema.specs.declared.resolved.ResolvedExpr.{ResolvedExpr}
 use Rattle.p21_schema.specs.Place.{no_entity, entity_at, entity_name, IsEntityOf}
 use Rattle.p21_schema.specs.Ancestry.{IsA}
-use Rattle.p21_schema.specs.Row.{IsRow}
+use Rattle.p21_schema.specs.Row.{IsRow, own_attributes}
 use Rattle.p21_schema.specs.Declaration.{Chosen, Declaration, Form, AreDeclarations, IsResolvedForm}
 use Rattle.p21_schema.specs.Declaration as declaration
 use Rattle.p21_check.specs.Attributes.{AreAttributes}
 use Rattle.p21_check.specs.Attributes as attributes
 use Rattle.p21_check.specs.Sets.{AnyIn}
+use Rattle.p21_json.specs.Keys.{has_name}
 use Rattle.p21_json.specs.Rows.{AreAttributesOf}
 use Rattle.p21_json.specs.Terms.{IsExpr}
+use Rattle.p21_json.proofs.KeyLemmas.{own_once}
 use Rattle.p21_json.specs.Where.{DeclaresLogical, IsBelow, IsLogicalAttribute, IsOf}
 
 there_at : (es : List Entity) (i : ℕ) → i < length es → IsIn es (get_or es i no_entity)
@@ -85,7 +88,7 @@ module _ {A B : Type 0} (R : A → B → Type 0) where
   zip_next (x ∷ cs) (d ∷ ds) zero c h l e = (d, refl, subst (λ (y : A). R y d) (sym e) h.0)
   zip_next (x ∷ cs) (d ∷ ds) (suc i) c h l e = zip_next cs ds i c h.1 (omega arith) e
 
-  -- what corresponds to an element, and what stands behind it
+  -- what corresponds to an element, and what stands after it
   pub zip_drop : (cs : List A) (ds : List B) (i : ℕ) (c : A) → AllZip R cs ds → i < length cs → c ≡ get_or cs i c → (d : B) × (drop i ds ≡ d ∷ drop (i + 1) ds) × R c d
   zip_drop cs ds i c h l e =
       let r = zip_next cs ds i c h l e in
@@ -171,3 +174,16 @@ not_below s a b w e k = w.cycles.entities (entity_name s b) (subst (λ (x : Enti
 -- one by an entity below, where the declaration is by the entity of this name
 pub declared_below : (s : Schema) (i : Instance) (n m k : List ℕ) → n ≡ m → (IsOf s i n × IsAncestor s n k) ↔ (IsOf s i m × IsAncestor s m k)
 declared_below s i n m k e = (subst (λ (x : List ℕ). IsOf s i x × IsAncestor s x k) e, subst (λ (x : List ℕ). IsOf s i x × IsAncestor s x k) (sym e))
+
+-- ---- attributes of one name
+
+-- an own attribute has the name of none before it
+pub own_alone : (s : Schema) (e : EntityId) (c : Bool) (os : List Origin) (p : ℕ) (o : Origin) → IsWellFormed s → IsEntityOf s e → c ≡ true → AreAttributesOf s c e os → slice_get os p ≡ Some o → false ≡ has_name (take p os) o.name
+own_alone s e c os p o wf i q a h =
+    let own : os ≡ own_attributes (entity_at s e) = subst (λ (b : Bool). AreAttributesOf s b e os) q a in
+    let once = own_once s wf (entity_at s e) (there_at s.entities e.index i) p o (subst (λ (l : List Origin). slice_get l p ≡ Some o) own h) in
+    subst (λ (l : List Origin). false ≡ has_name (take p l) o.name) (sym own) (sym once)
+
+-- those of a simple instance are the entity's row
+pub of_row : (s : Schema) (e : EntityId) (c : Bool) (os : List Origin) → c ≡ false → AreAttributesOf s c e os → IsRow s (entity_name s e) os
+of_row s e c os q a = subst (λ (b : Bool). AreAttributesOf s b e os) q a

@@ -18,7 +18,7 @@ use Rattle.p21_json.specs.Written.{Adds}
 abbrev pub words : List (Bor (List ℕ)) → List (List ℕ)
 words ks = map (λ k. k.now) ks
 
--- the values from a place on are the one there and those behind it
+-- the values from a place on are the one there and those after it
 pub labelled_step : (ks : List (Bor (List ℕ))) (ps : List Param) (p : ℕ) (d : Bor (List ℕ)) (x : Param) → p < length ks → p < length ps → x ≡ get_or ps p x
     → labelled_parts (words (drop p ks)) (plain_all (drop p ps)) ≡ (label (get_or ks p d).now ∷ value_parts header (plain x)) ++ labelled_parts (words (drop (p + 1) ks)) (plain_all (drop (p + 1) ps))
 labelled_step ks ps p d x h l f =

@@ -15,49 +15,57 @@ use Rattle.p21_tree.specs.Views.{plain_record}
 use Rattle.p21_schema.specs.declared.ids.AttrId.{AttrId}
 use Rattle.p21_schema.specs.declared.ids.EntityId.{EntityId}
 use Rattle.p21_schema.specs.Row.{attribute_at}
+use Rattle.p21_json.specs.Keys.{key_of}
 use Rattle.p21_json.specs.Rows.{AreAttributesOf}
 use Rattle.p21_json.specs.Where.{attribute}
 use Rattle.p21_json.specs.Parts.{Part, exactly, key, value_parts}
 use Rattle.p21_json.specs.Instances.{member_parts, members_parts, AreKnown, AreRecordsParts, IsBehindName, IsRecordParts}
 
 -- the member of what is not derived
-pub member_value : (i : Instance) (o : Origin) (t : Tree) → t ≢ derived → member_parts i o t ≡ key o.name ∷ value_parts (attribute i o) t
-member_value i o derived h = absurd (h refl)
-member_value i o absent h = refl
-member_value i o (int s) h = refl
-member_value i o (real s) h = refl
-member_value i o (str s) h = refl
-member_value i o (enumeration s) h = refl
-member_value i o (binary s) h = refl
-member_value i o (reference n) h = refl
-member_value i o (items ts) h = refl
-member_value i o (typed k t) h = refl
+pub member_value : (i : Instance) (k : List ℕ) (o : Origin) (t : Tree) → t ≢ derived → member_parts i k o t ≡ key k ∷ value_parts (attribute i o) t
+member_value i q o derived h = absurd (h refl)
+member_value i q o absent h = refl
+member_value i q o (int s) h = refl
+member_value i q o (real s) h = refl
+member_value i q o (str s) h = refl
+member_value i q o (enumeration s) h = refl
+member_value i q o (binary s) h = refl
+member_value i q o (reference n) h = refl
+member_value i q o (items ts) h = refl
+member_value i q o (typed k t) h = refl
 
 found_drop : (os : List Origin) (p : ℕ) (o : Origin) → slice_get os p ≡ Some o → drop p os ≡ o ∷ drop (suc p) os
 found_drop [] p o h = cc
 found_drop (x ∷ os) zero o h = let same : x ≡ o = cc in ap (λ (y : Origin). y ∷ os) same
 found_drop (x ∷ os) (suc p) o h = found_drop os p o h
 
--- the members from a place on are the one there and those behind it
+found_take : (os : List Origin) (p : ℕ) (o : Origin) → slice_get os p ≡ Some o → take p os ++ o ∷ [] ≡ take (suc p) os
+found_take [] p o h = cc
+found_take (x ∷ os) zero o h = let same : x ≡ o = cc in ap (λ (y : Origin). y ∷ []) (sym same)
+found_take (x ∷ os) (suc p) o h = ap (λ (l : List Origin). x ∷ l) (found_take os p o h)
+
+-- the members from a place on are the one there and those after it
 pub members_step : (i : Instance) (os : List Origin) (ps : List Param) (p : ℕ) (o : Origin) (x : Param) → slice_get os p ≡ Some o → p < length ps → x ≡ get_or ps p x
-    → members_parts i (drop p os) (plain_all (drop p ps)) ≡ member_parts i o (plain x) ++ members_parts i (drop (p + 1) os) (plain_all (drop (p + 1) ps))
+    → members_parts i (take p os) (drop p os) (plain_all (drop p ps)) ≡ member_parts i (key_of (take p os) o) o (plain x) ++ members_parts i (take (p + 1) os) (drop (p + 1) os) (plain_all (drop (p + 1) ps))
 members_step i os ps p o x h l e =
     let here : drop p os ≡ o ∷ drop (p + 1) os = found_drop os p o h ∙ ap (λ (k : ℕ). o ∷ drop k os) (sym (add-one p)) in
     let there : drop p ps ≡ x ∷ drop (p + 1) ps = drop_more ps p x l ∙ ap (λ (q : Param). q ∷ drop (p + 1) ps) (sym e) in
-    ap (λ l. members_parts i l (plain_all (drop p ps))) here ∙ ap (λ l. members_parts i (o ∷ drop (p + 1) os) (plain_all l)) there
+    let front : take p os ++ o ∷ [] ≡ take (p + 1) os = found_take os p o h ∙ ap (λ (k : ℕ). take k os) (sym (add-one p)) in
+    ap (λ l. members_parts i (take p os) l (plain_all (drop p ps))) here ∙ ap (λ l. members_parts i (take p os) (o ∷ drop (p + 1) os) (plain_all l)) there
+    ∙ ap (λ l. member_parts i (key_of (take p os) o) o (plain x) ++ members_parts i l (drop (p + 1) os) (plain_all (drop (p + 1) ps))) front
 
-members_nil : (i : Instance) (os : List Origin) → members_parts i os nil ≡ []
-members_nil i [] = refl
-members_nil i (o ∷ os) = refl
+members_nil : (i : Instance) (before os : List Origin) → members_parts i before os nil ≡ []
+members_nil i before [] = refl
+members_nil i before (o ∷ os) = refl
 
 -- there are none where attributes or parameters end
-pub members_end : (i : Instance) (os : List Origin) (ps : List Param) (p : ℕ) → min (length os) (length ps) ≤ p → members_parts i (drop p os) (plain_all (drop p ps)) ≡ []
-members_end i [] ps zero h = refl
-members_end i [] ps (suc p) h = refl
-members_end i (o ∷ os) [] zero h = refl
-members_end i (o ∷ os) [] (suc p) h = members_nil i (drop p os)
-members_end i (o ∷ os) (x ∷ ps) zero h = absurd (omega arith)
-members_end i (o ∷ os) (x ∷ ps) (suc p) h = members_end i os ps p (omega arith)
+pub members_end : (i : Instance) (before os : List Origin) (ps : List Param) (p : ℕ) → min (length os) (length ps) ≤ p → members_parts i before (drop p os) (plain_all (drop p ps)) ≡ []
+members_end i before [] ps zero h = refl
+members_end i before [] ps (suc p) h = refl
+members_end i before (o ∷ os) [] zero h = refl
+members_end i before (o ∷ os) [] (suc p) h = members_nil i before (drop p os)
+members_end i before (o ∷ os) (x ∷ ps) zero h = absurd (omega arith)
+members_end i before (o ∷ os) (x ∷ ps) (suc p) h = members_end i before os ps p (omega arith)
 
 -- one more record
 pub records_snoc : (s : Schema) (i : Instance) (es : List Entry) (e : Entry) (p q : List Part) → AreRecordsParts s i es p → IsRecordParts s i e q

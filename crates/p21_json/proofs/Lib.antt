@@ -15,3 +15,8 @@ pub mod SameLemmas
 pub mod SlotLemmas
 pub mod RowLemmas
 pub mod LossLemmas
+pub mod WordLemmas
+pub mod KeyLemmas
+pub mod DeclaredLemmas
+pub mod SkipLemmas
+pub mod MemberLemmas

@@ -11,7 +11,7 @@ use Rattle.p21_tree.specs.Grammar.{Entry}
 use Rattle.p21_tree.specs.Sentence.{Instance}
 use Rattle.p21_tree.specs.declared.faults.FaultKind.TheVariants as kind
 use Rattle.p21_express.specs.Schema.{Schema}
-use Rattle.p21_express.specs.WellFormed.{IsIn, IsWellFormed, Origin}
+use Rattle.p21_express.specs.WellFormed.{IsIn, AreDistinct, IsWellFormed, Origin}
 use Rattle.p21_check.specs.Attributes.{AreAttributes}
 use Rattle.p21_check.specs.Conforms.{tree_count}
 use Rattle.p21_check.specs.EntitySet.{IsInSet, keywords}
@@ -20,16 +20,22 @@ use Rattle.p21_check.specs.LocalFault.{IsLocalFault, tree_get}
 use Rattle.p21_check.specs.Slot.{DeclaresIn, IsDerived, Counts, FitsSlot}
 use Rattle.p21_check.specs.Slot as slot
 use Rattle.p21_json.specs.Instances.{member_parts, members_parts, record_parts, AreRecordsParts, IsRecordParts, IsBehindName}
-use Rattle.p21_json.specs.Laws.{LosesNothing}
+use Rattle.p21_json.specs.Keys.{HasNames, key_of, keys_behind}
+use Rattle.p21_json.specs.Laws.{LosesNoMember, LosesNothing}
+use Rattle.p21_json.specs.Members.{Member, under, AreMembers, ShowTheSame, AllShowTheSame}
 use Rattle.p21_json.specs.Parts.{Part, exactly, name, key, label, decimal_part, AreTokensOf, value_parts}
 use Rattle.p21_json.specs.Same.{AreSame, AreSameRecords, IsSameInstance}
 use Rattle.p21_json.specs.Same as same
 use Rattle.p21_json.specs.Spellings.{HaveSpellings, HasItsRecords, RecordHasSpellings}
 use Rattle.p21_json.specs.Where.{IsOf, IsLogicalAt, IsLogicalAttribute, attribute}
 use Rattle.p21_json.specs.Spelled.{IsSpelled}
+use Rattle.std.proofs.lemmas.List.{append-nil}
+use Rattle.p21_json.proofs.KeyLemmas.{IsNamed, distinct_keys}
+use Rattle.p21_json.proofs.MemberLemmas.{attributes_are, has_value, key_parts, no_member, none_under, same_head, same_tail}
 use Rattle.p21_json.proofs.NameLemmas.{same_keyword}
 use Rattle.p21_json.proofs.InstanceLemmas.{member_value}
 use Rattle.p21_json.proofs.SameLemmas.{Both, OfOneType, pairs, seam, turn, same_value, same_number_token}
+use Rattle.p21_json.proofs.SkipLemmas.{same_keywords}
 use Rattle.p21_json.proofs.SlotLemmas.{IsPair, stars, values, pair_of}
 use Rattle.p21_json.proofs.RowLemmas.{attributes_once, attribute_from, set_of}
 
@@ -111,38 +117,38 @@ same_stars : (t u : Tree) → t ≡ derived → u ≡ derived → same.IsSame t 
 same_stars t u e f = subst (λ (x : Tree). same.IsSame x u) (sym e) (subst (λ (y : Tree). same.IsSame derived y) (sym f) same.derived)
 
 module _ (s : Schema) (wf : IsWellFormed s) (i j : Instance) (alike : (o : Origin) → IsLogicalAt s (attribute i o) ↔ IsLogicalAt s (attribute j o)) where
-  same_members : (os : List Origin) (ts us : Trees) → ArePairs s i os ts us → HaveSpellings ts → HaveSpellings us → (r q : List Part) (tokens : List Token) → AreTokensOf s (members_parts i os ts ++ exactly json.end_object ∷ r) tokens → AreTokensOf s (members_parts j os us ++ exactly json.end_object ∷ q) tokens → Both (AreSame ts us) s r q
-  same_members [] nil nil p c d r q [] h k = absurd h
-  same_members [] nil nil p c d r q (_ ∷ tokens) h k = (same.none, (tokens, h.1, k.1))
-  same_members [] nil (cons u us) p c d r q tokens h k = absurd p
-  same_members [] (cons t ts) us p c d r q tokens h k = absurd p
-  same_members (o ∷ os) nil us p c d r q tokens h k = absurd p
-  same_members (o ∷ os) (cons t ts) nil p c d r q tokens h k = absurd p
-  same_members (o ∷ os) (cons t ts) (cons u us) p c d r q tokens h k =
+  same_members : (before os : List Origin) (ts us : Trees) → ArePairs s i os ts us → HaveSpellings ts → HaveSpellings us → (r q : List Part) (tokens : List Token) → AreTokensOf s (members_parts i before os ts ++ exactly json.end_object ∷ r) tokens → AreTokensOf s (members_parts j before os us ++ exactly json.end_object ∷ q) tokens → Both (AreSame ts us) s r q
+  same_members before [] nil nil p c d r q [] h k = absurd h
+  same_members before [] nil nil p c d r q (_ ∷ tokens) h k = (same.none, (tokens, h.1, k.1))
+  same_members before [] nil (cons u us) p c d r q tokens h k = absurd p
+  same_members before [] (cons t ts) us p c d r q tokens h k = absurd p
+  same_members before (o ∷ os) nil us p c d r q tokens h k = absurd p
+  same_members before (o ∷ os) (cons t ts) nil p c d r q tokens h k = absurd p
+  same_members before (o ∷ os) (cons t ts) (cons u us) p c d r q tokens h k =
       let end = exactly json.end_object in
-      let First : List Part → Type 0 = λ m. AreTokensOf s ((m ++ members_parts i os ts) ++ end ∷ r) tokens in
-      let Second : List Part → Type 0 = λ m. AreTokensOf s ((m ++ members_parts j os us) ++ end ∷ q) tokens in
+      let First : List Part → Type 0 = λ m. AreTokensOf s ((m ++ members_parts i (before ++ o ∷ []) os ts) ++ end ∷ r) tokens in
+      let Second : List Part → Type 0 = λ m. AreTokensOf s ((m ++ members_parts j (before ++ o ∷ []) os us) ++ end ∷ q) tokens in
       ⊎_elim
       (λ (a : t ≡ derived). ⊎_elim
       (λ (b : u ≡ derived).
-      let more = same_members os ts us p.1 c.1 d.1 r q tokens (subst (λ (x : Tree). First (member_parts i o x)) a h) (subst (λ (x : Tree). Second (member_parts j o x)) b k) in
+      let more = same_members (before ++ o ∷ []) os ts us p.1 c.1 d.1 r q tokens (subst (λ (x : Tree). First (member_parts i (key_of before o) o x)) a h) (subst (λ (x : Tree). Second (member_parts j (key_of before o) o x)) b k) in
       (same.more (same_stars t u a b) more.0, more.1))
       (λ (m : u ≢ derived). absurd (p.0 (λ x. m (both_stars s i o x a))))
       (is_star u))
       (λ (n : t ≢ derived). ⊎_elim
       (λ (b : u ≡ derived). absurd (p.0 (λ x. n (both_stars_back s i o x b))))
-      (λ (m : u ≢ derived). valued tokens (λ rest f g. same_members os ts us p.1 c.1 d.1 r q rest f g) n m (subst First (member_value i o t n) h) (subst Second (member_value j o u m) k))
+      (λ (m : u ≢ derived). valued tokens (λ rest f g. same_members (before ++ o ∷ []) os ts us p.1 c.1 d.1 r q rest f g) n m (subst First (member_value i (key_of before o) o t n) h) (subst Second (member_value j (key_of before o) o u m) k))
       (is_star u))
       (is_star t)
     where
-      valued : (tokens : List Token) → ((rest : List Token) → AreTokensOf s (members_parts i os ts ++ exactly json.end_object ∷ r) rest → AreTokensOf s (members_parts j os us ++ exactly json.end_object ∷ q) rest → Both (AreSame ts us) s r q) → t ≢ derived → u ≢ derived → AreTokensOf s (((key o.name ∷ value_parts (attribute i o) t) ++ members_parts i os ts) ++ exactly json.end_object ∷ r) tokens → AreTokensOf s (((key o.name ∷ value_parts (attribute j o) u) ++ members_parts j os us) ++ exactly json.end_object ∷ q) tokens
+      valued : (tokens : List Token) → ((rest : List Token) → AreTokensOf s (members_parts i (before ++ o ∷ []) os ts ++ exactly json.end_object ∷ r) rest → AreTokensOf s (members_parts j (before ++ o ∷ []) os us ++ exactly json.end_object ∷ q) rest → Both (AreSame ts us) s r q) → t ≢ derived → u ≢ derived → AreTokensOf s (((key (key_of before o) ∷ value_parts (attribute i o) t) ++ members_parts i (before ++ o ∷ []) os ts) ++ exactly json.end_object ∷ r) tokens → AreTokensOf s (((key (key_of before o) ∷ value_parts (attribute j o) u) ++ members_parts j (before ++ o ∷ []) os us) ++ exactly json.end_object ∷ q) tokens
           → Both (AreSame (cons t ts) (cons u us)) s r q
       valued [] next n m f g = absurd f
       valued (_ ∷ rest) next n m f g =
           let end = exactly json.end_object in
-          let first = turn s (value_parts (attribute i o) t) (members_parts i os ts) (end ∷ r) rest f.1 in
-          let second = turn s (value_parts (attribute j o) u) (members_parts j os us) (end ∷ q) rest g.1 in
-          let made = same_value s wf t u (attribute i o) (attribute j o) (alike o) (one_type s i o t u n p.0) c.0 d.0 (members_parts i os ts ++ end ∷ r) (members_parts j os us ++ end ∷ q) rest first second in
+          let first = turn s (value_parts (attribute i o) t) (members_parts i (before ++ o ∷ []) os ts) (end ∷ r) rest f.1 in
+          let second = turn s (value_parts (attribute j o) u) (members_parts j (before ++ o ∷ []) os us) (end ∷ q) rest g.1 in
+          let made = same_value s wf t u (attribute i o) (attribute j o) (alike o) (one_type s i o t u n p.0) c.0 d.0 (members_parts i (before ++ o ∷ []) os ts ++ end ∷ r) (members_parts j (before ++ o ∷ []) os us ++ end ∷ q) rest first second in
           let more = next made.1.0 made.1.1 made.1.2 in
           (same.more made.0 more.0, more.1)
 
@@ -157,10 +163,10 @@ module _ (s : Schema) (wf : IsWellFormed s) (i j : Instance) (alike : (o : Origi
       let end = exactly json.end_object in
       let front = label (codes "type") ∷ name e.keyword ∷ label (codes "attributes") ∷ exactly json.begin_object ∷ [] in
       let other = label (codes "type") ∷ name f.keyword ∷ label (codes "attributes") ∷ exactly json.begin_object ∷ [] in
-      let both = pairs s front other ((members_parts i os e.params ++ end ∷ []) ++ r) ((members_parts j os f.params ++ end ∷ []) ++ q) tokens refl h k in
-      let first = seam s (members_parts i os e.params) end r both.1.0 both.1.1 in
-      let second = seam s (members_parts j os f.params) end q both.1.0 both.1.2 in
-      same_members os e.params f.params p c.1 d.1 r q both.1.0 first second
+      let both = pairs s front other ((members_parts i [] os e.params ++ end ∷ []) ++ r) ((members_parts j [] os f.params ++ end ∷ []) ++ q) tokens refl h k in
+      let first = seam s (members_parts i [] os e.params) end r both.1.0 both.1.1 in
+      let second = seam s (members_parts j [] os f.params) end q both.1.0 both.1.2 in
+      same_members [] os e.params f.params p c.1 d.1 r q both.1.0 first second
 
   same_by_parts : i.complex ≡ j.complex → (e f : Entry) → IsRecordPair e f → RecordHasSpellings e → RecordHasSpellings f → (ps qs : List Part) → IsRecordParts s i e ps → IsRecordParts s j f qs → (r q : List Part) (tokens : List Token) → AreTokensOf s (ps ++ r) tokens → AreTokensOf s (qs ++ q) tokens → Both (AreSame e.params f.params) s r q
   same_by_parts cs e f p c d ps qs x y r q tokens h k =
@@ -310,8 +316,8 @@ one_entity s i j (e ∷ []) (f ∷ g ∷ fs) m n c d ps qs r q tokens x y h k = 
 one_entity s i j (e ∷ []) (f ∷ []) m n c d ps qs r q tokens x y h k =
     let front = label (codes "type") ∷ name e.keyword ∷ [] in
     let other = label (codes "type") ∷ name f.keyword ∷ [] in
-    let rest = label (codes "attributes") ∷ exactly json.begin_object ∷ (members_parts i x.0 e.params ++ exactly json.end_object ∷ []) in
-    let behind = label (codes "attributes") ∷ exactly json.begin_object ∷ (members_parts j y.0 f.params ++ exactly json.end_object ∷ []) in
+    let rest = label (codes "attributes") ∷ exactly json.begin_object ∷ (members_parts i [] x.0 e.params ++ exactly json.end_object ∷ []) in
+    let behind = label (codes "attributes") ∷ exactly json.begin_object ∷ (members_parts j [] y.0 f.params ++ exactly json.end_object ∷ []) in
     let both = pairs s front other (rest ++ r) (behind ++ q) tokens refl (subst (λ (l : List Part). AreTokensOf s (l ++ r) tokens) x.2 h) (subst (λ (l : List Part). AreTokensOf s (l ++ q) tokens) y.2 k) in
     let (spelled, of_first, is_first) = both.0.1.0.1 in
     let (again, of_second, is_second) = both.0.1.0.2 in
@@ -319,11 +325,21 @@ one_entity s i j (e ∷ []) (f ∷ []) m n c d ps qs r q tokens x y h k =
     let one = same_keyword again e.keyword f.keyword c.0.0 d.0.0 (subst (λ (b : List ℕ). IsSpelled b e.keyword) text of_first) of_second in
     ap (λ (n : List ℕ). n ∷ []) one
 
+-- complex ones are of the same entities
+complex_entities : (s : Schema) (i j : Instance) (es fs : List Entry) → AllByRecursion RecordHasSpellings es → AllByRecursion RecordHasSpellings fs → (ps qs r q : List Part) (tokens : List Token) → IsBehindName s i true es ps → IsBehindName s j true fs qs → AreTokensOf s (ps ++ r) tokens → AreTokensOf s (qs ++ q) tokens → keywords_in es ≡ keywords_in fs
+complex_entities s i j es fs c d ps qs r q tokens x y h k =
+    let end = exactly json.end_array in
+    let front = label (codes "records") ∷ exactly json.begin_array ∷ [] in
+    let h' = subst (λ (l : List Part). AreTokensOf s (l ++ r) tokens) x.2 h in
+    let k' = subst (λ (l : List Part). AreTokensOf s (l ++ q) tokens) y.2 k in
+    let opened = pairs s front front ((x.0 ++ end ∷ []) ++ r) ((y.0 ++ end ∷ []) ++ q) tokens refl h' k' in
+    same_keywords s i j es fs c d x.0 y.0 r q opened.1.0 x.1 y.1 (seam s x.0 end r opened.1.0 opened.1.1) (seam s y.0 end q opened.1.0 opened.1.2)
+
 -- ---- instances
 
 -- instances with the same tokens are the same but for spelling
 pub same_instance : (s : Schema) → IsWellFormed s → LosesNothing s
-same_instance s wf i j tokens a b of_one x y =
+same_instance s wf i j tokens a b x y =
     let close = exactly json.end_object in
     let front = exactly json.begin_object ∷ label (codes "id") ∷ decimal_part i.name ∷ [] in
     let again = exactly json.begin_object ∷ label (codes "id") ∷ decimal_part j.name ∷ [] in
@@ -337,7 +353,9 @@ same_instance s wf i j tokens a b of_one x y =
     let behind = subst (λ (c : Bool). IsBehindName s j c j.records y.are_parts.0) (sym cs) y.are_parts.1 in
     let entities : (c : Bool) → i.complex ≡ c → keywords i ≡ keywords j = λ c.
     elim c as (λ c. i.complex ≡ c → keywords i ≡ keywords j) [
-      | true ↦ of_one
+      | true ↦ λ e.
+          complex_entities s i j i.records j.records a.spelled.records b.spelled.records x.are_parts.0 y.are_parts.0 (close ∷ []) (close ∷ []) opened.1.0
+          (subst (λ (c : Bool). IsBehindName s i c i.records x.are_parts.0) e x.are_parts.1) (subst (λ (c : Bool). IsBehindName s j c j.records y.are_parts.0) e behind) opened.1.1 opened.1.2
       | false ↦ λ e.
           one_entity s i j i.records j.records (subst (λ (c : Bool). HasItsRecords c i.records) e a.spelled.one) (subst (λ (c : Bool). HasItsRecords c j.records) e its) a.spelled.records b.spelled.records x.are_parts.0 y.are_parts.0 (close ∷ []) (close ∷ []) opened.1.0
           (subst (λ (c : Bool). IsBehindName s i c i.records x.are_parts.0) e x.are_parts.1) (subst (λ (c : Bool). IsBehindName s j c j.records y.are_parts.0) e behind) opened.1.1 opened.1.2
@@ -347,3 +365,71 @@ same_instance s wf i j tokens a b of_one x y =
     let p = paired s wf i j a.faultless b.faultless cs ks alike i.records j.records ks (record_pair s wf i j a.faultless b.faultless cs ks) in
     let made = same_behind s wf i j alike cs i.complex i.records j.records a.spelled.one its p a.spelled.records b.spelled.records x.are_parts.0 y.are_parts.0 x.are_parts.1 behind (close ∷ []) (close ∷ []) opened.1.0 opened.1.1 opened.1.2 in
     record { name = one; complex = cs; records = made.0 }
+
+-- ---- instances with the same under each key
+
+module _ (s : Schema) (wf : IsWellFormed s) (i j : Instance) (alike : (o : Origin) → IsLogicalAt s (attribute i o) ↔ IsLogicalAt s (attribute j o)) where
+  same_by_members : (before os : List Origin) (ts us : Trees) → ArePairs s i os ts us → HaveSpellings ts → HaveSpellings us → AllByRecursion IsNamed os → AreDistinct (keys_behind before os) → (ms ns : List Member) → AreMembers s i before os ts ms → AreMembers s j before os us ns → ((k : List ℕ) → under k ms ≡ under k ns) → AreSame ts us
+  same_by_members before [] nil nil p c d n e ms ns x y f = same.none
+  same_by_members before [] nil (cons u us) p c d n e ms ns x y f = absurd p
+  same_by_members before [] (cons t ts) us p c d n e ms ns x y f = absurd p
+  same_by_members before (o ∷ os) nil us p c d n e ms ns x y f = absurd p
+  same_by_members before (o ∷ os) (cons t ts) nil p c d n e ms ns x y f = absurd p
+  same_by_members before (o ∷ os) (cons t ts) (cons u us) p c d n e ms ns x y f =
+      let k = key_of before o in
+      ⊎_elim
+      (λ (a : t ≡ derived). ⊎_elim
+      (λ (b : u ≡ derived).
+      let first : ms ≡ x.1 = x.4 ∙ ap (λ (l : List Member). l ++ x.1) (no_member s i k o t x.0 a x.2) in
+      let second : ns ≡ y.1 = y.4 ∙ ap (λ (l : List Member). l ++ y.1) (no_member s j k o u y.0 b y.2) in
+      same.more (same_stars t u a b) (same_by_members (before ++ o ∷ []) os ts us p.1 c.1 d.1 n.1 e.1 x.1 y.1 x.3 y.3 (λ l. ap (under l) (sym first) ∙ f l ∙ ap (under l) second)))
+      (λ (m : u ≢ derived). absurd (p.0 (λ q. m (both_stars s i o q a))))
+      (is_star u))
+      (λ (m : t ≢ derived). ⊎_elim
+      (λ (b : u ≡ derived). absurd (p.0 (λ q. m (both_stars_back s i o q b))))
+      (λ (l : u ≢ derived).
+      let mine = has_value s i k o t x.0 m x.2 in
+      let yours = has_value s j k o u y.0 l y.2 in
+      let first : ms ≡ mine.0 ∷ x.1 = x.4 ∙ ap (λ (l : List Member). l ++ x.1) mine.3 in
+      let second : ns ≡ yours.0 ∷ y.1 = y.4 ∙ ap (λ (l : List Member). l ++ y.1) yours.3 in
+      let g : (l : List ℕ) → under l (mine.0 ∷ x.1) ≡ under l (yours.0 ∷ y.1) = λ l. ap (under l) (sym first) ∙ f l ∙ ap (under l) second in
+      let none = none_under s i (before ++ o ∷ []) os ts x.1 mine.0.key k mine.1 (key_parts before o n.0) n.1 e.0 x.3 in
+      let nothing = none_under s j (before ++ o ∷ []) os us y.1 mine.0.key k mine.1 (key_parts before o n.0) n.1 e.0 y.3 in
+      let head = same_head mine.0 yours.0 x.1 y.1 none nothing (g mine.0.key) in
+      let whole : (ps : List Part) (tokens : List Token) → AreTokensOf s ps tokens → AreTokensOf s (ps ++ []) tokens = λ ps tokens h. subst (λ (q : List Part). AreTokensOf s q tokens) (sym (append-nil ps)) h in
+      let theirs = subst (AreTokensOf s (value_parts (attribute j o) u)) (sym head.1) yours.2 in
+      let one = same_value s wf t u (attribute i o) (attribute j o) (alike o) (one_type s i o t u m p.0) c.0 d.0 [] [] mine.0.value (whole (value_parts (attribute i o) t) mine.0.value mine.2) (whole (value_parts (attribute j o) u) mine.0.value theirs) in
+      same.more one.0 (same_by_members (before ++ o ∷ []) os ts us p.1 c.1 d.1 n.1 e.1 x.1 y.1 x.3 y.3 (same_tail mine.0 yours.0 x.1 y.1 none nothing head.0 g)))
+      (is_star u))
+      (is_star t)
+
+  shown_record : HasNames s → i.complex ≡ j.complex → (e f : Entry) → IsRecordPair s wf i j alike e f → RecordHasSpellings e → RecordHasSpellings f → ShowTheSame s i j e f → AreSame e.params f.params
+  shown_record names cs e f p c d h =
+      let x = h.of_first in
+      let y = h.of_second in
+      let there : AreAttributes s i.complex e.keyword y.attributes = subst (λ (b : Bool). AreAttributes s b e.keyword y.attributes) (sym cs) (subst (λ (n : List ℕ). AreAttributes s j.complex n y.attributes) (sym p.0) y.are) in
+      let one : y.attributes ≡ x.attributes = attributes_once s wf there x.are in
+      let both = attributes_are s wf names x.are in
+      same_by_members [] x.attributes e.params f.params (p.1 x.attributes x.are) c.1 d.1 both.1 (distinct_keys [] x.attributes both.1 both.0) h.first h.second x.shown (subst (λ (os : List Origin). AreMembers s j [] os f.params h.second) one y.shown) h.same
+
+  shown_records : HasNames s → i.complex ≡ j.complex → (es fs : List Entry) → ArePairedRecords s wf i j alike es fs → AllByRecursion RecordHasSpellings es → AllByRecursion RecordHasSpellings fs → AllShowTheSame s i j es fs → AreSameRecords es fs
+  shown_records names cs [] [] p c d h = same.none
+  shown_records names cs [] (f ∷ fs) p c d h = absurd h
+  shown_records names cs (e ∷ es) [] p c d h = absurd h
+  shown_records names cs (e ∷ es) (f ∷ fs) p c d h = same.more p.0.0 (shown_record names cs e f p.0 c.0 d.0 h.0) (shown_records names cs es fs p.1 c.1 d.1 h.1)
+
+-- what shows the same is of the same entities
+shown_keywords : (s : Schema) (i j : Instance) (es fs : List Entry) → AllByRecursion RecordHasSpellings es → AllByRecursion RecordHasSpellings fs → AllShowTheSame s i j es fs → keywords_in es ≡ keywords_in fs
+shown_keywords s i j [] [] c d h = refl
+shown_keywords s i j [] (f ∷ fs) c d h = absurd h
+shown_keywords s i j (e ∷ es) [] c d h = absurd h
+shown_keywords s i j (e ∷ es) (f ∷ fs) c d h =
+    let one : e.keyword ≡ f.keyword = same_keyword h.0.type e.keyword f.keyword c.0.0 d.0.0 h.0.of_first.spelled h.0.of_second.spelled in cc (one, shown_keywords s i j es fs c.1 d.1 h.1)
+
+-- instances that show the same to who goes by keys are the same but for spelling
+pub same_by_keys : (s : Schema) → IsWellFormed s → HasNames s → LosesNoMember s
+same_by_keys s wf names i j a b one cs h =
+    let ks = shown_keywords s i j i.records j.records a.spelled.records b.spelled.records h in
+    let alike : (o : Origin) → IsLogicalAt s (attribute i o) ↔ IsLogicalAt s (attribute j o) = λ o. (logical_as s i j o ks, logical_as s j i o (sym ks)) in
+    let p = paired s wf i j a.faultless b.faultless cs ks alike i.records j.records ks (record_pair s wf i j a.faultless b.faultless cs ks) in
+    record { name = one; complex = cs; records = shown_records s wf i j alike names cs i.records j.records p a.spelled.records b.spelled.records h }

@@ -66,7 +66,7 @@ low_all (b ∷ bs) (c ∷ cs) h e =
     let first : to_ascii_lowercase b ≡ to_ascii_lowercase c = cc in
     let rest : map to_ascii_lowercase bs ≡ map to_ascii_lowercase cs = cc in IsAscii-cons b bs (low b c h.0 first) (low_all bs cs h.1 rest)
 
-same_letters : (bs cs : List ℕ) → AllByRecursion IsPart bs → AllByRecursion IsPart cs → map to_ascii_lowercase bs ≡ map to_ascii_lowercase cs → bs ≡ cs
+pub same_letters : (bs cs : List ℕ) → AllByRecursion IsPart bs → AllByRecursion IsPart cs → map to_ascii_lowercase bs ≡ map to_ascii_lowercase cs → bs ≡ cs
 same_letters [] [] h k e = refl
 same_letters [] (c ∷ cs) h k e = cc
 same_letters (b ∷ bs) [] h k e = cc
@@ -74,13 +74,15 @@ same_letters (b ∷ bs) (c ∷ cs) h k e =
     let first : to_ascii_lowercase b ≡ to_ascii_lowercase c = cc in
     let rest : map to_ascii_lowercase bs ≡ map to_ascii_lowercase cs = cc in cc (same_letter b c h.0 k.0 first, same_letters bs cs h.1 k.1 rest)
 
--- keywords that one text spells are the same
-pub same_keyword : (text k l : List ℕ) → IsKeyword k → IsKeyword l → IsSpelled text k → IsSpelled text l → k ≡ l
-same_keyword text k l h g p q =
-    let ks = keyword_parts k h in
-    let ls = keyword_parts l g in
+-- what one text spells is the same
+pub same_text : (text k l : List ℕ) → AllByRecursion IsPart k → AllByRecursion IsPart l → IsSpelled text k → IsSpelled text l → k ≡ l
+same_text text k l ks ls p q =
     let bytes : p.bytes ≡ q.bytes = same_ascii p.bytes q.bytes (low_all p.bytes k ks p.same) (low_all q.bytes l ls q.same) (sym p.spelled ∙ q.spelled) in
     same_letters k l ks ls (sym p.same ∙ ap (map to_ascii_lowercase) bytes ∙ q.same)
+
+-- keywords that one text spells are the same
+pub same_keyword : (text k l : List ℕ) → IsKeyword k → IsKeyword l → IsSpelled text k → IsSpelled text l → k ≡ l
+same_keyword text k l h g p q = same_text text k l (keyword_parts k h) (keyword_parts l g) p q
 
 -- items of enumerations that one text spells are the same
 pub same_name : (v w : List ℕ) → IsName v → IsName w → text_of v ≡ text_of w → v ≡ w

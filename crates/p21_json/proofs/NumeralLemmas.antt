@@ -132,7 +132,7 @@ no_minus _ rest (others {d} {ds} h n hs) =
 
 -- ---- the shape of a numeral
 
--- `-` or nothing, digits without a zero in front that a further digit follows, and what stands behind them
+-- `-` or nothing, digits without a zero in front that a further digit follows, and what stands after them
 pub record IsShape (v tail : List ℕ) : Type 0 where
   pub minus : List ℕ
   pub core : List ℕ
@@ -173,7 +173,7 @@ real_shape v h =
 whole_exponent : (e : List ℕ) → IsExponent e → with_fraction e ≡ e
 whole_exponent e h = ap with_fraction (sym (append-nil e)) ∙ fraction_past e [] (exponent_points e h) ∙ append-nil e
 
--- a point, a digit, and what stands behind it
+-- a point, a digit, and what stands after it
 pub fraction_shape : (fraction e : List ℕ) → AllByRecursion IsDigit fraction → IsExponent e → (d : ℕ) × (ds : List ℕ) × IsDigit d × AllByRecursion IsDigit ds × (with_fraction (46 ∷ (fraction ++ e)) ≡ 46 ∷ d ∷ (ds ++ e))
 fraction_shape [] e h k =
     (48, [], (omega arith, omega arith), tt, ap (λ (t : Bool). if not t then 46 ∷ 48 ∷ with_fraction e else 46 ∷ with_fraction e) (exponent_stops e k) ∙ ap (λ (l : List ℕ). 46 ∷ 48 ∷ l) (whole_exponent e k))

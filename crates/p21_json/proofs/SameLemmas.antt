@@ -79,7 +79,8 @@ tag (binary v) = 98
 tag (reference n) = 114
 tag (typed k t) = 116
 
-either : {P : Type 0} {u a b : Token} (f : Token → ℕ) (n : ℕ) → IsEither P u a b → f a ≡ n → f b ≡ n → f u ≡ n
+-- what holds of both holds of the one that it is
+pub either : {P : Type 0} {u a b : Token} (f : Token → ℕ) (n : ℕ) → IsEither P u a b → f a ≡ n → f b ≡ n → f u ≡ n
 either {P} {u} {a} {b} f n h p q = decide (f u == n) refl where
   decide : (t : Bool) → (f u == n) ≡ t → f u ≡ n
   decide true e = eqb-true (f u) n e
@@ -144,7 +145,7 @@ OfOneType s w t u = ¬ (¬ ((e : Expr) × IsOfType s w e × Fits s e t × Fits s
 abbrev pub AreOfOneType : Schema → Where → Trees → Trees → Type 0
 AreOfOneType s w ts us = ¬ (¬ ((b : Bool) × (e : Expr) × IsOfType s w e × AreElements s b e ts × AreElements s b e us))
 
--- the same of two values, and of what stands behind them
+-- the same of two values, and of what stands after them
 abbrev pub Both : Type 0 → Schema → List Part → List Part → Type 0
 Both A s r q = A × Rest s r q
 
@@ -263,7 +264,7 @@ first_fits s o e t ts (conforms.more c h) = (inl c, h)
 first_fits s o e t ts (conforms.left_out h) = (inr refl, h)
 
 mutual
-  -- two values of one type with the same tokens are the same but for spelling, and what stands behind them has the same tokens
+  -- two values of one type with the same tokens are the same but for spelling, and what stands after them has the same tokens
   pub same_value : (s : Schema) → IsWellFormed s → (t u : Tree) (w x : Where) → (IsLogicalAt s w ↔ IsLogicalAt s x) → OfOneType s w t u → HasSpellings t → HasSpellings u → (r q : List Part) (tokens : List Token) → AreTokensOf s (value_parts w t ++ r) tokens → AreTokensOf s (value_parts x u ++ q) tokens → Both (IsSame t u) s r q
   same_value s wf (items ts) (items us) w x a z c d r q [] h k = absurd h
   same_value s wf (items ts) (items us) w x a z c d r q (_ ∷ tokens) h k =

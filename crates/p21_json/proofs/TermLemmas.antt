@@ -1,10 +1,16 @@
 -- Texts of names by their places.
-use Rattle.std.proofs.Common.{◌≡◌, ◌<◌, ℕ, zero, suc, List, [], ◌∷◌, Vec, String, string_bytes, length, map, get_or, refl, sym, ap, ◌∙◌, arith}
+use Rattle.std.proofs.Common.{◌≡◌, ◌<◌, ℕ, zero, suc, List, [], ◌∷◌, ◌++◌, Vec, String, string_bytes, length, map, get_or, refl, sym, ap, subst, ◌∙◌, arith}
 use Rattle.std.specs.List.{flat_map}
-use Rattle.std.proofs.lemmas.List.{map-append, length-map}
-use Rattle.p21_express.specs.Schema.{Entity}
+use Rattle.std.specs.Char.{to_ascii_lowercase}
+use Rattle.std.proofs.lemmas.Str.{encodes-append, encodes-IsAscii}
+use Rattle.std.proofs.lemmas.Str.Ascii.{IsAscii-cons, IsAscii-nil}
+use Rattle.std.proofs.lemmas.List.{get_or-map, map-append, length-map}
+use Rattle.p21_express.specs.Schema.{Schema, Entity}
 use Rattle.p21_express.specs.WellFormed.{Origin, new_explicit}
-use Rattle.p21_schema.specs.Row.{attributes_of, own_attributes}
+use Rattle.p21_schema.specs.Place.{IsEntityOf, entity_name}
+use Rattle.p21_schema.specs.Row.{attributes_of, no_attribute, own_attributes}
+use Rattle.p21_json.specs.declared.keys.DeclaredName.{DeclaredName}
+use Rattle.p21_json.specs.Keys.{AreByEntities, AreDeclared, origin_of}
 use Rattle.p21_spelling.specs.Spelled.{lower, names_in, own_names}
 use Rattle.p21_json.specs.Spelled.{IsSpelled, text_of}
 use Rattle.p21_json.specs.Terms.{AreTexts}
@@ -47,3 +53,26 @@ attribute_names (e ∷ es) = map-append (λ (o : Origin). o.name) (own_attribute
 pub lower_names : {X : Type 0} (f : X → List ℕ) (xs : List X) → map (λ x. lower (f x)) xs ≡ map lower (map f xs)
 lower_names f [] = refl
 lower_names f (x ∷ xs) = ap (λ ns. lower (f x) ∷ ns) (lower_names f xs)
+
+-- the texts of two names with a point between them are that of the names so joined
+pub spelled_full : (a b text n m : List ℕ) → IsSpelled a n → IsSpelled b m → text ≡ a ++ 46 ∷ b → IsSpelled text (n ++ 46 ∷ m)
+spelled_full a b text n m p q e = record {
+  bytes = p.bytes ++ 46 ∷ q.bytes;
+  same =
+      map-append to_ascii_lowercase p.bytes (46 ∷ q.bytes) ∙ ap (λ (l : List ℕ). l ++ map to_ascii_lowercase (46 ∷ q.bytes)) p.same ∙ ap (λ (l : List ℕ). map to_ascii_lowercase n ++ to_ascii_lowercase 46 ∷ l) q.same
+      ∙ sym (map-append to_ascii_lowercase n (46 ∷ m));
+  spelled =
+      e ∙ ap (λ (l : List ℕ). l ++ 46 ∷ b) p.spelled ∙ ap (λ (l : List ℕ). text_of p.bytes ++ 46 ∷ l) q.spelled
+      ∙ sym (encodes-append p.bytes (46 ∷ q.bytes) ∙ ap (λ (l : List ℕ). text_of p.bytes ++ l) (encodes-append (46 ∷ []) q.bytes ∙ ap (λ (l : List ℕ). l ++ text_of q.bytes) (encodes-IsAscii (46 ∷ []) (IsAscii-cons 46 [] (omega arith) IsAscii-nil))));
+}
+
+-- the entity that declares an attribute
+pub declared_at : (s : Schema) (ds : List DeclaredName) (i : ℕ) (d : DeclaredName) → AreDeclared s ds → i < length ds → d ≡ get_or ds i d → IsEntityOf s d.entity × (entity_name s d.entity ≡ (get_or (attributes_of s.entities) i no_attribute).entity)
+declared_at s ds i d a l e = (
+  subst (λ (x : DeclaredName). IsEntityOf s x.entity) (sym e) (by_at ds i d a.by l),
+  ap (λ (o : Origin). o.entity) (ap (origin_of s) e ∙ sym (get_or-map (origin_of s) ds i d no_attribute l) ∙ ap (λ (os : List Origin). get_or os i no_attribute) a.same),
+) where
+  by_at : (ds : List DeclaredName) (i : ℕ) (d : DeclaredName) → AreByEntities s ds → i < length ds → IsEntityOf s (get_or ds i d).entity
+  by_at [] i d h l = absurd (omega arith)
+  by_at (x ∷ ds) zero d h l = h.0
+  by_at (x ∷ ds) (suc i) d h l = by_at ds i d h.1 (omega arith)

@@ -69,3 +69,7 @@ ended {s} {a} {b} {all} {left} u e = subst (Adds s a b) (sym (u.parts ∙ ap (λ
 -- and then a writer is asked to write a token of this part
 pub adds_last : {E : Type 0} {a b c : Written} {t : Token} {ps : List Part} (s : Schema) (p : Part) (r : Result (Unit {0}) E) → Writes r b c t → IsTokenOf s p t → Adds s a b ps → OnOk r (Adds s a c (ps ++ p ∷ []))
 adds_last {a = a} {b = b} {c = c} {t = t} s p r w h f = on_ok_weaker r (λ (e : c.tokens ≡ b.tokens ++ t ∷ []). adds_then f (adds_one p t h e w.room.0)) w.ok
+
+-- a writer is asked to write a token of this part
+pub adds_only : {E : Type 0} {b c : Written} {t : Token} (s : Schema) (p : Part) (r : Result (Unit {0}) E) → Writes r b c t → IsTokenOf s p t → OnOk r (Adds s b c (p ∷ []))
+adds_only {b = b} {c = c} {t = t} s p r w h = on_ok_weaker r (λ (e : c.tokens ≡ b.tokens ++ t ∷ []). adds_one p t h e w.room.0) w.ok

@@ -22,5 +22,6 @@ char_of (scalar c) = c
 char_of (page letter n) = page_char letter n
 
 -- the text of items
+-- Each item is a character: by its code, or by the table of its page of ISO 8859. What is no character is U+FFFD.
 abbrev pub text_of_items : List Item → List ℕ
 text_of_items items = encode_utf8_all (map char_of items)

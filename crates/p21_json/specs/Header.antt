@@ -34,6 +34,7 @@ header_parts d n s =
     ++ (entity_parts (codes "file_schema") schema_keys s ++ exactly json.end_object ∷ exactly json.end_object ∷ [])))
 
 -- the parts of a header, by its first three entities
+-- By the names that the standard gives to their attributes.
 pub record IsHeaderParts (o : Opening) (parts : List Part) : Type 0 where
   pub description : Entry
   pub name : Entry

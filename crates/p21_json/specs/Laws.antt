@@ -1,16 +1,20 @@
 -- What holds of the JSON of every model: its numbers are numbers of JSON, and nothing is lost but how values are spelled.
-use Rattle.std.specs.Prelude.{◌≡◌, ◌⊎◌, ℕ, true, List, None}
+use Rattle.std.specs.Prelude.{◌≡◌, ◌⊎◌, ℕ, Bool, List, [], None, map}
+use Rattle.std.specs.Char.{to_ascii_lowercase}
 use Rattle.json.specs.Token.{Token}
 use Rattle.json.specs.Print.{IsNumber}
 use Rattle.p21_text.specs.Spelling.{IsInt, IsReal}
-use Rattle.p21_tree.specs.Tree.{Tree, absent}
+use Rattle.p21_tree.specs.Tree.{Tree, Trees, absent}
 use Rattle.p21_tree.specs.Sentence.{Instance}
 use Rattle.p21_express.specs.Schema.{Schema, Expr}
+use Rattle.p21_express.specs.WellFormed.{AreDistinct, Origin}
+use Rattle.p21_check.specs.Attributes.{AreAttributes}
 use Rattle.p21_check.specs.Conforms.{Conforms}
-use Rattle.p21_check.specs.EntitySet.{keywords}
 use Rattle.p21_check.specs.LocalFault.{IsLocalFault}
-use Rattle.p21_json.specs.Instances.{IsInstanceParts}
+use Rattle.p21_json.specs.Instances.{members_parts, IsInstanceParts}
+use Rattle.p21_json.specs.Keys.{keys_behind}
 use Rattle.p21_json.specs.Logical.{TakesLogical}
+use Rattle.p21_json.specs.Members.{Member, AreMembers, AllShowTheSame, tokens_of}
 use Rattle.p21_json.specs.Numerals.{numeral_of}
 use Rattle.p21_json.specs.Parts.{Part, AreTokensOf, value_parts}
 use Rattle.p21_json.specs.Same.{IsSame, IsSameInstance}
@@ -47,6 +51,18 @@ pub record IsWrittenAs (s : Schema) (i : Instance) (tokens : List Token) : Type 
   pub are_parts : IsInstanceParts s i parts
   pub are_tokens : AreTokensOf s parts tokens
 
--- Two instances with the same tokens are the same but for spelling. Complex ones are asked to be of the same entities.
+-- Two instances with the same tokens are the same but for spelling.
 abbrev pub LosesNothing : Schema → Type 0
-LosesNothing s = (i j : Instance) → (tokens : List Token) → IsSound s i → IsSound s j → (i.complex ≡ true → keywords i ≡ keywords j) → IsWrittenAs s i tokens → IsWrittenAs s j tokens → IsSameInstance i j
+LosesNothing s = (i j : Instance) → (tokens : List Token) → IsSound s i → IsSound s j → IsWrittenAs s i tokens → IsWrittenAs s j tokens → IsSameInstance i j
+
+-- So are two whose objects have the same under each key, whatever the order of the members.
+abbrev pub LosesNoMember : Schema → Type 0
+LosesNoMember s = (i j : Instance) → IsSound s i → IsSound s j → i.name ≡ j.name → i.complex ≡ j.complex → AllShowTheSame s i j i.records j.records → IsSameInstance i j
+
+-- The tokens of the members of a record are those of a key and a value for each.
+abbrev pub WritesMembers : Schema → Type 0
+WritesMembers s = (i : Instance) → (os : List Origin) → (ts : Trees) → (tokens : List Token) → AreTokensOf s (members_parts i [] os ts) tokens → (ms : List Member) × AreMembers s i [] os ts ms × (tokens ≡ tokens_of ms)
+
+-- No two attributes of a record have one key, whatever the case of letters.
+abbrev pub HasDistinctKeys : Schema → Type 0
+HasDistinctKeys s = (c : Bool) → (n : List ℕ) → (os : List Origin) → AreAttributes s c n os → AreDistinct (map (map to_ascii_lowercase) (keys_behind [] os))

@@ -6,12 +6,14 @@ pub mod Flags
 pub mod Terms
 pub mod Where
 pub mod Rows
+pub mod Keys
 pub mod Parts
 pub mod Instances
 pub mod Lines
 pub mod Values
 pub mod Same
 pub mod Spellings
+pub mod Members
 pub mod Laws
 pub mod Header
 pub mod Written

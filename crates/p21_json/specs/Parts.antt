@@ -33,6 +33,8 @@ abbrev pub logical_token : List ℕ → Token
 logical_token v = if slice_index v 0 == 84 then json.boolean true else (if slice_index v 0 == 70 then json.boolean false else json.string (codes "UNKNOWN"))
 
 -- The token of a part. A text that is no number, which no integer and no real is, would be a string.
+-- The token itself; the number; the string of the items of the body; a spelling of the name; `true`, `false` or
+-- `"UNKNOWN"` of BOOLEAN and LOGICAL, and otherwise the item as a string.
 abbrev pub IsTokenOf : Schema → Part → Token → Type 0
 IsTokenOf s (exactly t) u = u ≡ t
 IsTokenOf s (number v) u = IsEither (IsNumber (text_of (numeral_of v))) u (json.number (text_of (numeral_of v))) (json.string (text_of (numeral_of v)))
@@ -55,7 +57,7 @@ decimal_part n = exactly (json.number (decimal n))
 abbrev pub reference_parts : ℕ → List Part
 reference_parts n = exactly json.begin_object ∷ label (codes "ref") ∷ decimal_part n ∷ exactly json.end_object ∷ []
 
--- `{"bits":12,"hex":"0AB"}`: the digits behind the first, which says how many bits of the next one do not count. More bits than 2 ^ 64 - 1 are said to be so many.
+-- `{"bits":12,"hex":"0AB"}`: the digits after the first, which says how many bits of the next one do not count. More bits than 2 ^ 64 - 1 are said to be so many.
 abbrev pub binary_parts : List ℕ → List Part
 binary_parts v = exactly json.begin_object ∷ label (codes "bits") ∷ decimal_part (min (bits_of v) (2 ^ 64 - 1)) ∷ label (codes "hex") ∷ exactly (json.string (text_of (drop 1 v))) ∷ exactly json.end_object ∷ []
 

@@ -8,7 +8,7 @@ use Rattle.p21_tree.specs.Sentence.{Instance}
 use Rattle.p21_json.specs.Numerals.{numeral_of}
 use Rattle.p21_json.specs.Characters.{text_of_items}
 
--- the same but for `+` and zeros in front, and a zero behind a point that no digit follows
+-- the same but for `+` and zeros in front, and a zero after a point that no digit follows
 abbrev pub IsSameNumeral : List ℕ → List ℕ → Type 0
 IsSameNumeral v w = numeral_of v ≡ numeral_of w
 
@@ -22,6 +22,8 @@ pub record IsSameString (v w : List ℕ) : Type 0 where
 
 mutual
   -- Two parameters are the same but for spelling: of numbers, and of the characters of strings.
+  -- Numbers are the same without `+` and zeros in front and with a digit after the point; strings have the same text;
+  -- all else is the same.
   pub data IsSame : Tree → Tree → Type 0 where
     absent : IsSame tree.absent tree.absent
     derived : IsSame tree.derived tree.derived

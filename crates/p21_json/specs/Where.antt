@@ -45,6 +45,8 @@ pub record IsLogicalAttribute (s : Schema) (i : Instance) (o : Origin) : Type 0 
   pub among : IsIn all declaration
   pub declares : DeclaresLogical s i all declaration
 
+-- An entity that the instance is of declares the attribute so, and none below it that the instance is of declares it
+-- again.
 abbrev pub IsLogicalAt : Schema → Where → Type 0
 IsLogicalAt s header = ⊥
 IsLogicalAt s (attribute i o) = IsLogicalAttribute s i o

@@ -17,6 +17,7 @@ use p21_tree::RawInstance;
 /// How many attributes a record of the entity has.
 pub fn attribute_count(schema: &Schema, complex: bool, entity: EntityId) -> usize
     requires { IsEntityOf schema.now entity }
+    // Those of its row, or of a record of a complex instance the own ones of the entity.
     ensures { (os : List Origin) × (AreAttributesOf schema.now complex entity os × (result ≡ length os)) }
 {
     if complex {
@@ -30,7 +31,9 @@ pub fn attribute_count(schema: &Schema, complex: bool, entity: EntityId) -> usiz
 pub fn attribute(schema: &Schema, complex: bool, entity: EntityId, position: usize) -> AttrId
     requires entity { IsEntityOf schema.now entity }
     requires position { (os : List Origin) × (AreAttributesOf schema.now complex entity os × (position < length os)) }
+    // It is an attribute of the schema.
     ensures known { IsAttributeOf schema.now result }
+    // The attribute at this place.
     ensures there { (os : List Origin) → AreAttributesOf schema.now complex entity os → slice_get os position ≡ Some (attribute_at schema.now result) }
 {
     schema.fits();

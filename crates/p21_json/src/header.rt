@@ -21,6 +21,9 @@ pub fn write_header(
     preface: &Preface<'_>,
 ) -> Result<Vec<u8>, AllocError>
     requires { 3 ≤ length preface.now.entities.items }
+    // The print of the tokens of the first three header entities, of each the parameters that the standard names, as
+    // far as the file has them (a `*` as null), and a line end. It reads back as these tokens. Further entities and
+    // parameters are left out.
     ensures { IfOk result (λ text. IsLineOf terms.now (IsHeaderParts (plain_preface preface.now)) text.items) }
 {
     let [description, name, schema, ..] = preface.entities.as_slice() else {

@@ -1,12 +1,14 @@
 //! Instances as JSON.
 
-ghost use Rattle.std.specs.Prelude.{◌≡◌, List, OnOk, length, map};
+ghost use Rattle.std.specs.Prelude.{◌≡◌, ◌<◌, ◌∷◌, [], List, OnOk, Some, length, map, slice_get, take};
 ghost use Rattle.p21_express.specs.WellFormed.{IsEntity, Origin};
 ghost use Rattle.p21_tree.specs.Bodies.{HasBodies, AllHaveBodies};
 ghost use Rattle.p21_tree.specs.Plain.{plain, plain_all};
 ghost use Rattle.p21_tree.specs.Views.{plain_instance, plain_record};
 ghost use Rattle.p21_schema.specs.Place.{IsEntityOf, entity_name};
 ghost use Rattle.p21_schema.specs.Row.{IsAttributeOf, attribute_at};
+ghost use Rattle.p21_json.specs.Keys.{full_name, key_of};
+ghost use Rattle.p21_json.specs.Parts.{key};
 ghost use Rattle.p21_json.specs.Rows.{AreAttributesOf};
 ghost use Rattle.p21_json.specs.Instances.{member_parts, members_parts, AreKnown, AreRecordsParts, IsBehindName, IsInstanceParts, IsRecordParts};
 ghost use Rattle.p21_json.specs.Written.{Adds, AddsSome};
@@ -35,7 +37,7 @@ impl Line {
         self.out.end_object()
     }
 
-    /// Adds what stands behind the name of an instance.
+    /// Adds what stands after the name of an instance.
     fn behind_name(
         &mut self,
         terms: &Terms<'_>,
@@ -105,33 +107,63 @@ impl Line {
         requires entity { IsEntityOf terms.now entity }
         requires count { (os : List Origin) × (AreAttributesOf terms.now instance.now.complex entity os × (count ≡ length os)) }
         requires bodies { AllHaveBodies params.now }
-        ensures { (os : List Origin) → AreAttributesOf terms.now instance.now.complex entity os → (count ≡ length os) → OnOk result (Adds terms.now self.old.out self.new.out (members_parts (plain_instance instance.now) os (plain_all params.now))) }
+        ensures { (os : List Origin) → AreAttributesOf terms.now instance.now.complex entity os → (count ≡ length os) → OnOk result (Adds terms.now self.old.out self.new.out (members_parts (plain_instance instance.now) [] os (plain_all params.now))) }
     {
         for position in 0..count.min(params.len()) {
-            let attribute = attribute(terms.schema(), instance.complex, entity, position);
-            self.member(terms, instance, attribute, &params[position])?;
+            self.member(terms, instance, entity, position, &params[position])?;
         }
         Ok(())
     }
 
-    /// Adds the member of an attribute; none of a derived one.
+    /// Adds the member of an attribute of a record of the entity; none of a derived one.
     fn member(
         &mut self,
         terms: &Terms<'_>,
         instance: &RawInstance<'_>,
-        attribute: AttrId,
+        entity: EntityId,
+        position: usize,
         param: &Param<'_>,
     ) -> Result<(), AllocError>
-        requires attribute { IsAttributeOf terms.now attribute }
+        requires entity { IsEntityOf terms.now entity }
+        requires position { (os : List Origin) × (AreAttributesOf terms.now instance.now.complex entity os × (position < length os)) }
         requires bodies { HasBodies (plain param.now) }
-        ensures { OnOk result (Adds terms.now self.old.out self.new.out (member_parts (plain_instance instance.now) (attribute_at terms.now attribute) (plain param.now))) }
+        ensures { (os : List Origin) → (o : Origin) → AreAttributesOf terms.now instance.now.complex entity os → slice_get os position ≡ Some o → OnOk result (Adds terms.now self.old.out self.new.out (member_parts (plain_instance instance.now) (key_of (take position os) o) o (plain param.now))) }
     {
         if let Param::Derived = param {
             return Ok(());
         }
-        self.out.key(terms.attribute(attribute))?;
+        self.key(terms, instance.complex, entity, position)?;
+        let attribute = attribute(terms.schema(), instance.complex, entity, position);
         let logical = is_logical(terms, instance, attribute);
         self.value(terms, param, logical)
+    }
+
+    /// Adds the key of an attribute of a record of the entity.
+    fn key(
+        &mut self,
+        terms: &Terms<'_>,
+        complex: bool,
+        entity: EntityId,
+        position: usize,
+    ) -> Result<(), AllocError>
+        requires entity { IsEntityOf terms.now entity }
+        requires position { (os : List Origin) × (AreAttributesOf terms.now complex entity os × (position < length os)) }
+        ensures { (os : List Origin) → (o : Origin) → AreAttributesOf terms.now complex entity os → slice_get os position ≡ Some o → OnOk result (Adds terms.now self.old.out self.new.out (key (key_of (take position os) o) ∷ [])) }
+    {
+        let attribute = attribute(terms.schema(), complex, entity, position);
+        if terms.is_repeated(complex, entity, position) {
+            return self.full_key(terms, attribute);
+        }
+        self.out.key(terms.attribute(attribute))
+    }
+
+    /// Adds the full name of an attribute as a key.
+    fn full_key(&mut self, terms: &Terms<'_>, attribute: AttrId) -> Result<(), AllocError>
+        requires { IsAttributeOf terms.now attribute }
+        ensures { OnOk result (Adds terms.now self.old.out self.new.out (key (full_name (attribute_at terms.now attribute)) ∷ [])) }
+    {
+        terms.write_full_name(&mut self.text, attribute)?;
+        self.out.key(self.text.as_str())
     }
 }
 

@@ -30,7 +30,7 @@ pub(crate) struct Line {
 }
 
 impl Line {
-    /// A line behind a text: nothing is written of it.
+    /// A line after a text: nothing is written of it.
     pub(crate) fn new(alloc: Global, text: Vec<u8>) -> Line
         ensures before { result.out.before ≡ text.items }
         ensures tokens { result.out.tokens ≡ [] }
@@ -184,7 +184,7 @@ impl Line {
     }
 }
 
-/// What stands behind the first byte.
+/// What stands after the first byte.
 fn behind_first(bytes: &[u8]) -> &[u8]
     ensures { result.now ≡ drop 1 bytes.entry.now }
 {

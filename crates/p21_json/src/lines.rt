@@ -18,6 +18,10 @@ pub fn write_lines(
     instances: &[RawInstance<'_>],
 ) -> Result<Vec<u8>, AllocError>
     requires { AllByRecursion (λ i. AreKnown terms.now i.records) (map plain_instance instances.now) }
+    // For each instance, in order, a line: the print of its tokens, which reads back as these tokens, and a line end.
+    // The tokens are those that the table of values gives, names but for the case of letters, in the order of the row
+    // (of a record of a complex instance, of its own attributes), without values written as `*`. The key of an
+    // attribute is its name, or its full name where one before it has this name.
     ensures { IfOk result (λ text. AreLines terms.now (map plain_instance instances.now) text.items) }
 {
     let mut text = Vec::new(alloc);

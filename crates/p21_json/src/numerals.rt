@@ -48,7 +48,7 @@ fn behind_zeros(digits: &[u8]) -> &[u8]
     rest
 }
 
-/// Adds digits, with a zero behind a point that no digit follows.
+/// Adds digits, with a zero after a point that no digit follows.
 fn push_fraction(text: &mut String, digits: &[u8]) -> Result<(), AllocError>
     ensures { OnOk result (string_bytes text.new ≡ string_bytes text.old ++ text_of (with_fraction digits.now)) }
 {

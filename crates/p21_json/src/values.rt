@@ -22,6 +22,9 @@ pub fn write_value(
     logical: bool,
 ) -> Result<Vec<u8>, AllocError>
     requires { HasBodies (plain param.now) }
+    // If the caller says rightly whether enumerations there are values of BOOLEAN or LOGICAL, the text is the print
+    // of the tokens that the table of values gives for the parameter, names of types but for the case of letters. It
+    // reads back as these tokens.
     ensures { (w : Where) → (IsTrue logical ↔ IsLogicalAt terms.now w) → IfOk result (λ text. IsTextOf terms.now (value_parts w (plain param.now)) text.items) }
 {
     let mut line = Line::new(alloc, Vec::new(alloc));

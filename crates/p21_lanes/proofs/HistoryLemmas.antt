@@ -55,7 +55,7 @@ module _ {T : Type 0} where
       let longer = ap (λ ns. ns ++ End ∷ []) form in
       simp (items_of-end, has_end-end) (longer ∙ rw unended (messages-end (items_of ms)))
 
-  -- behind an end stands nothing, so that of two ended lists, one of which begins the other, neither is longer
+  -- after an end stands nothing, so that of two ended lists, one of which begins the other, neither is longer
   messages-whole : (xs ys : List T) (rest : List (Message T))
       → messages xs true ++ rest ≡ messages ys true → xs ≡ ys
   messages-whole [] [] rest e = refl
@@ -92,7 +92,7 @@ module _ {T : Type 0} where
   alone [] ms form = cc
   alone (x ∷ xs) ms form = cc
 
-  -- behind the end stands nothing
+  -- after the end stands nothing
   pub no_end_before : (before : List (Message T)) (last : Message T)
       → EndIsLast (before ++ last ∷ []) → has_end before ≡ false
   no_end_before [] last form = refl

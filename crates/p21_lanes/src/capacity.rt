@@ -28,6 +28,7 @@ impl Capacity {
 
     /// The capacity of `n` places, or `None` where `n` is 0 or above `MAX`.
     pub fn new(n: u32) -> Option<Capacity>
+        // A capacity is a number from 1 to 4096, and each such number is one.
         ensures { SomeIff result ((0 < n) × (n ≤ 4096)) n }
     {
         if 0 < n && n <= Capacity::MAX {

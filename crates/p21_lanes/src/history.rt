@@ -1,4 +1,4 @@
-//! What goes through a lane.
+//! What is sent through a lane: items, and then its end.
 ghost use Rattle.std.specs.Prelude.{◌≡◌, List, [], ◌∷◌, ◌++◌, false};
 ghost use Rattle.p21_lanes.specs.History.{Message, messages_in, has_end, EndIsLast};
 

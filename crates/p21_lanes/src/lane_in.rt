@@ -1,4 +1,4 @@
-//! The end of a lane that offers items.
+//! The sending end of a lane.
 ghost use Rattle.std.specs.Prelude.{◌≡◌, ◌+◌, ◌≤◌, length};
 ghost use Rattle.rtrb.specs.Ring.{sent as pushed, known_free, producer_capacity};
 ghost use Rattle.p21_lanes.specs.History.{messages_in, items_of, has_end, EndIsLast};
@@ -65,24 +65,33 @@ impl<T: Drop> LaneIn<T> {
     /// items were accepted. A refused offer changes nothing. The first offers to a lane, as many as its capacity,
     /// always find their places.
     ///
-    /// The clauses count messages, each item of a list as one, though a list takes one place: so behind a list they let an
+    /// The clauses count messages, each item of a list as one, though a list takes one place: so after a list they let an
     /// offer be refused while places are free.
     #[tactic(auto, using(crate::proofs::ParcelLemmas::one_more_place))]
     pub fn offer(&mut self, item: T) -> Result<(), T>
+        // The lane stays the same.
         ensures lane { SameIn self.old self.new }
 
-        // The item goes to the back of what was sent, and the lane stays open.
+        // An accepted item goes to the end of what was sent.
         ensures sent { OnOk result (sent self.new ≡ sent self.old ++ Item item ∷ []) }
+        // So it does of the items that were accepted.
         ensures accepted { OnOk result (accepted self.new ≡ accepted self.old ++ item ∷ []) }
+        // An item is accepted only where the lane was not ended.
         ensures open { OnOk result ((was_ended self.old ≡ false) × (was_ended self.new ≡ false)) }
         ensures counted { OnOk result (length (accepted self.old) < 2 ^ 64 - 1) }
+        // The end stays the last message.
         ensures history { EndIsLast (sent self.new) }
 
+        // A refusal hands the item back and changes nothing.
         ensures refused { IfErr result (λ back. (back ≡ item) × (sent self.new ≡ sent self.old)) }
+        // An offer to a lane that was not ended is refused only where as many messages as the capacity were accepted
+        // since the lane was made, each item of a list counting as a message although a list takes one place; or 2^64
+        // - 1 items.
         ensures only { OnErr result
             ((was_ended self.old ≡ true)
             ⊎ ((lane_capacity self.old ≤ message_count self.old)
             ⊎ (length (accepted self.old) ≡ 2 ^ 64 - 1))) }
+        // As long as fewer messages were accepted, a lane that was not ended refuses nothing.
         ensures first { was_ended self.old ≡ false → message_count self.old < lane_capacity self.old
             → IsOk result }
     {
@@ -106,14 +115,18 @@ impl<T: Drop> LaneIn<T> {
     pub fn offer_all(&mut self, items: Vec<T>) -> Result<(), Vec<T>>
         ensures lane { SameIn self.old self.new }
 
-        // Each item goes to the back of what was sent, in order, and the lane stays open.
+        // All items of an accepted list go to the end of what was sent, in order.
         ensures sent { OnOk result (sent self.new ≡ sent self.old ++ messages items.items false) }
         ensures accepted { OnOk result (accepted self.new ≡ accepted self.old ++ items.items) }
         ensures open { OnOk result ((was_ended self.old ≡ false) × (was_ended self.new ≡ false)) }
         ensures history { EndIsLast (sent self.new) }
+        // A list with no item is never refused by a lane that was not ended.
         ensures empty { items.items ≡ [] → was_ended self.old ≡ false → IsOk result }
 
+        // A refusal hands the list back and changes nothing.
         ensures refused { IfErr result (λ back. (back ≡ items) × (sent self.new ≡ sent self.old)) }
+        // It is refused, to a lane that was not ended, only where as many messages as the capacity were accepted
+        // since the lane was made, or where more than 2^64 - 1 items would have been.
         ensures only { OnErr result
             ((was_ended self.old ≡ true)
             ⊎ ((lane_capacity self.old ≤ message_count self.old)
@@ -141,15 +154,20 @@ impl<T: Drop> LaneIn<T> {
     #[tactic(auto, using(crate::proofs::ParcelLemmas::one_more_place))]
     pub fn end(&mut self) -> Result<(), Full>
         ensures lane { SameIn self.old self.new }
+        // After a success the end was sent.
         ensures ended { OnOk result (was_ended self.new ≡ true) }
+        // No item is sent.
         ensures accepted { accepted self.new ≡ accepted self.old }
 
-        // The first end goes to the back of what was sent, and a second one sends nothing.
+        // The end follows what was sent, where it was not sent before.
         ensures first { OnOk result (was_ended self.old ≡ false → sent self.new ≡ sent self.old ++ End ∷ []) }
+        // Where it was, nothing happens.
         ensures again { was_ended self.old ≡ true → (result ≡ Ok tt) × (sent self.new ≡ sent self.old) }
         ensures history { EndIsLast (sent self.new) }
 
+        // A refusal changes nothing.
         ensures refused { OnErr result ((was_ended self.old ≡ false) × (sent self.new ≡ sent self.old)) }
+        // A first end is refused only where as many messages as the capacity were accepted.
         ensures only { OnErr result (lane_capacity self.old ≤ message_count self.old) }
     {
         if self.ended {

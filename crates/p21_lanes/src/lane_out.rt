@@ -1,4 +1,4 @@
-//! The end of a lane that takes items.
+//! The receiving end of a lane.
 ghost use Rattle.std.specs.Prelude.{◌≡◌};
 ghost use Rattle.rtrb.specs.Ring.{received as popped};
 ghost use Rattle.std.specs.Vec.Iter.{into_iter_items};
@@ -61,8 +61,12 @@ impl<T: Drop> LaneOut<T> {
     /// Takes the oldest message, if this end sees one. Once the end was taken, the answer stays `Ended`.
     #[inline(always)]
     pub fn take(&mut self) -> Taken<T>
+        // The lane stays the same.
         ensures lane { SameOut self.old self.new }
+        // A message goes to the end of what was received, or the result is Nothing and nothing changes. `settle` says
+        // that these are the first messages that were sent.
         ensures took { Took result self.old self.new }
+        // After the end it is the end again.
         ensures again { took_end self.old ≡ true
             → (result ≡ Ended) × (received self.new ≡ received self.old) }
     {
@@ -92,6 +96,7 @@ impl<T: Drop> LaneOut<T> {
     /// How many places this end sees taken: each by an item, by items that were offered together, or by the end. The other end may have
     /// sent more.
     pub fn ready(&mut self) -> usize
+        // To look changes nothing.
         ensures { IsUnchangedOut self.old self.new }
     {
         self.consumer.slots()

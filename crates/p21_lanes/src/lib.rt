@@ -34,8 +34,11 @@ pub fn lane<T: Drop>(
     alloc: Global,
     capacity: Capacity,
 ) -> Result<(LaneIn<T>, LaneOut<T>), AllocError>
+    // The two ends are of one lane.
     ensures lane { IfOk result (λ ends. IsLane ends.0 ends.1) }
+    // Nothing was sent or received.
     ensures empty { IfOk result (λ ends. (sent ends.0 ≡ []) × (received ends.1 ≡ [])) }
+    // Its capacity is this.
     ensures room { IfOk result (λ ends. lane_capacity ends.0 ≡ capacity) }
 {
     let (producer, consumer) = RingBuffer::with_protocol::<Global, EndComesLast>(

@@ -1,4 +1,4 @@
-//! What is known of a settled lane.
+//! What is known of a lane that has ended: all that was sent was received.
 ghost use Rattle.std.specs.Prelude.{◌≡◌, true};
 ghost use Rattle.p21_lanes.specs.History.{messages};
 ghost use Rattle.p21_lanes.specs.LaneIn.{sent, accepted};

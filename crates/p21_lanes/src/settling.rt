@@ -1,4 +1,4 @@
-//! Settling a lane whose two ends are back in one thread.
+//! Ending a lane: proof that all that was sent was received.
 ghost use Rattle.std.specs.Prelude.{◌≡◌, ◌⊎◌, true, false, OnOk, OnErr, IfOk, IfErr};
 ghost use Rattle.p21_lanes.specs.History.{IsHistory};
 ghost use Rattle.p21_lanes.specs.Lane.{IsLane};
@@ -23,14 +23,19 @@ pub struct Pair<T> {
 pub fn settle<T: Drop>(lane_in: LaneIn<T>, lane_out: LaneOut<T>) -> Result<Receipt<T>, Pair<T>>
     requires { IsLane lane_in lane_out }
 
-    // Whatever the answer is, what was received is the beginning of what was sent.
+    // What was received is a prefix of what was sent.
     ensures history { IsHistory (sent lane_in) (received lane_out) }
 
+    // It succeeds only where the lane was ended and its end taken.
     ensures ended { OnOk result ((was_ended lane_in ≡ true) × (took_end lane_out ≡ true)) }
+    // What was taken is what was accepted, in order. That the end was sent and received after it, and nothing more,
+    // are facts of the type `Receipt` (`ended`, `all_received`).
     ensures settled { IfOk result
         (λ receipt. (passed receipt ≡ accepted lane_in) × (passed receipt ≡ taken lane_out)) }
 
+    // It fails only where not.
     ensures refused { OnErr result ((was_ended lane_in ≡ false) ⊎ (took_end lane_out ≡ false)) }
+    // Otherwise both ends are handed back.
     ensures unchanged { IfErr result
         (λ ends. IsUnchangedIn lane_in ends.lane_in
         × IsUnchangedOut lane_out ends.lane_out

@@ -23,7 +23,7 @@ use Rattle.p21_outline.proofs.RowLemmas.{are_rows_moved, complex_more, lone, ref
 
 module _ (old new : Columns) (row : Row) (rs : List Reference) (ws : List RawInstance) (w : ℕ) (i : RawInstance)
     (h : AppendsRow old row rs ws w new) (is : row_instance new.wholes.items row ≡ i) where
-  -- the instance of the row comes behind the others
+  -- the instance of the row comes after the others
   appended_instance : instances_in new ≡ instances_in old ++ i ∷ []
   appended_instance =
       ap (map (row_instance new.wholes.items)) h.rows ∙ map-append (row_instance new.wholes.items) old.rows.items (row ∷ [])
@@ -72,7 +72,7 @@ adds_whole s old new i w sound complex counted h =
 
 -- ---- those of other columns
 
--- The rows of other columns come behind, moved, and with them their references and what is whole of them.
+-- The rows of other columns come after it, moved, and with them their references and what is whole of them.
 pub record Gathers (old more new : Columns) : Type 0 where
   pub rows : new.rows.items ≡ old.rows.items ++ map (row_behind (length old.references.items) (length old.wholes.items)) more.rows.items
   pub references_ : new.references.items ≡ old.references.items ++ more.references.items
@@ -80,7 +80,7 @@ pub record Gathers (old more new : Columns) : Type 0 where
   pub written_ : new.written ≡ capped (old.written + more.written)
 
 module _ (old more new : Columns) (h : Gathers old more new) where
-  -- their instances come behind the others
+  -- their instances come after the others
   gathered_instances : instances_in new ≡ instances_in old ++ instances_in more
   gathered_instances =
       let ws = old.wholes.items in

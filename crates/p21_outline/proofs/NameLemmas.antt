@@ -63,7 +63,7 @@ some_named is name k i own h there = first_named is name k i own h.0 there (ap (
 is_new : (t : InstancePlaces) (is : List RawInstance) (i : RawInstance) → HasPlacesOf t is → place_of t i.name ≡ None → IsNewIn is i
 is_new t is i placed none = subst (IsPosition is i.name) none (placed i.name)
 
--- a position stays where one more comes behind
+-- a position stays where one more comes after it
 position_left : (is : List RawInstance) (i : RawInstance) (name : ℕ) (place : Option ℕ) → i.name ≢ name → IsPosition is name place → IsPosition (is ++ i ∷ []) name place
 position_left is i name None other h =
     All-append (λ (x : RawInstance). x.name ≢ name) is (i ∷ []) h (All-cons (λ (x : RawInstance). x.name ≢ name) i [] other (λ k d inside. absurd (omega arith)))

@@ -1,4 +1,4 @@
--- Rows of instances, and others behind them.
+-- Rows of instances, and others after them.
 use Rattle.std.proofs.Common.{◌≡◌, ℕ, ◌+◌, ◌-◌, ◌≤◌, List, [], ◌∷◌, ◌++◌, None, map, take, drop, length, get_or, refl, sym, ap, subst, ◌∙◌, append_assoc, arith}
 use Rattle.std.specs.Prelude.{All, slice_range}
 use Rattle.std.proofs.lemmas.List.{drop-append-le, get_or-append-add, get_or_append_left, length-append, length-drop, map-append, take-append-le, take_all}
@@ -51,7 +51,7 @@ rows_more s ws more rows others h behind =
     (λ k d inside. held_grown s ws more (get_or rows k d).gone.value (get_or rows k d).held (h k d inside))
     behind
 
--- ---- rows that are moved behind others
+-- ---- rows that are moved after others
 
 -- the one at a place of the second list stands so much farther
 get_or_behind : (ws more : List RawInstance) (k : ℕ) (d : RawInstance) → get_or (ws ++ more) (k + length ws) d ≡ get_or more k d
@@ -61,7 +61,7 @@ within_moved : (ws more : List RawInstance) (h : Held) → IsWithin (length more
 within_moved ws more (held.Simple e) h = tt
 within_moved ws more (held.Whole k) h = let long = length-append ws more in omega arith
 
--- each row has a place for what it holds as whole, also behind others
+-- each row has a place for what it holds as whole, also after others
 pub within_joined : (ws more : List RawInstance) (start : ℕ) (rows others : List Row) → All (λ row. IsWithin (length ws) row.held) rows → All (λ row. IsWithin (length more) row.held) others
     → All (λ row. IsWithin (length (ws ++ more)) row.held) (rows ++ map (row_behind start (length ws)) others)
 within_joined ws more start rows others h behind =
@@ -91,7 +91,7 @@ pub are_rows_moved : (s : Schema) (ws more : List RawInstance) (start : ℕ) (ro
 are_rows_moved s ws more start rows h =
     All-map (IsRow s (ws ++ more)) (row_behind start (length ws)) rows (λ k d inside. held_moved s ws more (get_or rows k d).gone.value (get_or rows k d).held (h k d inside))
 
--- one more row is moved behind the others
+-- one more row is moved after the others
 pub one_moved : (start first : ℕ) (old before after moved : List Row) (row put : Row) → before ≡ old ++ map (row_behind start first) moved → put ≡ row_behind start first row → after ≡ before ++ put ∷ []
     → after ≡ old ++ map (row_behind start first) (moved ++ row ∷ [])
 one_moved start first old before after moved row put h same added =
@@ -115,7 +115,7 @@ part_added rs more =
     let long = length-append rs more in
     ap (take (length (rs ++ more) - length rs)) (drop-append_seam rs more) ∙ take_all (length (rs ++ more) - length rs) more (omega arith)
 
--- the references of other rows behind those of some
+-- the references of other rows after those of some
 pub references_joined : (s : Schema) (rs more : List Reference) (start : ℕ) (rows others : List Row) → HaveReferences s rs start rows → HaveReferences s (rs ++ more) (length rs) others → HaveReferences s (rs ++ more) start (rows ++ others)
 references_joined s rs more start [] others h behind = subst (λ n. HaveReferences s (rs ++ more) n others) (sym h) behind
 references_joined s rs more start (first ∷ rows) others h behind =
@@ -123,7 +123,7 @@ references_joined s rs more start (first ∷ rows) others h behind =
     let inside = h.1 in
     (h.0, omega arith, subst (λ l. Refers s l first.gone.value first.held) (sym (part_kept rs more start first.end h.0 h.1)) h.2, references_joined s rs more first.end rows others h.3 behind)
 
--- the references of one more row behind those of the others
+-- the references of one more row after those of the others
 pub references_more : (s : Schema) (rs more : List Reference) (start : ℕ) (rows : List Row) (row : Row) → HaveReferences s rs start rows → row.end ≡ length (rs ++ more) → Refers s more row.gone.value row.held
     → HaveReferences s (rs ++ more) start (rows ++ row ∷ [])
 references_more s rs more start rows row h end own =

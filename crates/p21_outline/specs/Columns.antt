@@ -24,7 +24,7 @@ pub record AreColumns (s : Schema) (c : Columns) : Type 0 where
   pub complex : length c.wholes.items ≡ complex_count (plain_instances (instances_in c))
   pub written : c.written ≡ capped (reference_count (plain_instances (instances_in c)))
 
--- A row comes behind the others, with these references, behind those of the others, and with these that are whole. So many more names
+-- A row comes after the others, with these references, after those of the others, and with these that are whole. So many more names
 -- are written.
 pub record AppendsRow (old : Columns) (row : Row) (references : List Reference) (wholes : List RawInstance) (written : ℕ) (new : Columns) : Type 0 where
   pub rows : new.rows.items ≡ old.rows.items ++ row ∷ []
@@ -33,23 +33,27 @@ pub record AppendsRow (old : Columns) (row : Row) (references : List Reference) 
   pub written_ : new.written ≡ capped (old.written + written)
   pub end : row.end ≡ length new.references.items
 
--- a simple instance that was let go comes behind the others, with its entity and its references
+-- a simple instance that was let go comes after the others, with its entity and its references
 abbrev pub AppendsSimple : Columns → ℕ → EntityId → List Reference → RawInstance → Columns → Type 0
 AppendsSimple old written entity references gone new = (row : Row) × (row.held ≡ held.Simple entity.index) × (row.gone.value ≡ gone) × AppendsRow old row references [] written new
 
--- an instance that is whole comes behind the others
+-- an instance that is whole comes after the others
 abbrev pub AppendsWhole : Columns → ℕ → RawInstance → Columns → Type 0
 AppendsWhole old written whole new = (row : Row) × (row.held ≡ held.Whole (length old.wholes.items)) × AppendsRow old row [] (whole ∷ []) written new
 
--- an instance comes behind the others, and what is kept of it is so by the schema
+-- an instance comes after the others, and what is kept of it is so by the schema
 pub record Adds (s : Schema) (old : Columns) (i : RawInstance) (new : Columns) : Type 0 where
   pub instances : instances_in new ≡ instances_in old ++ i ∷ []
   pub fits : AreColumns s old → AreColumns s new
 
--- what is kept of the instances of `more` comes behind the others
+-- what is kept of the instances of `more` comes after the others
 pub record Joins (old more new : Columns) : Type 0 where
   pub instances : instances_in new ≡ instances_in old ++ instances_in more
   pub fits : (s : Schema) → AreColumns s old → AreColumns s more → AreColumns s new
+
+-- what is kept is as it was
+abbrev pub IsAsItWas : Columns → Columns → Type 0
+IsAsItWas old new = (new.rows.items ≡ old.rows.items) × (new.references.items ≡ old.references.items) × (new.wholes.items ≡ old.wholes.items) × (new.written ≡ old.written)
 
 -- where the references of the row at a place begin, where those of the first row begin at this place
 abbrev pub start_at : ℕ → List Row → ℕ → ℕ

@@ -18,6 +18,7 @@ abbrev pub outlined_instances : Outline → List RawInstance
 outlined_instances o = instances_in o.columns
 
 -- the instances have no fault by themselves against the schema, and what is kept of them is so by the schema
+-- Of each simple instance its entity and its references are kept; each complex one is kept whole.
 abbrev pub AreOutlined : Schema → Outline → Type 0
 AreOutlined s o = AreColumns s o.columns
 
@@ -28,7 +29,7 @@ pub record IsFirstRepeated (is js : List RawInstance) (names : InstanceNames) (p
   pub names_are : (name : ℕ) → IsAmong names name ↔ Contains (map (λ i. i.name) (is ++ take place js)) name
   pub repeated : (d : RawInstance) → IsNamedIn (is ++ take place js) (get_or js place d)
 
--- The instances of the list come behind the others, as all have names of their own; or the list is handed back, with the place in it of
+-- The instances of the list come after the others, as all have names of their own; or the list is handed back, with the place in it of
 -- the first instance that has not, and the names of all before that.
 abbrev pub Extends : Outline → OutlineList → Extended → Type 0
 Extends old list (Whole new) = (outlined_instances new ≡ outlined_instances old ++ listed_instances list) × ((s : Schema) → AreOutlined s old → AreListed s list → AreOutlined s new)

@@ -1,4 +1,4 @@
--- The outlines of some instances, one behind the other.
+-- The outlines of some instances, one after the other.
 use Rattle.std.specs.Prelude.{List}
 use Rattle.p21_express.specs.Schema.{Schema}
 use Rattle.p21_tree.specs.declared.instances.RawInstance.{RawInstance}

@@ -9,7 +9,7 @@ use Rattle.p21_join.specs.Names.{HasPlacesOf, HaveOwnNames}
 abbrev pub IsPlaced : InstancePlaces → List RawInstance → Type 0
 IsPlaced places is = HasPlacesOf places is × HaveOwnNames is
 
--- the instances of the second list were placed behind the others, up to the first that has the name of one before it, if there is one
+-- the instances of the second list were placed after the others, up to the first that has the name of one before it, if there is one
 abbrev pub FindsRepeated : InstancePlaces → List RawInstance → List RawInstance → Option ℕ → Type 0
 FindsRepeated places is js None = IsPlaced places (is ++ js)
 FindsRepeated places is js (Some k) = (k < length js) × IsPlaced places (is ++ take k js) × ((d : RawInstance) → IsNamedIn (is ++ take k js) (get_or js k d))

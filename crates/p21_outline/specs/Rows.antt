@@ -61,16 +61,16 @@ Refers s references gone (held.Whole place) = Unit {0}
 abbrev pub RefersAt : Schema → List Reference → Row → Type 0
 RefersAt s references row = Refers s references row.gone.value row.held
 
--- The references of rows stand one behind the other in a list, from a place up to its end.
+-- The references of rows stand one after the other in a list, from a place up to its end.
 abbrev pub HaveReferences : Schema → List Reference → ℕ → List Row → Type 0
 HaveReferences s references start [] = start ≡ length references
 HaveReferences s references start (row ∷ rows) = (start ≤ row.end) × (row.end ≤ length references) × RefersAt s (slice_range references start row.end) row × HaveReferences s references row.end rows
 
--- what is held behind others, where what is whole begins at this place
+-- what is held after others, where what is whole begins at this place
 abbrev pub held_behind : ℕ → Held → Held
 held_behind first (held.Simple entity) = held.Simple entity
 held_behind first (held.Whole place) = held.Whole (place + first)
 
--- a row behind others, where its references begin at one place, and what is whole at another
+-- a row after others, where its references begin at one place, and what is whole at another
 abbrev pub row_behind : ℕ → ℕ → Row → Row
 row_behind start first row = record { held = held_behind first row.held; end = row.end + start; gone = row.gone }

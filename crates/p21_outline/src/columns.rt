@@ -1,4 +1,4 @@
-//! What is kept of many instances, in columns.
+//! What a check keeps of simple instances: names, entities and references, in columns.
 
 ghost use Rattle.std.specs.Prelude.{◌≡◌, ◌++◌, All, IfOk, OnErr, OnOk, length, map};
 ghost use Rattle.p21_schema.specs.Ancestry.{entity_id};
@@ -50,7 +50,7 @@ impl<'a> Columns<'a> {
     ghost use Rattle.p21_outline.specs.Rows.{HaveReferences, RefersAt};
     ghost use Rattle.p21_outline.specs.declared.columns.Row.{Row};
     ghost use Rattle.p21_express.specs.Schema.{Schema};
-    ghost use Rattle.p21_outline.specs.Columns.{AppendsSimple, AppendsWhole, AreColumns, Joins, instances_in, start_at};
+    ghost use Rattle.p21_outline.specs.Columns.{AppendsSimple, AppendsWhole, AreColumns, IsAsItWas, Joins, instances_in, start_at};
 
     /// Nothing is kept yet. This takes no memory.
     pub(crate) fn new(alloc: Global) -> Columns<'a>
@@ -65,7 +65,7 @@ impl<'a> Columns<'a> {
         }
     }
 
-    /// The same, with room for so many instances. It is refused for want of memory alone.
+    /// The same, with room for so many instances. It is refused for lack of memory alone.
     pub(crate) fn with_capacity(alloc: Global, count: usize) -> Result<Columns<'a>, AllocError>
         ensures instances { IfOk result (λ columns. instances_in columns ≡ []) }
         ensures fits { IfOk result (λ columns. (s : Schema) → AreColumns s columns) }
@@ -78,8 +78,8 @@ impl<'a> Columns<'a> {
         })
     }
 
-    /// Puts a simple instance behind the others. It is refused for want of memory alone, as is one whose entity, or the end of whose
-    /// references, has a place from 2^32 on; then the instances are as they were.
+    /// Puts a simple instance after the others. It is refused for lack of memory alone, as is one whose entity, or the end of whose
+    /// references, has a place from 2^32 on; then what is kept is as it was.
     #[inline(always)]
     pub(crate) fn push_simple(
         &mut self,
@@ -89,7 +89,7 @@ impl<'a> Columns<'a> {
         gone: Snapshot<RawInstance<'a>>,
     ) -> Result<(), AllocError>
         ensures ok { OnOk result (AppendsSimple self.old written entity references.now gone.entry.value self.new) }
-        ensures err { OnErr result (instances_in self.new ≡ instances_in self.old) }
+        ensures err { OnErr result (IsAsItWas self.old self.new) }
     {
         let entity = short(entity.place())?;
         let end = short(self.references.len().saturating_add(references.len()))?;
@@ -104,14 +104,14 @@ impl<'a> Columns<'a> {
         Ok(())
     }
 
-    /// Puts a complex instance behind the others. It is refused as a simple one is, and behind 2^32 others.
+    /// Puts a complex instance after the others. It is refused as a simple one is, and after 2^32 others.
     pub(crate) fn push_whole(
         &mut self,
         written: u64,
         whole: RawInstance<'a>,
     ) -> Result<(), AllocError>
         ensures ok { OnOk result (AppendsWhole self.old written whole.entry self.new) }
-        ensures err { OnErr result (instances_in self.new ≡ instances_in self.old) }
+        ensures err { OnErr result (IsAsItWas self.old self.new) }
     {
         let place = short(self.wholes.len())?;
         let end = short(self.references.len())?;
@@ -127,7 +127,7 @@ impl<'a> Columns<'a> {
         Ok(())
     }
 
-    /// The same with what is kept of other instances behind. It is refused for want of memory alone, as are instances with
+    /// The same with what is kept of other instances after it. It is refused for lack of memory alone, as are instances with
     /// which 2^32 references or whole ones are kept.
     pub(crate) fn with(self, more: Columns<'a>) -> Result<Columns<'a>, AllocError>
         ensures { IfOk result (Joins self.entry more.entry) }
@@ -190,7 +190,7 @@ impl<'a> Columns<'a> {
     }
 }
 
-/// Puts rows behind others, where their references begin at one place, and what is whole of them at another.
+/// Puts rows after others, where their references begin at one place, and what is whole of them at another.
 fn push_rows<'a>(
     rows: &mut Vec<Row<'a>>,
     more: Vec<Row<'a>>,
@@ -209,7 +209,7 @@ fn push_rows<'a>(
 }
 
 impl<'a> Row<'a> {
-    /// The same row where its references begin behind this place, and what is whole behind another.
+    /// The same row where its references begin after this place, and what is whole after another.
     #[inline(always)]
     fn behind(self, start: u32, first: u32) -> Result<Row<'a>, AllocError>
         ensures { IfOk result (λ row. row ≡ row_behind start first self.entry) }
@@ -224,7 +224,7 @@ impl<'a> Row<'a> {
     }
 }
 
-/// A place in four bytes. One from 2^32 on is refused, as for want of memory.
+/// A place in four bytes. One from 2^32 on is refused, as for lack of memory.
 fn short(place: usize) -> Result<u32, AllocError>
     ensures { IfOk result (λ short. short ≡ place) }
 {

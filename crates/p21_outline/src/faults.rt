@@ -20,7 +20,7 @@ impl<'a> Outline<'a> {
     ghost use Rattle.p21_outline.specs.Outline.{AreOutlined, outlined_instances};
 
     /// Whether each instance has a reference fault among all of them, in their order, looked for by as many threads as there are
-    /// processors. The outline was made by this schema. It is refused for want of memory alone.
+    /// processors. The outline was made by this schema. It is refused for lack of memory alone.
     pub fn faultiness<R: Threads + Sync>(
         &self,
         rt: &R,
@@ -51,6 +51,7 @@ impl<'a> Outline<'a> {
     ) -> Result<(), FaultKind>
         requires outlined { AreOutlined schema.now self.now }
         requires local { IsLocalFault schema.now (plain_instance instance.now) None }
+        // By the order of record, attribute and place; none exactly where each reference is answered.
         ensures { MatchResult result
             (λ _. IsReferenceFault schema.now (named_in (plain_instances (outlined_instances self.now))) (plain_instance instance.now) None)
             (λ kind. IsReferenceFault schema.now (named_in (plain_instances (outlined_instances self.now))) (plain_instance instance.now) (Some kind)) }

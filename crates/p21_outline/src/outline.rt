@@ -40,9 +40,16 @@ impl<'a> Outline<'a> {
         }
     }
 
-    /// Puts the outlines of a list behind the others, where all have names of their own. It is refused for want of memory alone, as is the
-    /// instance behind 2^32 - 1 others, more than a file within the bound holds, and one with which more than 2^32 - 1 references are kept.
+    /// Puts the outlines of a list after the others, where all have names of their own. It is refused for lack of memory alone, as is the
+    /// instance after 2^32 - 1 others, more than a file within the bound holds, and one with which more than 2^32 - 1 references are kept.
+    ///
+    /// Cost: O(1) for each instance and each reference of the list. Of a simple instance 12 bytes are kept, the place
+    /// of its name, and 16 bytes of each reference.
     pub fn extend(self, list: OutlineList<'a>) -> Result<Extended<'a>, AllocError>
+        // The instances of the list go last, and what was outlined by a schema is so with a list that is. Where two
+        // instances would have one name, the result is the first instance of the list that has the name of one before
+        // it, the names of all before that, and the list. That no two have one name is a fact of the type
+        // (`own_names`).
         ensures { IfOk result (Extends self.entry list.entry) }
     {
         let Outline {
@@ -77,6 +84,7 @@ impl<'a> Outline<'a> {
 
     /// The names of the instances. All else is let go. This takes no memory.
     pub fn into_names(self) -> InstanceNames
+        // A name is among them exactly where an instance that is outlined has it.
         ensures { (name : ℕ) → IsAmong result name ↔ Contains (map (λ i. i.name) (outlined_instances self.entry)) name }
     {
         InstanceNames::of_places(self.places)
@@ -86,15 +94,15 @@ impl<'a> Outline<'a> {
 /// What outlines are with those of a list.
 #[derive(Drop)]
 pub enum Extended<'a> {
-    /// Those of the list stand behind the others.
+    /// Those of the list stand after the others.
     Whole(Outline<'a>),
     /// The instance at this place of the list is the first that has the name of one before it. The names of all before it, whose outlines
     /// are let go; and the list.
     Repeated(InstanceNames, OutlineList<'a>, usize),
 }
 
-/// Keeps the places of names, which stand one behind the other from a place on, as far as they are new; the answer is which of them is
-/// the first that is not. It is refused for want of memory alone, as is a place from 2^32 - 1 on.
+/// Keeps the places of names, which stand one after the other from a place on, as far as they are new; the answer is which of them is
+/// the first that is not. It is refused for lack of memory alone, as is a place from 2^32 - 1 on.
 fn place_names(
     places: &mut InstancePlaces,
     names: &[PlacedName],

@@ -36,6 +36,8 @@ impl<'a> Outline<'a> {
         schema: &'a Schema,
     ) -> Result<Tally<'a>, AllocError>
         requires { AreOutlined schema.now self.now }
+        // How many are complex, how many instance names are written in them, and how many records have each keyword.
+        // Each number stops at 2^64 - 1.
         ensures { IfOk result (λ tally. IsTallyOf tally (plain_instances (outlined_instances self.now))) }
     {
         let counted = Counted {

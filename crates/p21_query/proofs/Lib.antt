@@ -3,3 +3,5 @@ mod FirstLemmas
 mod NameLemmas
 mod PathLemmas
 mod PlainLemmas
+mod KeyLemmas
+mod JoinLemmas

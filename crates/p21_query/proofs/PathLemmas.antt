@@ -20,7 +20,7 @@ no_tree_there [] i e = refl
 no_tree_there (x ∷ ps) zero e = absurd (cc)
 no_tree_there (x ∷ ps) (suc i) e = no_tree_there ps i e
 
--- behind a list or a typed parameter a path goes on in it
+-- after a list or a typed parameter a path goes on in it
 pub behind_items : (w : Where) (ts : Trees) (path : List ℕ) → 0 < length path → behind w (Some (items ts)) path ≡ at_path w ts path
 behind_items w ts [] h = absurd (omega arith)
 behind_items w ts (i ∷ is) h = refl

@@ -37,6 +37,7 @@ pub record IsFound (s : Schema) (found : Option (Where × Tree)) (t : Tree) (log
   pub there : found ≡ Some (place, t)
   pub decides : IsTrue logical ↔ IsLogicalAt s place
 
+-- What is there, and whether an enumeration there is of BOOLEAN or LOGICAL.
 abbrev pub IsFoundAt : Schema → Where → Trees → List ℕ → Tree → Bool → Type 0
 IsFoundAt s w ts path t logical = IsFound s (at_path w ts path) t logical
 

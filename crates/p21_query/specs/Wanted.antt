@@ -12,6 +12,7 @@ IsMeant s true k n = IsBelow s k n
 IsMeant s false k n = k ≡ n
 
 -- a record of the instance has such a name
+-- It names the entity, or one below it where these count too.
 pub record IsWanted (s : Schema) (subtypes : Bool) (n : List ℕ) (i : Instance) : Type 0 where
   pub keyword : List ℕ
   pub written : IsIn (keywords i) keyword

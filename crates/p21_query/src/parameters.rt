@@ -30,7 +30,10 @@ pub fn parameter_at<'p, 'a>(
     path: &[u64],
 ) -> Option<Found<'p, 'a>>
     requires { AllHaveBodies params.now }
+    // Strings and binaries in it are the bodies of such.
     ensures bodies { IfSome result (λ found. HasBodies (plain found.param.now)) }
+    // If the caller says rightly of the list whether enumerations in it are values of BOOLEAN or LOGICAL: the
+    // parameter at the path, and whether it is such a value; none exactly where nothing is there.
     ensures found { (w : Where) → (IsTrue logical ↔ IsLogicalAt terms.now w) → MatchOption result (at_path w (plain_all params.entry.now) path.now ≡ None) (λ found. IsFoundAt terms.now w (plain_all params.entry.now) path.now (plain found.param.now) found.logical) }
 {
     let (first, rest) = path.split_first()?;

@@ -11,6 +11,7 @@ use p21_tree::{Param, RawInstance};
 
 /// The place of the first instance, from a place on, with a parameter that refers to the instance of this name. `None` where there is none.
 pub fn next_naming(instances: &[RawInstance<'_>], name: u64, from: usize) -> Option<usize>
+    // However deep the reference is in the parameter.
     ensures { IsFirst (λ i. AnyHasName name (plain_instance i).records) (λ i. ¬ (AnyHasName name (plain_instance i).records)) instances.now from result }
 {
     for place in from..instances.len() {

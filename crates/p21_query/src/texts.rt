@@ -31,6 +31,7 @@ pub fn write_text(terms: &Terms<'_>, text: &mut String, param: &Param<'_>) -> Re
 
 /// Copies as much of a text as there is room for.
 pub fn copy_front(text: &[u8], room: &mut [u8])
+    // The room has as much of the text as there is room for, and after it what it had.
     ensures { room.new ≡ take (length room.old) text.now ++ drop (length text.now) room.old }
 {
     let count = text.len().min(room.len());

@@ -124,7 +124,7 @@ first_faulty s before _ _ rest f (faults.faulty {x} {xs} {fs} {kind} h others) e
 
 -- The front of a file.
 
--- the tokens of some instances, and of those behind them
+-- the tokens of some instances, and of those after them
 instances_split : (body : List Placed) (is a b : List Instance) → IsInstances deepest body is → is ≡ a ++ b → (front : List Placed) × (behind : List Placed) × (body ≡ front ++ behind) × IsInstances deepest front a
 instances_split body is [] b h e = ([], body, refl, sentence.none)
 instances_split body is (i ∷ a) b sentence.none e = absurd (cc)

@@ -35,7 +35,7 @@ record Left (s : Schema) (file : List ℕ) (o : Opening) (end : ℕ) (is : List 
   are : PiecesAre file place number (map plain_piece pieces) end
   judged : AllZip (IsJudged s) pieces rest
 
--- what is left behind a whole value
+-- what is left after a whole value
 left_one : PartLaws → (s : Schema) (file : List ℕ) (o : Opening) (end : ℕ) (is : List Instance) (w : Whole) (rest : List Value) → Left s file o end is (whole w ∷ rest) → Left s file o end (is ++ w.instance ∷ []) rest
 left_one laws s file o end is w rest h =
     let n = next_of s file end h.place h.number (whole w) rest h.pieces h.are h.judged in
@@ -47,7 +47,7 @@ own_one s file o end is w rest k h own =
     let n = next_of s file end h.place h.number (whole w) rest h.pieces h.are h.judged in
     carried s is w k n.own.1 own
 
--- behind whole values, and the faults of their instances
+-- after whole values, and the faults of their instances
 record Behind (s : Schema) (file : List ℕ) (o : Opening) (end : ℕ) (earlier : List Instance) (ws : List Whole) (rest : List Value) (fs : List Fault) : Type 0 where
   left : Left s file o end (earlier ++ instances_in ws) rest
   are : AreFaultsOf (λ i. i) (IsInstanceFault s) earlier (instances_in ws) fs

@@ -14,7 +14,7 @@ one_more s [] (e ∷ es) i own h here = absurd h
 one_more s (j ∷ is) [] i own h here = absurd h
 one_more s (j ∷ is) (e ∷ es) i own h here = (h.0, one_more s is es i own h.1 here)
 
--- that of one value more, behind the others
+-- that of one value more, after the others
 pub value_known : (s : Schema) (old new : List Instance) (es longer : List (Option EntityId)) (v : Value) (own : Option EntityId) → AddsValue old v (Ok tt) new → IsEntityOfValue s v own → longer ≡ es ++ own ∷ [] → AreSimpleEntities s old es → AreSimpleEntities s new longer
 value_known s old new es longer v own a here e h =
     let known : IsEntityOfValue s (whole a.0) own = subst (λ x. IsEntityOfValue s x own) a.1 here in

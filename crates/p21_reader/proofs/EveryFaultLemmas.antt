@@ -76,7 +76,7 @@ some_behind : (found : List Fault) (f : Fault) → found ++ f ∷ [] ≢ []
 some_behind [] f e = cc
 some_behind (g ∷ found) f e = cc
 
--- an instance without a fault, behind others without
+-- an instance without a fault, after others without
 pub sound_more : (js : List Judgement) (j : Judgement) (w : Whole) (is more : List Instance) (es longer : List (Option EntityId)) (names : InstanceNames) (found : List Fault) (ended : Bool) → ended ≡ false → found ≡ []
     → GathersFaults js is es names found ended → value_of j.judged ≡ whole w → IsCarriedFault is w None → more ≡ is ++ w.instance ∷ [] → longer ≡ es ++ j.entity ∷ [] → GathersFaults (js ++ j ∷ []) more longer names found ended
 sound_more js j w is more es longer names found true e none h own fault add longer_is = absurd (cc)

@@ -68,7 +68,7 @@ whole_front one text at p a _ (tokens.more {t} {ts} f l h) (tokens.more {t = u} 
     let r = whole_front one text t.after p ts us h (subst (λ x. Tokens text x.after us) e k) in
     (r.0, ap (λ x. x ∷ us) e ∙ ap (λ x. t ∷ x) r.1)
 
--- the token next behind some tokens stands first among further ones
+-- the token next after some tokens stands first among further ones
 pub next_first : OneFirst → (text : List ℕ) (p q : ℕ) (m : List Placed) (t u : Placed) → TokensUpTo text p m q → First text p t → First text q u → (r : List Placed) × (m ++ u ∷ [] ≡ t ∷ r)
 next_first one text p q m t u tokens.none f g = ([], ap (λ x. x ∷ []) (one text p u t g f))
 next_first one text p q m t u (tokens.more {t = v} {ts} h l k) f g = (ts ++ u ∷ [], ap (λ x. x ∷ (ts ++ u ∷ [])) (one text p v t h f))
@@ -117,7 +117,7 @@ pub record TreeLaws : Type 0 where
   pub prefaces_end : NoneBeginsAnother prefaces
   pub instances_end : NoneBeginsAnother instances
 
--- Of two lists of whole instances from one place the first is a beginning of the second, or goes on behind it.
+-- Of two lists of whole instances from one place the first is a beginning of the second, or goes on after it.
 pub data Goes (text : List ℕ) (end : ℕ) (is js : List Instance) : Type 0 where
   within : (m : List Instance) → js ≡ is ++ m → Goes text end is js
   beyond : (i : Instance) (m : List Instance) → is ≡ js ++ i ∷ m → IsAt text end i → Goes text end is js

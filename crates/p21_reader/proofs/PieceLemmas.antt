@@ -64,14 +64,14 @@ no_piece laws file place number next p tail n t toks =
     apart s e (inl n) = let f = n.1 in cc
     apart s e (inr b) = cc
 
--- the tokens of a file up to the end of an instance, and those behind it
+-- the tokens of a file up to the end of an instance, and those after it
 parted : (file : List ℕ) (place : ℕ) (us rest tail : List Placed) → IsTail tail → Tokens file place ((us ++ rest) ++ tail) → (q : ℕ) × TokensUpTo file place us q × Tokens file q (rest ++ tail)
 parted file place us rest tail t toks =
     let f = some_first rest tail t in
     let s = whole_split file place us f.0 f.1 ((us ++ rest) ++ tail) toks (append_assoc us rest tail ∙ ap (λ l. us ++ l) f.2) in
     (s.0, s.1, subst (Tokens file s.0) (sym f.2) s.2)
 
--- where an instance stands next, so does a piece that is this instance, and cutting goes on behind it
+-- where an instance stands next, so does a piece that is this instance, and cutting goes on after it
 is_instance : NextLaws → (file : List ℕ) (place number next q : ℕ) (p : Piece) (us : List Placed) (i : Instance) → IsNext file place number (plain_piece p) next → IsInstance deepest us i → TokensUpTo file place us q → (q ≡ next) × IsPieceOf p i
 is_instance laws file place number next q p us i n x up =
     let s = laws.one_semi us i x in

@@ -175,7 +175,7 @@ none_faultless s = λ earlier later i e. nothing earlier later i e where
   nothing [] later i e = absurd (cc)
   nothing (x ∷ earlier) later i e = absurd (cc)
 
--- what a reading knows behind one part more
+-- what a reading knows after one part more
 
 pub read_on : PartLaws → (s : Schema) (file : List ℕ) (o : Opening) (is : List Instance) (place number next : ℕ) (p : Piece) (i : Instance) → IsReadUpTo s file o is place → IsNext file place number (plain_piece p) next → IsPieceText p i → IsInstanceFault s is i None → IsReadUpTo s file o (is ++ i ∷ []) next
 read_on laws s file o is place number next p i r n h own =

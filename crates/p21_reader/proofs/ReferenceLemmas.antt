@@ -15,7 +15,7 @@ use Rattle.p21_reader.specs.InstanceFault.{IsInstanceFault, HaveNoFault}
 use Rattle.p21_reader.specs.InstanceFault as fault
 use Rattle.p21_refs.specs.FirstReferenceFault.{IsFirstReferenceFault}
 
--- an element stands behind those before it
+-- an element stands after those before it
 stands : (xs : List Instance) (k : ℕ) (x : Instance) → k < length xs → get_or xs k x ≡ x → xs ≡ take k xs ++ x ∷ drop (suc k) xs
 stands xs k x less e = sym (take-append-drop k xs) ∙ ap (λ l. take k xs ++ l) (drop-cons xs k x less ∙ ap (λ y. y ∷ drop (suc k) xs) e)
 
@@ -73,7 +73,7 @@ answered_more s is items index i at before h j d less = elim (cases_lt j index) 
       subst (λ x. IsReferenceFault s (named_in all) x None) (sym here) h
 ]
 
--- no instance stands behind the last
+-- no instance stands after the last
 pub answered_all : (s : Schema) (is items : List RawInstance) (index : ℕ) → items ≡ is → length items ≤ index
     → ((j : ℕ) (d : Instance) → j < index → IsReferenceFault s (named_in (plain_instances is)) (get_or (plain_instances is) j d) None)
     → (k : ℕ) (d : Instance) → k < length (plain_instances is) → IsReferenceFault s (named_in (plain_instances is)) (get_or (plain_instances is) k d) None

@@ -1,4 +1,4 @@
--- Tokens of a file from a place to a place, and behind it.
+-- Tokens of a file from a place to a place, and after it.
 use Rattle.std.proofs.Common.{◌≡◌, ◌≢◌, ℕ, List, [], ◌∷◌, ◌++◌, refl, ap, arith}
 use Rattle.std.specs.Prelude.{All}
 use Rattle.std.proofs.lemmas.List.{map-append}

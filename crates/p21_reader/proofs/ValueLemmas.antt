@@ -45,7 +45,7 @@ value_fault laws s file o is place number next p (whole w) f r x n h k =
     let own : IsLocalFaultOfFile s file (record { kind = f.kind; at = w.instance.at }) = local.in_instance (begins_on laws file o is place number next p w.instance r.begins n h.0) x r.faultless (carried s is w (Some f.kind) h.1 k.0) in
     subst (λ a. IsLocalFaultOfFile s file (record { kind = f.kind; at = a })) (sym k.1) own
 
--- what a reading knows behind one value more
+-- what a reading knows after one value more
 pub value_read : PartLaws → (s : Schema) (file : List ℕ) (o : Opening) (old new : List Instance) (place number next : ℕ) (p : Piece) (v : Value) → IsReadUpTo s file o old place → IsNext file place number (plain_piece p) next → IsJudged s p v → AddsValue old v (Ok tt) new → IsReadUpTo s file o new next
 value_read laws s file o old new place number next p v r n h a =
     let w : Whole = a.0 in
@@ -67,7 +67,7 @@ record Left (s : Schema) (file : List ℕ) (o : Opening) (end : ℕ) (is : List 
   are : PiecesAre file place number (map plain_piece pieces) end
   judged : AllZip (IsJudged s) pieces rest
 
--- the first of them, and what is left behind it
+-- the first of them, and what is left after it
 pub record Next (s : Schema) (file : List ℕ) (end place number : ℕ) (v : Value) (rest : List Value) : Type 0 where
   pub piece : Piece
   pub next : ℕ

@@ -14,7 +14,7 @@ abbrev pub AreCarriedFaults : List Whole → List Fault → Type 0
 AreCarriedFaults ws fs = AreFaultsOf (λ w. w.instance) IsCarriedFault [] ws fs
 
 -- All faults of values, without those of references, where the tail begins at a place: the faults of the whole instances before
--- the first grammar fault, a value's or the tail's, and behind them that fault, where there is one.
+-- the first grammar fault, a value's or the tail's, and after them that fault, where there is one.
 pub data AreFaultsOfValues (file : List ℕ) (end : ℕ) (vs : List Value) : List Fault → Type 0 where
   up_to_value : (f : Fault) (later : List Value) {ws : List Whole} {fs : List Fault} → vs ≡ map whole ws ++ grammar f ∷ later → AreCarriedFaults ws fs → AreFaultsOfValues file end vs (fs ++ f ∷ [])
   up_to_tail : {ws : List Whole} {f : Fault} {fs : List Fault} → vs ≡ map whole ws → AreCarriedFaults ws fs → HasFault tails file end f → AreFaultsOfValues file end vs (fs ++ f ∷ [])

@@ -12,8 +12,8 @@ use Rattle.p21_reader.specs.InstanceFault.{IsInstanceFault}
 use Rattle.p21_reader.specs.LocalFault.{IsOpeningFault, HasNoLocalFault}
 use Rattle.p21_reader.specs.Reading.{IsReading}
 
--- The faults of instances that stand behind earlier ones are those of the instances that have one, in the order of the
--- instances, each at the name of its instance. `instance_of` tells an instance, and `IsFault` its fault behind those before it.
+-- The faults of instances that stand after earlier ones are those of the instances that have one, in the order of the
+-- instances, each at the name of its instance. `instance_of` tells an instance, and `IsFault` its fault after those before it.
 pub data AreFaultsOf {T : Type 0} (instance_of : T → Instance) (IsFault : List Instance → T → Option FaultKind → Type 0) : List Instance → List T → List Fault → Type 0 where
   none : {earlier : List Instance} → AreFaultsOf instance_of IsFault earlier [] []
   faultless : {earlier : List Instance} {x : T} {xs : List T} {fs : List Fault} → IsFault earlier x None → AreFaultsOf instance_of IsFault (earlier ++ instance_of x ∷ []) xs fs → AreFaultsOf instance_of IsFault earlier (x ∷ xs) fs
@@ -25,7 +25,7 @@ abbrev pub AreInstanceFaults : Schema → List Instance → List Fault → Type 
 AreInstanceFaults s is fs = AreFaultsOf (λ i. i) (IsInstanceFault s) [] is fs
 
 -- All faults of a file. A fault before its instances stands alone. Else they are the faults of the instances that stand whole before
--- the first grammar fault, and behind them that fault, where there is one. Where there is none of these, they are the reference
+-- the first grammar fault, and after them that fault, where there is one. Where there is none of these, they are the reference
 -- faults.
 pub data AreAllFaults (s : Schema) (file : List ℕ) : List Fault → Type 0 where
   before_instances : {f : Fault} → IsOpeningFault s file f → AreAllFaults s file (f ∷ [])

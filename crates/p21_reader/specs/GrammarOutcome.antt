@@ -8,7 +8,7 @@ use Rattle.p21_tree.specs.Fault.{Kind, files, tails}
 use Rattle.p21_tree.specs.InOrder.{StopsAt}
 use Rattle.p21_tree.specs.Texts.{fault_kind, IsFileText, IsPieceText, HasTail, HasFault, HasPieceFault}
 
--- The file begins with this preface and, one after the other behind it, these whole instances, up to a place.
+-- The file begins with this preface and, one after the other after it, these whole instances, up to a place.
 pub record FileBeginsWith (file : List ℕ) (o : Opening) (is : List Instance) (place : ℕ) : Type 0 where
   pub opening : List Placed
   pub body : List Placed
@@ -16,7 +16,7 @@ pub record FileBeginsWith (file : List ℕ) (o : Opening) (is : List Instance) (
   pub is_opening : IsPreface deepest opening o
   pub are_instances : IsInstances deepest body is
 
--- The first grammar fault of the file stands behind this preface and these whole instances, and no further instance
+-- The first grammar fault of the file stands after this preface and these whole instances, and no further instance
 -- stands whole before it.
 pub record FileStopsBehind (file : List ℕ) (o : Opening) (is : List Instance) (fault : Fault) : Type 0 where
   pub opening : List Placed

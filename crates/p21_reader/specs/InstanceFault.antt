@@ -10,7 +10,7 @@ use Rattle.p21_check.specs.LocalFault.{IsLocalFault}
 abbrev pub IsRepeated : List Instance → Instance → Type 0
 IsRepeated earlier i = (other : Instance) × Contains earlier other × (other.name ≡ i.name)
 
--- The fault of an instance behind earlier ones is that its name is repeated, and else the fault that it has by itself, if it
+-- The fault of an instance after earlier ones is that its name is repeated, and else the fault that it has by itself, if it
 -- has one. `Own` says which that is.
 pub data IsFaultAmong (Own : Option FaultKind → Type 0) (earlier : List Instance) (i : Instance) : Option FaultKind → Type 0 where
   repeated : IsRepeated earlier i → IsFaultAmong Own earlier i (Some kind.DuplicateName)

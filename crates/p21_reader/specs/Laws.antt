@@ -44,7 +44,7 @@ LocalReadingIsReading s file = (ps : List Piece) (answer : Result (List Instance
 abbrev pub IsPieceOf : Piece → Instance → Type 0
 IsPieceOf p i = IsPieceText p i × (p.at ≡ i.at)
 
--- The pieces behind the preface of a file that is a sentence are its instances one by one, and its tail stands behind them.
+-- The pieces after the preface of a file that is a sentence are its instances one by one, and its tail stands after them.
 abbrev pub PiecesAreInstances : List ℕ → Type 0
 PiecesAreInstances file = (o : Opening) (is : List Instance) (ps : List Piece) (end : ℕ) → IsFileText file o is → PiecesAre file o.data_at 0 (map plain_piece ps) end → AllZip IsPieceOf ps is × HasTail file end
 

@@ -15,7 +15,7 @@ use Rattle.p21_reader.specs.Judged.{value_of}
 use Rattle.p21_reader.specs.declared.judged.Judged.{Judged}
 
 -- The pieces of a file and its answer, where `says p j` holds of what may be said of a piece: no pieces and the fault before the
--- instances, where there is one; else those behind the preface, and the answer to something that may be said of each.
+-- instances, where there is one; else those after the preface, and the answer to something that may be said of each.
 pub data IsReadingBy (s : Schema) (file : List ℕ) (says : Piece → Judged → Type 0) : List Piece → Result (List Instance) Fault → Type 0 where
   before_instances : {f : Fault} → IsOpeningFault s file f → IsReadingBy s file says [] (Err f)
   by_pieces : {o : Opening} {ps : List Piece} {end : ℕ} (js : List Judged) {answer : Result (List Instance) Fault} → BeginsPreface file o → IsHeaderFault s o None → PiecesAre file o.data_at 0 (map plain_piece ps) end → AllZip says ps js → IsAnswerTo s file end (map value_of js) answer

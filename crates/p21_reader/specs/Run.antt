@@ -7,7 +7,7 @@ use Rattle.p21_crew.specs.Run.{IsRun}
 use Rattle.p21_reader.specs.declared.judged.Judged.{Judged}
 use Rattle.p21_reader.specs.declared.run.Run.{Run}
 
--- Of the pieces of the file from a place on, behind which the tail begins, each was dealt to exactly one lane. Each lane received
+-- Of the pieces of the file from a place on, after which the tail begins, each was dealt to exactly one lane. Each lane received
 -- exactly its share of them, once, in file order, and returned its share of the outs; and the outs are what the judge may say of
 -- the pieces, one by one.
 pub record IsRunBy (judges : Piece → Judged → Type 0) (file : List ℕ) (at lanes : ℕ) (run : Run) : Type 0 where

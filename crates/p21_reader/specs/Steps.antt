@@ -22,13 +22,13 @@ abbrev pub IsStopOf : TreeError → Stop → Type 0
 IsStopOf (error.Grammar f) e = e ≡ stop.Fault f
 IsStopOf error.Memory e = e ≡ stop.Memory
 
--- The instance of a value without a fault goes behind the others. Otherwise the fault of the value is told.
+-- The instance of a value without a fault goes after the others. Otherwise the fault of the value is told.
 abbrev pub AddsValue : List Instance → Value → Result (Unit {0}) Stop → List Instance → Type 0
 AddsValue old v (Ok u) new = (w : Whole) × (v ≡ whole w) × IsCarriedFault old w None × (new ≡ old ++ w.instance ∷ [])
 AddsValue old v (Err (stop.Fault f)) new = IsValueFault old v f
 AddsValue old v (Err stop.Memory) new = Unit {0}
 
--- The file is read up to a place: behind its preface stand these instances, and none of them has a fault.
+-- The file is read up to a place: after its preface stand these instances, and none of them has a fault.
 pub record IsReadUpTo (s : Schema) (file : List ℕ) (o : Opening) (is : List Instance) (place : ℕ) : Type 0 where
   pub begins : FileBeginsWith file o is place
   pub faultless : HaveNoFault s is

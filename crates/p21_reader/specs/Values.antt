@@ -30,7 +30,7 @@ IsJudged s p (whole w) = IsPieceText p w.instance × IsLocalFault s w.instance w
 abbrev pub instances_in : List Whole → List Instance
 instances_in ws = map (λ w. w.instance) ws
 
--- the fault of a whole instance behind earlier ones, by what it is said to have by itself
+-- the fault of a whole instance after earlier ones, by what it is said to have by itself
 abbrev pub IsCarriedFault : List Instance → Whole → Option FaultKind → Type 0
 IsCarriedFault earlier w fault = IsFaultAmong (λ own. own ≡ w.own) earlier w.instance fault
 
@@ -38,12 +38,12 @@ IsCarriedFault earlier w fault = IsFaultAmong (λ own. own ≡ w.own) earlier w.
 abbrev pub CarryNoFault : List Whole → Type 0
 CarryNoFault ws = (earlier later : List Whole) (w : Whole) → ws ≡ earlier ++ w ∷ later → IsCarriedFault (instances_in earlier) w None
 
--- the fault of a value behind earlier instances: that of the grammar, or that of its instance, at its name
+-- the fault of a value after earlier instances: that of the grammar, or that of its instance, at its name
 abbrev pub IsValueFault : List Instance → Value → Fault → Type 0
 IsValueFault earlier (grammar g) f = f ≡ g
 IsValueFault earlier (whole w) f = IsCarriedFault earlier w (Some f.kind) × (f.at ≡ w.instance.at)
 
--- The first fault of values is that of the first value that has one, behind whole instances.
+-- The first fault of values is that of the first value that has one, after whole instances.
 pub record IsFirstValueFault (vs : List Value) (f : Fault) : Type 0 where
   pub earlier : List Whole
   pub value : Value

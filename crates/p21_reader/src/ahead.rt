@@ -1,6 +1,6 @@
-//! Memory that is taken from the system ahead of its use.
+//! Touching memory before it is used, so that threads do not wait for the system.
 //!
-//! The C library makes memory ready for a thread a page at a time, each by a call of the system, behind which every thread waits that
+//! The C library makes memory ready for a thread a page at a time, each by a call of the system, after which every thread waits that
 //! touches a new page. What it made ready for a larger block stays ready when the block is given back.
 
 use std::alloc::{AllocError, Global};

@@ -56,7 +56,7 @@ pub struct AllFaults<'a> {
 /// without. Where there is none of these, they are the reference faults, the first of each instance that has one.
 ///
 /// Pieces are dealt and read as `read_lanes` does it. The answer hangs neither on the lanes nor on their capacity. An error is
-/// want of memory, or of a thread.
+/// lack of memory, or of a thread.
 pub fn read_all_faults<'a, G: Gate + Sync, R: Threads + Wait + Sync>(
     rt: &R,
     alloc: Global,
@@ -66,8 +66,13 @@ pub fn read_all_faults<'a, G: Gate + Sync, R: Threads + Wait + Sync>(
     lanes: LaneCount,
     capacity: Capacity,
 ) -> Result<AllFaults<'a>, ReadError>
+    // As for `read_lanes`.
     ensures pieces { IfOk result (λ all. PiecesAreDealt schema.now file.now lanes all.dealt.items all.receipts.items) }
+    // The answer is that to the results that the lanes returned.
     ensures returned { IfOk result (AllAnswerReturned schema.now file.now lanes) }
+    // All faults of the file, at least one, or its instances where it has none. The faults are that before the
+    // instances alone; otherwise the fault of each instance that is whole before the first grammar fault and has one,
+    // in file order, and then that grammar fault; otherwise the reference faults.
     ensures answer { IfOk result (λ all. IsReadingWithAll schema.now file.now (plain_all all.answer)) }
 {
     values_give_all_faults();
@@ -99,7 +104,7 @@ pub fn read_all_faults<'a, G: Gate + Sync, R: Threads + Wait + Sync>(
 impl<'a> AllFaults<'a> {
     ghost use Rattle.p21_reader.specs.AllAnswer.{IsStoppedWithAll};
 
-    /// What a file gives that was not read further: its one fault, or want of memory.
+    /// What a file gives that was not read further: its one fault, or lack of memory.
     fn stopped(alloc: Global, stop: Stop) -> Result<AllFaults<'a>, ReadError>
         ensures { IfOk result (IsStoppedWithAll stop) }
     {

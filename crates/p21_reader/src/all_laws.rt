@@ -28,7 +28,10 @@ pub fn one_list_of_faults()
 /// A file has no fault of all exactly where its reading is a model, and else the first of all is the fault of its reading. Where it
 /// has a list of all faults, it has such a reading.
 pub fn all_begin_with_reading()
+    // All faults of a file are none exactly where its reading is a model. Otherwise the first of them is the fault of
+    // its reading.
     ensures begin { (s : Schema) → (file : List ℕ) → AllFaultsBeginWithReading s file }
+    // Where a file has a list of all faults, it has a reading with which these begin.
     ensures reading { (s : Schema) → (file : List ℕ) → AllFaultsGiveReading s file }
 {
     first_is_unique();
@@ -38,6 +41,9 @@ pub fn all_begin_with_reading()
 /// Behind a preface whose header has no fault, the answer with all faults to what the pieces of a file are by themselves is that
 /// of the file.
 pub fn values_give_all_faults()
+    // All faults are those of the pieces before the first grammar fault, each judged by itself but for its name, and
+    // then that fault, of a piece or of the tail; where there is none of these, the reference faults; where there are
+    // none either, the answer is the instances.
     ensures { (s : Schema) → (file : List ℕ) → ValuesGiveAllFaults s file }
 {
     first_tokens_of_file();

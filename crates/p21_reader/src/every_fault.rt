@@ -60,7 +60,7 @@ impl<'a> FaultGathering<'a> {
         }
     }
 
-    /// Joins an instance behind others that have no fault, as none has by now. The fault that it has by itself is told behind a
+    /// Joins an instance after others that have no fault, as none has by now. The fault that it has by itself is told after a
     /// repeated name.
     fn join(
         &mut self,
@@ -85,7 +85,7 @@ impl<'a> FaultGathering<'a> {
         Ok(())
     }
 
-    /// Notes the name and the fault of an instance behind others of which one has a fault.
+    /// Notes the name and the fault of an instance after others of which one has a fault.
     fn note(&mut self, instance: &RawInstance<'a>, own: Option<FaultKind>) -> Result<(), AllocError>
         requires going { self.old.ended ≡ false }
         requires faulty { self.old.faults.items ≢ [] }
@@ -102,7 +102,7 @@ impl<'a> FaultGathering<'a> {
     }
 
     /// The model of all pieces and the entity of each instance, where neither they nor the tail, which begins at this place, have
-    /// a fault; else all faults. An error is want of memory.
+    /// a fault; else all faults. An error is lack of memory.
     pub(crate) fn conclude(self, file: &[u8], tail: usize) -> Result<Gathered<'a>, AllocError>
         requires { tail ≤ length file.now }
         ensures { (js : List Judgement) → AreFaultsGathered self.entry js → IfOk result (λ found. MatchResult found
@@ -149,7 +149,7 @@ impl<'a> Gathers<Judgement<'a>> for FaultGathering<'a> {
     }
 }
 
-/// Adds the name of an instance behind others that have these names. The answer is the fault that it has behind them: a repeated
+/// Adds the name of an instance after others that have these names. The answer is the fault that it has after them: a repeated
 /// name before its own.
 fn add_name(
     names: &mut InstanceNames,
@@ -166,7 +166,7 @@ fn add_name(
     }
 }
 
-/// The faults of all pieces, and behind them that of the tail, where none of the grammar stands before it.
+/// The faults of all pieces, and after them that of the tail, where none of the grammar stands before it.
 fn with_tail(
     mut faults: Vec<Fault>,
     ended: bool,

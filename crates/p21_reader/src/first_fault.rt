@@ -46,7 +46,7 @@ impl<'a> Gathering<'a> {
 
     /// Gathers the next piece. Behind a fault it is let go.
     ///
-    /// An error is want of memory; then the gathering is of no further account.
+    /// An error is lack of memory; then the gathering is of no further account.
     pub(crate) fn gather(&mut self, judgement: Judgement<'a>) -> Result<(), AllocError>
         ensures gathered { OnOk result ((js : List Judgement) → IsGathered self.old js → IsGathered self.new (js ++ judgement.entry ∷ [])) }
         ensures behind { IsSome (fault_of self.old) → (result ≡ Ok tt) × (self.new ≡ self.old) }
@@ -95,7 +95,7 @@ impl<'a> Gathers<Judgement<'a>> for Gathering<'a> {
     }
 }
 
-/// Joins the instance of a piece, where it has no fault behind those before it, and puts its entity behind theirs. Otherwise the
+/// Joins the instance of a piece, where it has no fault after those before it, and puts its entity after theirs. Otherwise the
 /// fault is told.
 #[inline(always)]
 pub(crate) fn add_value<'a>(
@@ -133,7 +133,7 @@ fn add_whole<'a>(
     }
 }
 
-/// Joins an instance that has this fault by itself, or none, unless its name is there. The answer is the fault that it has behind
+/// Joins an instance that has this fault by itself, or none, unless its name is there. The answer is the fault that it has after
 /// the others: a repeated name before its own.
 #[inline(always)]
 pub(crate) fn join_whole<'a>(

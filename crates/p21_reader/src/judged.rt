@@ -1,4 +1,4 @@
-//! What pieces are by themselves.
+//! What a worker finds in a piece: an instance, or its fault.
 
 ghost use Rattle.std.specs.Prelude.{IfOk};
 ghost use Rattle.p21_express.specs.Schema.{Schema};
@@ -22,16 +22,20 @@ pub enum Judged<'a> {
 }
 
 /// Judges pieces by themselves.
+///
+/// Its ghost `judges` says what it may say of a piece; of `LocalReader`, what the piece is by itself.
 pub trait Judge {
     /// What a piece may be judged to be.
     ghost judges: { Self → Piece → Judged → Type 0 };
 
-    /// Judges a piece by itself. The reader may have read any pieces before. An error is want of memory.
+    /// Judges a piece by itself. The reader may have read any pieces before. An error is lack of memory.
     fn judge<'a>(
         &self,
         reader: &mut InstanceReader<'a>,
         piece: Piece<'a>,
     ) -> Result<Judged<'a>, AllocError>
+        // What the judge may say of the piece. `LocalReader` says its grammar fault; or its instance, with the fault
+        // that it has by itself or none.
         ensures { IfOk result (λ judged. judges self.now piece.entry judged) };
 }
 
@@ -100,7 +104,7 @@ pub(crate) trait EntityJudge {
     ghost judges: { Self → Schema → Piece → Judged → Type 0 };
 
     /// Judges a piece by itself, and finds the entity of its instance. The reader may have read any pieces before. An error is
-    /// want of memory.
+    /// lack of memory.
     fn judge_entity<'a>(
         &self,
         schema: &Schema,

@@ -1,4 +1,4 @@
-//! Judging pieces as the work of a crew.
+//! What a worker does with a piece.
 
 ghost use Rattle.std.specs.Prelude.{List, [], IfOk};
 ghost use Rattle.p21_tree.specs.declared.pieces.Piece.{Piece};
@@ -65,7 +65,7 @@ impl<'a, E: EntityJudge> Work<Piece<'a>> for Judging<'_, E> {
     }
 }
 
-/// The run of a crew that judges pieces. An error is want of memory, or of a thread.
+/// The run of a crew that judges pieces. An error is lack of memory, or of a thread.
 pub(crate) fn judge_pieces<
     'a,
     E: EntityJudge + Sync,

@@ -37,7 +37,7 @@ use std::thread::Threads;
 /// Each piece of the data section is dealt to one lane, and read and checked there by a worker in a thread of its own, while on
 /// no lane more pieces are out than the capacity. Behind a fault too all pieces are dealt. `dealt` has the lane of each piece,
 /// `receipts` what each lane received and `returned` what it returned; all are empty where a fault stands before the data section. The
-/// answer is made of what the lanes returned, and is that of `read_serial`, whatever the lanes. An error is want of memory, or of a
+/// answer is made of what the lanes returned, and is that of `read_serial`, whatever the lanes. An error is lack of memory, or of a
 /// thread.
 pub fn read_lanes<'a, G: Gate + Sync, R: Threads + Wait + Sync>(
     rt: &R,
@@ -48,8 +48,14 @@ pub fn read_lanes<'a, G: Gate + Sync, R: Threads + Wait + Sync>(
     lanes: LaneCount,
     capacity: Capacity,
 ) -> Result<Reading<'a>, ReadError>
+    // Each piece of the file was dealt to exactly one lane, and each lane received exactly its pieces, once, in file
+    // order, and then its end, with a receipt. If there is a fault before the instances, no piece is dealt and there
+    // is no receipt.
     ensures pieces { IfOk result (λ reading. PiecesAreDealt schema.now file.now lanes reading.dealt.items reading.receipts.items) }
+    // Each lane returned its share of results that may be stated of the pieces, one by one, with a receipt. The
+    // answer is that to these results.
     ensures returned { IfOk result (AnswersReturned (JudgesLocally schema.now) schema.now file.now lanes) }
+    // It is the reading of the whole file against the schema: its instances in file order, or its first fault.
     ensures answer { IfOk result (λ reading. IsReading schema.now file.now (plain_answer reading.answer)) }
 {
     read_pieces(rt, alloc, schema, &Locally, gate, file, lanes, capacity)
@@ -71,7 +77,11 @@ pub fn read_lanes_by<'a, J: Judge + Sync, G: Gate + Sync, R: Threads + Wait + Sy
     capacity: Capacity,
 ) -> Result<Reading<'a>, ReadError>
     requires { FindsEachFault (J.judges judge.now) schema.now }
+    // The pieces were dealt as for `read_lanes`. The answer is the fault before the instances; otherwise, by what the
+    // judge says of each piece and by the names before it, the first fault, else that of the tail, else the first
+    // reference fault, else the instances.
     ensures reading { IfOk result (IsReadBy (J.judges judge.now) schema.now file.now lanes) }
+    // What the lanes returned is what the judge may say of the pieces, and the answer is that to it.
     ensures returned { IfOk result (AnswersReturned (J.judges judge.now) schema.now file.now lanes) }
 {
     read_pieces(

@@ -50,17 +50,22 @@ pub fn pieces_in_order()
 /// file: the first fault of the pieces, else that of the tail, else the first reference fault, else the instances. So what a file
 /// gives by pieces that were judged as `LocalReader` does is its reading, and these are its pieces.
 pub fn values_give_reading()
+    // After a preface whose header has no fault, the reading of the file is the first fault of its pieces, each
+    // judged by itself but for its name; else that of the tail; else the first reference fault; else the instances.
     ensures of_values { (s : Schema) → (file : List ℕ) → ValuesGiveReading s file }
+    // So what a file gives by pieces that are judged as `LocalReader` does is its reading, and these are its pieces.
     ensures of_judged { (s : Schema) → (file : List ℕ) → LocalReadingIsReading s file }
 {
     first_tokens_of_file();
     parts_up_to_fault();
 }
 
-/// The pieces of a file that is a sentence are its instances, one by one in their order, and its tail stands behind them: those
-/// behind its preface, and so those of the file against a schema, where no fault stands before the instances.
+/// The pieces of a file that is a sentence are its instances, one by one in their order, and its tail stands after them: those
+/// after its preface, and so those of the file against a schema, where no fault stands before the instances.
 pub fn pieces_are_instances()
+    // The pieces of a file that is a sentence are its instances, one by one in order, and its tail follows them.
     ensures behind_preface { (file : List ℕ) → PiecesAreInstances file }
+    // The same of the pieces of a file against a schema, where there is no fault before the instances.
     ensures of_file { (s : Schema) → (file : List ℕ) → PiecesOfFileAreInstances s file }
 {
     first_is_unique();

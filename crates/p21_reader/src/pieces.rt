@@ -20,7 +20,9 @@ impl<'a> Pieces<'a> {
     /// The pieces of a file from a place on, which is at most its length, numbered from 0.
     pub fn new(file: &'a [u8], at: usize) -> Pieces<'a>
         requires { at ≤ length file.now }
+        // What is given from then on are the pieces of the file from the place on.
         ensures of_file { (ps : List Piece) (tail : ℕ) → AreGiven result ps tail → PiecesAre file.now at 0 (map plain_piece ps) tail }
+        // The tail begins in the file.
         ensures within { (ps : List Piece) (tail : ℕ) → AreGiven result ps tail → tail ≤ length file.now }
     {
         Pieces {

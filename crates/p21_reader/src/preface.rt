@@ -1,4 +1,4 @@
-//! The instances of a file without a local fault, or that fault.
+//! The beginning of a file, up to its first instance, and the checks of its header.
 
 ghost use Rattle.std.specs.Prelude.{◌≤◌, length, IfOk, IfErr, None};
 ghost use Rattle.p21_tree.specs.Views.{plain_preface};
@@ -45,9 +45,13 @@ pub fn checked_preface<'a>(
     schema: &Schema,
     file: &'a [u8],
 ) -> Result<Preface<'a>, Stop>
+    // The file begins with this preface.
     ensures begins { IfOk result (λ preface. BeginsPreface file.now (plain_preface preface)) }
+    // The place after it is in the file.
     ensures within { IfOk result (λ preface. preface.data_at ≤ length file.now) }
+    // Its header has no fault against the schema.
     ensures header { IfOk result (λ preface. IsHeaderFault schema.now (plain_preface preface) None) }
+    // This is the fault before the instances.
     ensures fault { IfErr result (λ stop. OnFault stop (IsOpeningFault schema.now file.now)) }
 {
     let preface = read_preface(alloc, file)?;
@@ -60,7 +64,7 @@ pub fn checked_preface<'a>(
     }
 }
 
-/// The instances of all pieces behind a preface, the entity of each, and the place of the tail.
+/// The instances of all pieces after a preface, the entity of each, and the place of the tail.
 fn join_pieces<'a>(
     alloc: Global,
     schema: &Schema,

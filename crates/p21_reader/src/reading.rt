@@ -38,7 +38,7 @@ impl<'a> Reading<'a> {
         }
     }
 
-    /// The reading of a file that was not read further: its fault, or want of memory.
+    /// The reading of a file that was not read further: its fault, or lack of memory.
     pub(crate) fn stopped(alloc: Global, stop: Stop) -> Result<Reading<'a>, ReadError>
         ensures { IfOk result (IsStopped stop) }
     {

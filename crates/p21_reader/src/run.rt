@@ -49,7 +49,7 @@ impl<'a> Gathers<Judged<'a>> for InOrder<'a> {
 /// Judges the pieces of a file from a place on, which is at most its length, by so many lanes.
 ///
 /// Each piece is dealt to one lane, and judged there by a worker in a thread of its own, once the gate lets it in, while on no
-/// lane more pieces are out than the capacity. All pieces are dealt, whatever they are judged to be. An error is want of memory,
+/// lane more pieces are out than the capacity. All pieces are dealt, whatever they are judged to be. An error is lack of memory,
 /// or of a thread.
 pub fn run_lanes<'a, J: Judge + Sync, G: Gate + Sync, R: Threads + Wait + Sync>(
     rt: &R,
@@ -62,6 +62,9 @@ pub fn run_lanes<'a, J: Judge + Sync, G: Gate + Sync, R: Threads + Wait + Sync>(
     capacity: Capacity,
 ) -> Result<Run<'a>, AllocError>
     requires { at ≤ length file.now }
+    // Each piece from the place on was dealt to exactly one lane; each lane received exactly its share, once, in file
+    // order, then its end, and returned its share of the results; these are what the judge may say of the pieces, one
+    // by one. The tail begins after the pieces.
     ensures { IfOk result (IsRunBy (J.judges judge.now) file.now at lanes) }
 {
     let pieces = Pieces::new(file, at);

@@ -23,13 +23,15 @@ use std::alloc::Global;
 /// The answer is the first fault of the file, or its instances in their order. The faults stand in this order: a grammar
 /// fault up to and including `DATA;`; a fault of the header entities, then of the schema's name; of the instances that stand
 /// whole before the first grammar fault, the fault of the first that has one; the first grammar fault; the first reference
-/// fault. There are no receipts, and nothing is dealt. An error is want of memory.
+/// fault. There are no receipts, and nothing is dealt. An error is lack of memory.
 pub fn read_serial<'a>(
     alloc: Global,
     schema: &Schema,
     file: &'a [u8],
 ) -> Result<Reading<'a>, ReadError>
+    // The reading of the whole file against the schema.
     ensures answer { IfOk result (λ reading. IsReading schema.now file.now (plain_answer reading.answer)) }
+    // Nothing was dealt, and there is no receipt.
     ensures lanes { IfOk result (λ reading. (reading.receipts.items ≡ []) × (reading.dealt.items ≡ []) × (reading.returned.items ≡ [])) }
 {
     match checked_model(alloc, schema, file) {

@@ -92,7 +92,7 @@ answered_more s m place i h before answered k less = elim (cases_lt k place) [
   | inr here ↦ let same : place ≡ k = omega arith in subst (IsAnsweredAt s (plain_instances (instances_of m))) same (at_place s m place i None h answered)
 ]
 
--- no instance stands behind the last
+-- no instance stands after the last
 pub answered_all : (s : Schema) (m : Model) (end : ℕ) → length (instances_of m) ≤ end → AreAnsweredBefore s (plain_instances (instances_of m)) end
     → AreAnswered s (plain_instances (instances_of m)) (plain_instances (instances_of m))
 answered_all s m end whole before k d less = before k (omega (arith, less, length-map (instances_of m) plain_instance)) d

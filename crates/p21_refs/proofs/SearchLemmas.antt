@@ -22,7 +22,7 @@ one_less None k e = absurd (cc)
 one_less (Some j) k e = (j, refl, cc)
 
 module _ (P : ℕ → Bool → Type 0) where
-  -- a fact of the first number and of those behind it
+  -- a fact of the first number and of those after it
   from_first : (from n : ℕ) → P from false → ((k : ℕ) → from + 1 ≤ k → k < n → P k false) → (k : ℕ) → from ≤ k → k < n → P k false
   from_first from n first behind k low high = elim (cases_lt from k) [
     | inl less ↦ behind k (omega arith) high

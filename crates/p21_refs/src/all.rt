@@ -19,7 +19,7 @@ use std::thread::Threads;
 
 /// The reference faults of the instances of a model: of each instance that has one, in their order, its first, at the instance's
 /// place in the file. There are none exactly where each reference is answered as it is wanted. No instance has a fault by itself.
-/// It is refused for want of memory alone.
+/// It is refused for lack of memory alone.
 pub fn all_bad<R: Threads + Sync>(
     rt: &R,
     alloc: Global,

@@ -20,7 +20,7 @@ use std::thread::Threads;
 const FRONT: usize = 2048;
 
 /// The first reference fault of the instances of a model, at the instance's place in the file; `None` exactly where each
-/// reference is answered as it is wanted. No instance has a fault by itself. It is refused for want of memory alone.
+/// reference is answered as it is wanted. No instance has a fault by itself. It is refused for lack of memory alone.
 pub fn first_bad<R: Threads + Sync>(
     rt: &R,
     alloc: Global,
@@ -54,7 +54,7 @@ pub fn first_bad_among<R: Threads + Sync>(rt: &R, entities: &ModelEntities<'_, '
 }
 
 /// The first reference fault of the instances at the front of a model, where they have one. Each instance is asked by its keyword,
-/// and none behind the fault.
+/// and none after the fault.
 fn first_bad_at_front(schema: &Schema, model: &Model<'_>) -> Option<Fault>
     requires { AreSound schema.now (plain_instances (instances_of model.now)) }
     ensures { MatchOption result
@@ -75,7 +75,7 @@ fn first_bad_at_front(schema: &Schema, model: &Model<'_>) -> Option<Fault>
 
 /// The first reference fault of the instances of a model, where those at its front have none.
 ///
-/// The model is gone over in strides, each as long as all that lies before it, by several threads within a stride. Nothing behind
+/// The model is gone over in strides, each as long as all that lies before it, by several threads within a stride. Nothing after
 /// the stride of the fault is asked, so that there are at most twice as many questions as one thread has.
 fn first_bad_behind_front<R: Threads + Sync>(
     rt: &R,

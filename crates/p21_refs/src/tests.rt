@@ -40,7 +40,7 @@ fn texts(alloc: Global, odd: u64, other: Option<u64>) -> Result<Vec<String>, All
     Ok(texts)
 }
 
-/// The model of some instances, as if each lay a hundred bytes behind the one before.
+/// The model of some instances, as if each lay a hundred bytes after the one before.
 fn model_of<'a>(alloc: Global, texts: &'a [String]) -> Option<Model<'a>> {
     let mut joiner = Joiner::new(alloc);
     for (number, text) in texts.iter().enumerate() {

@@ -7,7 +7,7 @@ use Rattle.p21_express.specs.declared.error.SchemaError.TheVariants as error
 abbrev pub schema_line : ℕ → List ℕ → ℕ → List ℕ
 schema_line number name at = codes "schema fault " ++ (decimal number ++ (32 ∷ (name ++ (codes " at " ++ (decimal at ++ 10 ∷ [])))))
 
--- the line of each fault of a schema; want of memory is none
+-- the line of each fault of a schema; lack of memory is none
 abbrev pub schema_fault_text : SchemaError → Option (List ℕ)
 schema_fault_text (error.Syntax at) = Some (schema_line 1 (codes "Syntax") at)
 schema_fault_text (error.NotSupported at) = Some (schema_line 2 (codes "NotSupported") at)

@@ -8,7 +8,7 @@ use p21_express::SchemaError;
 use std::alloc::{AllocError, Global};
 
 /// The line of a schema's fault: its number, its kind, its place and a line end. `Memory` is no fault of a schema, and here too
-/// want of memory.
+/// lack of memory.
 pub fn schema_fault_line(alloc: Global, error: SchemaError) -> Result<Vec<u8>, AllocError>
     ensures { IfOk result (λ line. schema_fault_text error ≡ Some line.items) }
 {

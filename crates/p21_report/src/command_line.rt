@@ -4,15 +4,19 @@ ghost use Rattle.std.specs.Prelude.{◌≡◌, Ok, Err};
 ghost use Rattle.p21_run.specs.declared.outcome.Outcome.TheVariants.{Complete, Faulty, SchemaRefused, Device as Failed, Memory as NoMemory};
 ghost use Rattle.p21_report.specs.declared.program_error.ProgramError.TheVariants.{Device, Memory};
 
-use crate::explainer::{Explainer, Names};
+use crate::explainer::{Explainer, LookedAt, Names, STANDARD_OUTPUT};
 use crate::key::drawn_key;
+use crate::many::run_many;
+use crate::mending::{Mending, input_at, mend_schema};
 use crate::opened::{LastError, Opened};
 use crate::program_error::ProgramError;
 use crate::progress::{NoClock, Program, Progress, Stage};
+use crate::renamed::renamed_for;
+use crate::screen::Screen;
 use crate::watched::Watched;
-use crate::words::{Wanted, not_text, what_is_wanted};
-use p21_rule_run::{How, run_rules};
-use p21_run::{Outcome, Source, Stream, run_heard};
+use crate::words::{Asked, Wanted, not_text, replaces_input, what_is_wanted};
+use p21_rule_run::run_rules;
+use p21_run::{Options, Outcome, Source, Stream, run_heard};
 use std::alloc::{AllocError, Global};
 use std::fs::Files;
 use std::io::{self, Read, Write};
@@ -21,9 +25,10 @@ use std::thread::Threads;
 use std::time::Clock;
 
 /// The program `p21check [OPTIONS] SCHEMA FILE`: reads the schema, checks the file against it by `--lanes` worker threads (4) of this
-/// `--capacity` (256), and writes the report to `output`; with `--all` that of every fault. With `--distinct` a SET or a LIST OF UNIQUE
+/// `--capacity` (256, or 4096 for a file above 16 MiB), and writes the report to `output`; with `--all` that of every fault. With `--distinct` a SET or a LIST OF UNIQUE
 /// that names one instance twice is a fault; with `--rules` so is an instance that breaks a rule UNIQUE or
-/// an INVERSE attribute of the schema. With `--explain` at most so many faults (20) are then explained on `errors`, and a device
+/// an INVERSE attribute of the schema. With `--mend` the text of the schema is mended before it is read, each change is told on `errors`, and with
+/// `--write-schema OUT` the text is written. With `--explain` at most so many faults (20) are then explained on `errors`, and a device
 /// that failed, where there is memory; with `--format json` as objects.
 ///
 /// `words` are the arguments of the command line, the program's own name first; FILE `-` is `input`, and `rt` opens the others,
@@ -31,6 +36,8 @@ use std::time::Clock;
 /// error (clap's text goes to `errors`), 3 where the schema was refused, 4 where a file could not be opened, read or written, or a limit
 /// on bytes or calls was exceeded, 5 without memory or a thread. The help and the version go to `output`, with status 0. A failed write
 /// to `errors` changes no status. No progress is shown.
+///
+/// Options, messages and exit statuses are tested.
 pub fn program<R, I, O, E>(
     rt: &R,
     alloc: Global,
@@ -48,14 +55,16 @@ where
     let told = Told {
         clock: NoClock,
         out: io::sink(),
-        is_terminal: false,
+        screen: Screen::none(),
     };
     run_words(rt, alloc, words, input, output, errors, told)
 }
 
 /// The same as `program`, which shows its progress on a line of `progress`, where that is a terminal or `--progress` is given: what it is
 /// at and how much of the file it has read, at most ten times a second. The line is removed before the report is written. Where
-/// `progress` is a terminal, faults are explained unless `--explain=0` is given.
+/// `progress` is a terminal, as `screen` says, faults are explained unless `--explain=0` is given, and in colours where it has some.
+///
+/// So is the progress line.
 pub fn program_with_progress<R, I, O, E, P>(
     rt: &R,
     alloc: Global,
@@ -64,7 +73,7 @@ pub fn program_with_progress<R, I, O, E, P>(
     output: &mut O,
     errors: &mut E,
     progress: P,
-    is_terminal: bool,
+    screen: Screen,
 ) -> u8
 where
     R: Files + Threads + Wait + Clock + Sync,
@@ -76,7 +85,7 @@ where
     let told = Told {
         clock: rt,
         out: progress,
-        is_terminal,
+        screen,
     };
     run_words(rt, alloc, words, input, output, errors, told)
 }
@@ -86,7 +95,7 @@ where
 struct Told<C, P> {
     clock: C,
     out: P,
-    is_terminal: bool,
+    screen: Screen,
 }
 
 /// The status of what the words ask for; what is wrong, and what is to be said of it, is told on `errors`.
@@ -108,7 +117,7 @@ where
     P: Write + Send + Drop,
 {
     let mut said = String::new(alloc);
-    let status = match report(rt, alloc, words, input, output, told, &mut said) {
+    let status = match report(rt, alloc, words, input, output, errors, told, &mut said) {
         Ok(status) => status,
         Err(error) => tell(&error, output, errors),
     };
@@ -129,12 +138,13 @@ pub fn unreadable_words<E: Write>(alloc: Global, error: &io::Error, errors: &mut
 }
 
 /// Runs over the schema and the file that the words name, and keeps what is to be said of faults, and of devices that failed.
-fn report<R, I, O, C, P>(
+fn report<R, I, O, E, C, P>(
     rt: &R,
     alloc: Global,
     words: &[String],
     input: &mut I,
     output: &mut O,
+    errors: &mut E,
     told: Told<C, P>,
     said: &mut String,
 ) -> Result<u8, ProgramError>
@@ -142,17 +152,34 @@ where
     R: Files + Threads + Wait + Sync,
     I: Read,
     O: Write,
+    E: Write,
     C: Clock + Sync + Drop,
     P: Write + Send + Drop,
 {
-    let wanted = what_is_wanted(alloc, words, told.is_terminal)?;
-    let is_shown = told.is_terminal || wanted.options.progress;
+    let asked = what_is_wanted(alloc, words, told.screen)?;
+    let is_shown = told.screen.is_terminal || asked.options().progress;
     let progress = Progress::new(told.clock, told.out, Program::Check, is_shown);
-    status_of(run_told(rt, alloc, &wanted, &progress, input, output, said))
+    match &asked {
+        Asked::One(wanted) => {
+            if is_input(rt, wanted) {
+                return Err(replaces_input(alloc));
+            }
+            status_of(run_told(rt, alloc, wanted, &progress, input, output, said))
+        }
+        Asked::Many(many) => run_many(rt, alloc, many, &progress, output, errors),
+    }
 }
 
-/// Runs over the schema and the file, tells how far it is, and keeps what is to be said.
-fn run_told<R, I, O, C, P>(
+/// Whether the text of the schema would be written over the schema or the file.
+fn is_input<R: Files>(rt: &R, wanted: &Wanted<'_>) -> bool {
+    match wanted.write_schema {
+        Some(path) => input_at(rt, path, wanted.schema, wanted.file).is_some(),
+        None => false,
+    }
+}
+
+/// Mends the schema if that is wanted, runs over it and the file, tells how far it is, and keeps what is to be said.
+pub(crate) fn run_told<R, I, O, C, P>(
     rt: &R,
     alloc: Global,
     wanted: &Wanted<'_>,
@@ -168,24 +195,114 @@ where
     C: Clock + Sync + Drop,
     P: Write + Send + Drop,
 {
+    let text = match mend_schema(rt, alloc, mending_of(wanted), said) {
+        Ok(text) => text,
+        Err(outcome) => return outcome,
+    };
     progress.tell(Stage::Schema);
     let options = wanted.options;
-    let mut explainer = Explainer::new(
-        alloc,
-        progress,
-        names_of(wanted),
-        options.explained,
-        options.format,
-    );
-    let outcome = if wanted.file == "-" {
-        let file = Stream::new(input);
-        run_over(rt, alloc, wanted, progress, file, output, &mut explainer)
-    } else {
-        let file = Opened::new(rt, wanted.file);
-        run_over(rt, alloc, wanted, progress, file, output, &mut explainer)
+    let mut explainer = Explainer::new(alloc, progress, names_of(wanted), &options)
+        .with_all(wanted.all)
+        .with_summary(wanted.summary);
+    if wanted.is_of_many {
+        explainer = explainer.with_devices();
+    }
+    let wanted = Wanted {
+        text: text.as_deref(),
+        ..*wanted
     };
-    *said = explainer.into_said();
+    let outcome = if wanted.summary {
+        run_summed(rt, alloc, &wanted, progress, input, output, &mut explainer)
+    } else {
+        run_from(rt, alloc, &wanted, progress, input, output, &mut explainer)
+    };
+    if wanted.is_terminal && outcome == Outcome::Complete {
+        explainer.hear_clean(LookedAt {
+            rules: wanted.ruled,
+            distinct: options.rules.distinct,
+        });
+    }
+    // Where there is no memory for it, less is said.
+    let _ = said.push_str(explainer.into_said().as_str());
     outcome
+}
+
+/// How the schema is mended.
+fn mending_of<'a>(wanted: &Wanted<'a>) -> Mending<'a> {
+    Mending {
+        is_wanted: wanted.options.mends,
+        is_told: wanted.tells_changes,
+        schema: wanted.schema,
+        onto: wanted.write_schema,
+        format: wanted.options.format,
+    }
+}
+
+/// Runs over the schema and the file, and writes the summary of the faults in the place of a line for each, or the report where there is none.
+fn run_summed<R, I, O, C, P>(
+    rt: &R,
+    alloc: Global,
+    wanted: &Wanted<'_>,
+    progress: &Progress<C, P>,
+    input: &mut I,
+    output: &mut O,
+    explainer: &mut Explainer<'_, C, P>,
+) -> Outcome
+where
+    R: Files + Threads + Wait + Sync,
+    I: Read,
+    O: Write,
+    C: Clock + Sync + Drop,
+    P: Write + Send + Drop,
+{
+    let mut report = Vec::new(alloc);
+    let outcome = run_from(rt, alloc, wanted, progress, input, &mut report, explainer);
+    match write_either(output, explainer.summary().as_bytes(), &report) {
+        Ok(()) => outcome,
+        Err(error) => {
+            explainer.hear_end(Outcome::Device, [None, None, Some(error)]);
+            Outcome::Device
+        }
+    }
+}
+
+/// Writes a summary, or where there is none a report.
+fn write_either<O: Write>(output: &mut O, summary: &[u8], report: &[u8]) -> io::Result<()> {
+    output.write_all(if summary.is_empty() { report } else { summary })?;
+    output.flush()
+}
+
+/// Runs over the schema and the file, which is the standard input where its path is `-`.
+fn run_from<R, I, O, C, P>(
+    rt: &R,
+    alloc: Global,
+    wanted: &Wanted<'_>,
+    progress: &Progress<C, P>,
+    input: &mut I,
+    output: &mut O,
+    explainer: &mut Explainer<'_, C, P>,
+) -> Outcome
+where
+    R: Files + Threads + Wait + Sync,
+    I: Read,
+    O: Write,
+    C: Clock + Sync + Drop,
+    P: Write + Send + Drop,
+{
+    let schema = Opened::schema(rt, wanted.schema).with_text(wanted.text);
+    if wanted.file == "-" {
+        let file = Stream::new(input);
+        return run_over(rt, alloc, wanted, progress, schema, file, output, explainer);
+    }
+    let file = Opened::file(rt, wanted.file);
+    if wanted.any_name {
+        if let Some(renamed) = renamed_for(rt, alloc, wanted) {
+            explainer.hear_renamed(&renamed.name);
+            let schema = Opened::schema(rt, wanted.schema).with_text(Some(&renamed.text));
+            return run_over(rt, alloc, wanted, progress, schema, file, output, explainer);
+        }
+    }
+    run_over(rt, alloc, wanted, progress, schema, file, output, explainer)
 }
 
 /// By what names the run is told of.
@@ -194,55 +311,58 @@ fn names_of<'a>(wanted: &Wanted<'a>) -> Names<'a> {
         program: Program::Check.name(),
         schema: wanted.schema,
         file: wanted.file,
-        output: "standard output",
+        output: STANDARD_OUTPUT,
     }
 }
 
 /// Runs over the schema and the file as it is wanted, and has the explainer hear the end.
-fn run_over<R, F, O, C, P>(
+fn run_over<R, S, F, O, C, P>(
     rt: &R,
     alloc: Global,
     wanted: &Wanted<'_>,
     progress: &Progress<C, P>,
+    schema: S,
     file: F,
     output: &mut O,
     explainer: &mut Explainer<'_, C, P>,
 ) -> Outcome
 where
     R: Files + Threads + Wait + Sync,
+    S: Source + LastError + Drop,
     F: Source + LastError + Drop,
     O: Write,
     C: Clock + Sync + Drop,
     P: Write + Send + Drop,
 {
-    let mut schema = Opened::new(rt, wanted.schema);
+    let mut schema = schema;
     let mut file = Watched::new(file, progress);
     let mut out = Stream::new(output);
-    let options = wanted.options;
-    let key = drawn_key(rt);
+    let options = Options {
+        gate: progress,
+        lanes: wanted.options.lanes,
+        capacity: wanted.options.capacity,
+        all: wanted.all,
+        rules: wanted.options.rules,
+        key: drawn_key(rt),
+    };
     let outcome = if wanted.ruled {
-        let how = How {
-            gate: progress,
-            lanes: options.lanes,
-            capacity: options.capacity,
-            all: wanted.all,
-            rules: options.rules,
-            key,
-        };
-        run_rules(rt, alloc, &how, &mut schema, &mut file, &mut out, explainer)
+        run_rules(
+            rt,
+            alloc,
+            &options,
+            &mut schema,
+            &mut file,
+            &mut out,
+            explainer,
+        )
     } else {
         run_heard(
             rt,
             alloc,
-            progress,
+            &options,
             &mut schema,
             &mut file,
             &mut out,
-            options.lanes,
-            options.capacity,
-            wanted.all,
-            options.rules,
-            key,
             explainer,
         )
     };

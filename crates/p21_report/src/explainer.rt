@@ -1,26 +1,35 @@
 //! Faults explained to whoever runs the program, and how far it is.
 
 use crate::progress::{Progress, Stage};
+use crate::rules::{
+    broken_inverse, broken_unique, counts_of, earlier_names, unchecked, unchecked_count,
+};
+use crate::words::Options;
 use p21_explain::{
-    Format, RuleCounts, Spellings, Subject, explain_device, explain_fault, explain_inverse_count,
-    explain_not_unique, explain_passed_over, explain_schema_fault, rule_summary, spell_names,
-    summary,
+    Format, Lines, NamedInstances, RefusedSchema, Spellings, Subject, explain_device,
+    explain_fault, explain_inverse_count, explain_not_unique, explain_passed_over,
+    explain_schema_fault, painted, rule_summary, spell_names, summary, unsupported_forms,
 };
 use p21_express::SchemaError;
+use p21_mend::{Change, mended};
 use p21_render::{fault_line, schema_fault_line};
 use p21_rule_run::{RuleFault, RuleListener};
-use p21_rule_text::{RuleKind, Rules};
+use p21_rule_text::Rules;
 use p21_run::{Listener, Outcome};
 use p21_schema::Schema;
 use p21_tree::Fault;
 use std::alloc::{AllocError, Global};
 use std::io::{self, Write};
 use std::mem::forget;
+use std::str;
 use std::time::Clock;
 
 /// What is said of an input that is too long.
 const TOO_LONG: &str =
     "a limit was exceeded: a schema has at most 16777216 bytes, a file 4294967296";
+
+/// How the standard output is told of.
+pub const STANDARD_OUTPUT: &str = "standard output";
 
 /// How a run is told of: by the name of the program, the paths of the schema and the file, where `-` is the standard input, and the name of
 /// what is written to.
@@ -42,29 +51,125 @@ pub struct Explainer<'a, C, P> {
     /// How many faults are explained at most.
     most: usize,
     format: Format,
+    /// Whether explanations have colours.
+    is_colored: bool,
+    /// Whether each form of a schema that is not supported is told of, and not only the first.
+    is_all: bool,
+    /// Whether faults are counted for the summary that takes the place of the report.
+    is_summed: bool,
+    /// Whether a device that failed is told of however few faults are explained.
+    tells_devices: bool,
+    /// Whether what the output goes to was closed.
+    is_closed: bool,
+    /// How many rules were checked, and how many were not.
+    checked: u64,
+    passed_over: u64,
     /// The text of the schema, where faults are explained.
     text: Vec<u8>,
+    summary: String,
     said: String,
+}
+
+/// What a run looked at besides the attributes.
+#[derive(Clone, Copy, Debug)]
+pub(crate) struct LookedAt {
+    /// Whether rules were checked.
+    pub(crate) rules: bool,
+    /// Whether an aggregate that names one instance twice was looked for.
+    pub(crate) distinct: bool,
 }
 
 impl<'a, C: Clock, P: Write> Explainer<'a, C, P> {
     /// Nothing is heard yet.
+    ///
+    /// What it says of faults and devices is tested.
     pub fn new(
         alloc: Global,
         progress: &'a Progress<C, P>,
         names: Names<'a>,
-        most: usize,
-        format: Format,
+        options: &Options,
     ) -> Explainer<'a, C, P> {
         Explainer {
             alloc,
             progress,
             names,
-            most,
-            format,
+            most: options.explained,
+            format: options.format,
+            is_colored: options.is_colored,
+            is_all: false,
+            is_summed: false,
+            tells_devices: false,
+            is_closed: false,
+            checked: 0,
+            passed_over: 0,
             text: Vec::new(alloc),
+            summary: String::new(alloc),
             said: String::new(alloc),
         }
+    }
+
+    /// The same, which tells of a device that failed however few faults are explained; but not of a standard output that was closed.
+    pub fn with_devices(self) -> Explainer<'a, C, P> {
+        Explainer {
+            tells_devices: true,
+            ..self
+        }
+    }
+
+    /// The same, which tells of each form of a schema that is not supported, if that is wanted.
+    pub(crate) fn with_all(self, is_all: bool) -> Explainer<'a, C, P> {
+        Explainer { is_all, ..self }
+    }
+
+    /// The same, which makes a summary of the faults for the output, if that is wanted.
+    pub(crate) fn with_summary(self, is_summed: bool) -> Explainer<'a, C, P> {
+        Explainer { is_summed, ..self }
+    }
+
+    /// Whether the run ended since who read the standard output had closed it.
+    pub fn is_closed(&self) -> bool {
+        self.is_closed
+    }
+
+    /// The summary of the faults for the output; nothing where there is none.
+    pub(crate) fn summary(&self) -> &str {
+        self.summary.as_str()
+    }
+
+    /// Hears that the run found no fault, and what it looked at. Where faults are explained in text, this is told.
+    pub(crate) fn hear_clean(&mut self, looked_at: LookedAt) {
+        if self.most > 0 && self.format == Format::Text {
+            let _ = self.add_clean(looked_at);
+        }
+    }
+
+    /// Adds that there is no fault, and what was not looked at.
+    fn add_clean(&mut self, looked_at: LookedAt) -> Result<(), AllocError> {
+        let mut words = String::new(self.alloc);
+        words.push_str("no fault found")?;
+        if looked_at.rules {
+            let rules = rules_word(self.checked);
+            let checked = format!(in self.alloc; "; {} {rules} checked", self.checked)?;
+            words.push_str(checked.as_str())?;
+        }
+        let rules = rules_word(self.passed_over);
+        let passed_over = format!(in self.alloc; "{} {rules} (listed above)", self.passed_over)?;
+        let mut left_out = Vec::new(self.alloc);
+        if !looked_at.rules {
+            left_out.push("rules (--rules)")?;
+        }
+        if self.passed_over > 0 {
+            left_out.push(passed_over.as_str())?;
+        }
+        if !looked_at.distinct {
+            left_out.push("instances named twice (--distinct)")?;
+        }
+        for (position, name) in left_out.iter().enumerate() {
+            let is_first = position == 0;
+            words.push_str(if is_first { "; not looked at: " } else { ", " })?;
+            words.push_str(name)?;
+        }
+        self.add_line(self.input_name(), words.as_str())
     }
 
     /// What is to be said.
@@ -81,24 +186,52 @@ impl<'a, C: Clock, P: Write> Explainer<'a, C, P> {
         }
     }
 
+    /// Whether something is to be said of faults.
+    fn is_heard(&self) -> bool {
+        self.most > 0 || self.is_summed
+    }
+
+    /// Hears under which name the schema is read. It is told however few faults are explained.
+    pub(crate) fn hear_renamed(&mut self, name: &[u8]) {
+        let name = str::from_utf8(name).unwrap_or("");
+        let schema = self.names.schema;
+        if let Ok(words) = format!(in self.alloc;
+            "it names the schema {name}; checked against {schema} as if it had that name"
+        ) {
+            let _ = self.add_line(self.names.file, words.as_str());
+        }
+    }
+
+    /// Hears why nothing is written to a path. It is told however few faults are explained.
+    pub fn hear_refusal(&mut self, path: &str, words: &str) {
+        let _ = self.add_line(path, words);
+    }
+
     /// Hears that a device failed.
     fn hear_failure(&mut self, errors: [Option<io::Error>; 3]) {
-        if self.most > 0 {
+        self.is_closed = self.tells_devices
+            && self.names.output == STANDARD_OUTPUT
+            && errors[2].is_some_and(|it| it.kind() == io::ErrorKind::BrokenPipe);
+        if (self.most > 0 || self.tells_devices) && !self.is_closed {
             let _ = self.add_failure(errors);
+        }
+    }
+
+    /// How the file is told of.
+    fn input_name(&self) -> &'a str {
+        if self.names.file == "-" {
+            "standard input"
+        } else {
+            self.names.file
         }
     }
 
     /// Adds which device failed: the last that answered an error.
     fn add_failure(&mut self, errors: [Option<io::Error>; 3]) -> Result<(), AllocError> {
         let [schema, file, output] = errors;
-        let input = if self.names.file == "-" {
-            "standard input"
-        } else {
-            self.names.file
-        };
         match (schema, file, output) {
             (_, _, Some(error)) => self.add_error(self.names.output, error),
-            (_, Some(error), None) => self.add_error(input, error),
+            (_, Some(error), None) => self.add_error(self.input_name(), error),
             (Some(error), None, None) => self.add_error(self.names.schema, error),
             (None, None, None) => self.add_line(self.names.program, TOO_LONG),
         }
@@ -118,18 +251,31 @@ impl<'a, C: Clock, P: Write> Explainer<'a, C, P> {
     /// Adds the first faults, and in text of several a summary.
     fn add(&mut self, schema: &Schema, file: &[u8], faults: &[Fault]) -> Result<(), AllocError> {
         let spellings = spell_names(self.alloc, &self.text, schema.declared())?;
+        let explained = faults.get(..self.most).unwrap_or(faults);
         let subject = Subject {
             schema,
             spellings: &spellings,
             path: self.names.file,
             file,
+            named: &NamedInstances::of_faults(self.alloc, file, explained)?,
         };
-        for fault in faults.iter().take(self.most) {
-            let line = fault_line(self.alloc, fault)?;
-            let told = explain_fault(self.alloc, subject, fault, kind_in(&line), self.format)?;
-            say(&mut self.said, told)?;
+        if self.is_summed {
+            self.summary = summary(self.alloc, subject, faults)?;
         }
-        if faults.len() > 1 && self.format == Format::Text {
+        let mut lines = Lines::new(file);
+        for fault in explained {
+            let line = fault_line(self.alloc, fault)?;
+            let told = explain_fault(
+                self.alloc,
+                subject,
+                &mut lines,
+                fault,
+                kind_in(&line),
+                self.format,
+            )?;
+            self.say_found(told)?;
+        }
+        if faults.len() > 1 && self.most > 0 && self.format == Format::Text && !self.is_summed {
             say(&mut self.said, summary(self.alloc, subject, faults)?)?;
         }
         Ok(())
@@ -139,16 +285,26 @@ impl<'a, C: Clock, P: Write> Explainer<'a, C, P> {
     fn explained(
         &self,
         subject: Subject<'_>,
+        lines: &mut Lines<'_>,
         rules: &Rules,
         fault: &RuleFault,
     ) -> Result<String, AllocError> {
         let (alloc, format) = (self.alloc, self.format);
         match fault {
-            RuleFault::NotUnique(fault) => explain_not_unique(alloc, subject, rules, fault, format),
+            RuleFault::NotUnique(fault) => {
+                if let Some(broken) = broken_unique(rules, fault) {
+                    return explain_not_unique(alloc, subject, lines, &broken, format);
+                }
+            }
             RuleFault::InverseCount(fault) => {
-                explain_inverse_count(alloc, subject, &self.text, rules, fault, format)
+                if let Some(broken) = broken_inverse(rules, fault) {
+                    return explain_inverse_count(
+                        alloc, subject, lines, &self.text, &broken, format,
+                    );
+                }
             }
         }
+        Ok(String::new(alloc))
     }
 
     /// Adds the first faults by the rules, in text of several a summary, and the rules that were not checked.
@@ -160,52 +316,115 @@ impl<'a, C: Clock, P: Write> Explainer<'a, C, P> {
         faults: &[RuleFault],
     ) -> Result<(), AllocError> {
         let spellings = spell_names(self.alloc, &self.text, schema.declared())?;
+        let explained = faults.get(..self.most).unwrap_or(faults);
         let subject = Subject {
             schema,
             spellings: &spellings,
             path: self.names.file,
             file,
+            named: &NamedInstances::of_names(
+                self.alloc,
+                file,
+                earlier_names(self.alloc, explained)?,
+            )?,
         };
-        for fault in faults.iter().take(self.most) {
-            let told = self.explained(subject, rules, fault)?;
-            say(&mut self.said, told)?;
+        let mut lines = Lines::new(file);
+        for fault in explained {
+            let told = self.explained(subject, &mut lines, rules, fault)?;
+            self.say_found(told)?;
         }
-        if faults.len() > 1 && self.format == Format::Text {
+        let is_told = faults.len() > 1 && self.most > 0 && self.format == Format::Text;
+        if is_told || self.is_summed {
             let counts = counts_of(self.alloc, rules, faults)?;
-            let told = rule_summary(self.alloc, &self.text, &spellings, rules, &counts)?;
-            say(&mut self.said, told)?;
+            let told = rule_summary(self.alloc, &self.text, &spellings, counts)?;
+            if self.is_summed {
+                self.summary = told;
+            } else {
+                say(&mut self.said, told)?;
+            }
         }
-        self.add_passed_over(&spellings, rules)
+        if self.most > 0 {
+            self.add_passed_over(&spellings, rules)?;
+        }
+        Ok(())
     }
 
     /// Adds the rules that were not checked.
     fn add_passed_over(&mut self, spellings: &Spellings, rules: &Rules) -> Result<(), AllocError> {
         for rule in &rules.passed_over {
             let (path, text) = (self.names.schema, self.text.as_slice());
-            let told = explain_passed_over(self.alloc, path, text, spellings, rule, self.format)?;
+            let rule = unchecked(rule);
+            let told = explain_passed_over(self.alloc, path, text, spellings, &rule, self.format)?;
             say(&mut self.said, told)?;
         }
         Ok(())
     }
 
-    /// Adds the fault of a schema.
+    /// Adds the fault of a schema, and where all are told each form that is not supported.
     fn add_refused(&mut self, text: &[u8], error: &SchemaError) -> Result<(), AllocError> {
+        let found = mended(self.alloc, text)?;
+        let mut lines = Lines::new(text);
+        self.add_schema_fault(&mut lines, &found.changes, error)?;
+        if !self.is_all {
+            return Ok(());
+        }
+        let forms = unsupported_forms(self.alloc, &found)?;
+        self.add_other_forms(&mut lines, &found.changes, &forms, error)
+    }
+
+    /// Adds the forms that are not supported besides the fault, as many as are explained.
+    fn add_other_forms(
+        &mut self,
+        lines: &mut Lines<'_>,
+        changes: &[Change],
+        forms: &[SchemaError],
+        error: &SchemaError,
+    ) -> Result<(), AllocError> {
+        let mut left = self.most.saturating_sub(1);
+        for form in forms {
+            if left > 0 && form != error {
+                left -= 1;
+                self.add_schema_fault(lines, changes, form)?;
+            }
+        }
+        Ok(())
+    }
+
+    /// Adds a fault of a schema, of which some is changed where it is mended.
+    fn add_schema_fault(
+        &mut self,
+        lines: &mut Lines<'_>,
+        changes: &[Change],
+        error: &SchemaError,
+    ) -> Result<(), AllocError> {
         let line = schema_fault_line(self.alloc, *error)?;
+        let path = self.names.schema;
         let told = explain_schema_fault(
             self.alloc,
-            self.names.schema,
-            text,
+            RefusedSchema { path, changes },
+            lines,
             error,
             kind_in(&line),
             self.format,
         )?;
+        self.say_found(told)
+    }
+
+    /// Adds a paragraph on what was found, in colours where they are wanted.
+    fn say_found(&mut self, told: String) -> Result<(), AllocError> {
+        if self.is_colored && self.format == Format::Text {
+            let bytes = painted(self.alloc, told.as_bytes())?;
+            if let Ok(text) = str::from_utf8(&bytes) {
+                return self.said.push_str(text);
+            }
+        }
         say(&mut self.said, told)
     }
 }
 
 impl<C: Clock, P: Write> Listener for Explainer<'_, C, P> {
     fn hear_schema(&mut self, text: &[u8]) {
-        if self.most > 0 {
+        if self.is_heard() {
             let _ = self.text.extend_from_slice(text);
         }
     }
@@ -223,7 +442,7 @@ impl<C: Clock, P: Write> Listener for Explainer<'_, C, P> {
     }
 
     fn hear(&mut self, schema: &Schema, file: &[u8], faults: &[Fault]) {
-        if self.most > 0 {
+        if self.is_heard() {
             let _ = self.add(schema, file, faults);
         }
     }
@@ -234,7 +453,7 @@ impl<C: Clock, P: Write> Listener for Explainer<'_, C, P> {
         }
     }
 
-    /// The program ends right behind its run, and the system takes back what it holds.
+    /// The program ends right after its run, and the system takes back what it holds.
     fn let_go<T: Drop>(&mut self, read: T) {
         forget(read);
     }
@@ -242,22 +461,18 @@ impl<C: Clock, P: Write> Listener for Explainer<'_, C, P> {
 
 impl<C: Clock, P: Write> RuleListener for Explainer<'_, C, P> {
     fn hear_ruled(&mut self, schema: &Schema, rules: &Rules, file: &[u8], faults: &[RuleFault]) {
-        if self.most > 0 {
+        let unique = rules.unique.len() as u64;
+        self.checked = unique.saturating_add(rules.inverse.len() as u64);
+        self.passed_over = unchecked_count(rules);
+        if self.is_heard() {
             let _ = self.add_ruled(schema, rules, file, faults);
         }
     }
 }
 
-/// How many faults break each rule.
-fn counts_of(alloc: Global, rules: &Rules, faults: &[RuleFault]) -> Result<RuleCounts, AllocError> {
-    let mut counts = RuleCounts::none(alloc, rules)?;
-    for fault in faults {
-        match fault {
-            RuleFault::NotUnique(fault) => counts.add(RuleKind::Unique, fault.rule),
-            RuleFault::InverseCount(fault) => counts.add(RuleKind::Inverse, fault.rule),
-        }
-    }
-    Ok(counts)
+/// What so many rules are called.
+fn rules_word(count: u64) -> &'static str {
+    if count == 1 { "rule" } else { "rules" }
 }
 
 /// Adds a text to what is said.

@@ -2,7 +2,7 @@
 
 use crate::opened::Opened;
 use p21_hash::HashKey;
-use p21_run::{IoFault, Source};
+use p21_run::{IoFault, SCHEMA_BOUNDS, Source};
 use std::fs::Files;
 
 /// The file whose bytes nobody knows before.
@@ -12,8 +12,10 @@ const RANDOM: &str = "/dev/urandom";
 const CALLS: u32 = 16;
 
 /// A key that nobody knows before the run; or the one that is always the same, where no bytes for it can be had.
+///
+/// That it is drawn is tested; that it is the fixed one where no random bytes can be had is known by review.
 pub fn drawn_key<R: Files>(rt: &R) -> HashKey {
-    let mut random = Opened::new(rt, RANDOM);
+    let mut random = Opened::within(rt, RANDOM, SCHEMA_BOUNDS);
     let mut bytes = [0; 8];
     for _ in 0..CALLS {
         match random.read(&mut bytes) {

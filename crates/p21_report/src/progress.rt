@@ -19,7 +19,7 @@ const SAMPLE: usize = 256;
 
 const MEGABYTE: u64 = 1_000_000;
 
-/// What covers the part of a line behind the program's name: it is as long as the longest.
+/// What covers the part of a line after the program's name: it is as long as the longest.
 const BLANK: &[u8] = b"                                  ";
 
 /// Whose progress it is.
@@ -127,6 +127,7 @@ impl<C: Clock, P: Write> Progress<C, P> {
         if self.is_shown {
             self.bytes.store(file.len() as u64, Ordering::SeqCst);
             self.pieces.store(pieces_in(file), Ordering::SeqCst);
+            self.next.store(0, Ordering::SeqCst);
         }
     }
 

@@ -17,6 +17,8 @@ pub struct Watched<'p, S, C, P> {
 
 impl<'p, S, C, P> Watched<'p, S, C, P> {
     /// The source, which gave nothing yet.
+    ///
+    /// No clause says which source it watches.
     pub fn new(source: S, progress: &'p Progress<C, P>) -> Watched<'p, S, C, P> {
         Watched {
             source,

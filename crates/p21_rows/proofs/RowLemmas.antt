@@ -2,53 +2,63 @@
 use Rattle.std.proofs.Common.{◌≡◌, ◌+◌, ◌<◌, ◌≤◌, ℕ, zero, suc, Bool, true, false, List, [], ◌∷◌, ◌++◌, Option, None, Some, length, map, drop, get_or, replicate, refl, sym, ap, subst, ◌∙◌, inl, inr, add-one, arith}
 use Rattle.std.specs.Prelude.{slice_get}
 use Rattle.std.specs.List.{AllByRecursion, AllZip, flat_map}
-use Rattle.std.proofs.lemmas.List.{append_assoc, append-nil, drop_all, drop_more, length-append}
+use Rattle.std.proofs.lemmas.List.{append_assoc, append-nil, drop_all, drop_more, length-append, map-append}
 use Rattle.std.proofs.lemmas.Grind.{flat_map-append}
 use Rattle.p21_tree.specs.declared.instances.Record.{Record}
 use Rattle.p21_tree.specs.declared.params.Param.{Param}
 use Rattle.p21_tree.specs.Plain.{plain, plain_all}
 use Rattle.p21_tree.specs.Sentence.{Instance}
 use Rattle.p21_tree.specs.Tree.{Tree, Trees}
-use Rattle.p21_tree.specs.Views.{plain_record}
+use Rattle.p21_tree.specs.declared.instances.RawInstance.{RawInstance}
+use Rattle.p21_tree.specs.Views.{plain_instance, plain_record}
 use Rattle.p21_express.specs.Schema.{Schema, Entity as Declared}
-use Rattle.p21_express.specs.WellFormed.{IsIn, Origin}
+use Rattle.p21_express.specs.WellFormed.{IsEntity, IsIn, Origin}
 use Rattle.p21_schema.specs.declared.ids.EntityId.{EntityId}
 use Rattle.p21_schema.specs.Place.{entity_at, entity_name, no_entity, IsEntityOf}
 use Rattle.p21_schema.specs.Row.{IsRow}
 use Rattle.p21_check.specs.Attributes.{AreAttributes}
 use Rattle.p21_check.specs.Attributes as attributes
+use Rattle.p21_json.specs.Instances.{AreKnown}
 use Rattle.p21_json.specs.Rows.{AreAttributesOf}
+use Rattle.p21_run.specs.Run.{Change, IsTold}
+use Rattle.p21_run.specs.declared.outcome.Outcome.{Outcome}
 use Rattle.p21_json.specs.Spelled.{IsSpelled}
 use Rattle.p21_rows.specs.declared.cell.Cell.{Cell}
 use Rattle.p21_rows.specs.declared.cell.Cell.TheVariants.{Null}
-use Rattle.p21_rows.specs.Rows.{Row, Takes, TakesSome, RowsOfEach, Leads, joined, AreNames, IsCellOfFirst, behind_first, AreCells, IsReferenceRow, AreReferenceRows, list_of, AreMetadata, AreInstanceRows, AreModelRows}
+use Rattle.p21_rows.specs.Rows.{Row, Step, begun, row, ended, Goes, Takes, TakesSome, RowsOfEach, Leads, joined, AreNames, IsCellOfFirst, behind_first, AreCells, IsReferenceRow, AreReferenceRows, list_of, AreMetadata, AreInstanceRows, AreModelRows, GivesModel}
 
 -- ---- rows
 
-pub takes_none : (a : Option (List Row)) → Takes a a []
-takes_none None = tt
-takes_none (Some xs) = sym (append-nil xs)
+goes_none : (a : Option (List Step)) → Goes a a []
+goes_none None = tt
+goes_none (Some xs) = sym (append-nil xs)
 
-pub takes_then : (a b c : Option (List Row)) (xs ys : List Row) → Takes a b xs → Takes b c ys → Takes a c (xs ++ ys)
-takes_then None b c xs ys h k = tt
-takes_then (Some x) None c xs ys h k = absurd h
-takes_then (Some x) (Some y) None xs ys h k = absurd k
-takes_then (Some x) (Some y) (Some z) xs ys h k = k ∙ ap (λ l. l ++ ys) h ∙ append_assoc x xs ys
+goes_then : (a b c : Option (List Step)) (xs ys : List Step) → Goes a b xs → Goes b c ys → Goes a c (xs ++ ys)
+goes_then None b c xs ys h k = tt
+goes_then (Some x) None c xs ys h k = absurd h
+goes_then (Some x) (Some y) None xs ys h k = absurd k
+goes_then (Some x) (Some y) (Some z) xs ys h k = k ∙ ap (λ l. l ++ ys) h ∙ append_assoc x xs ys
+
+pub takes_none : (a : Option (List Step)) → Takes a a []
+takes_none a = goes_none a
+
+pub takes_then : (a b c : Option (List Step)) (xs ys : List Row) → Takes a b xs → Takes b c ys → Takes a c (xs ++ ys)
+takes_then a b c xs ys h k = subst (Goes a c) (sym (map-append row xs ys)) (goes_then a b c (map row xs) (map row ys) h k)
 
 -- a row, and then others
-pub leads_then : (First : Row → Type 0) (Rest : List Row → Type 0) (a b c : Option (List Row)) (r : Row) → First r → Takes a b (r ∷ []) → TakesSome b c Rest → TakesSome a c (Leads First Rest)
+pub leads_then : (First : Row → Type 0) (Rest : List Row → Type 0) (a b c : Option (List Step)) (r : Row) → First r → Takes a b (r ∷ []) → TakesSome b c Rest → TakesSome a c (Leads First Rest)
 leads_then First Rest a b c r h t u = (r ∷ u.0, (r, u.0, h, u.1, refl), takes_then a b c (r ∷ []) u.0 t u.2)
 
 -- of some elements the rows of those before a place were taken
-pub record TakenUpTo {X Y : Type 0} (R : Y → List Row → Type 0) (f : X → Y) (start now : Option (List Row)) (xs : List X) (i : ℕ) : Type 0 where
+pub record TakenUpTo {X Y : Type 0} (R : Y → List Row → Type 0) (f : X → Y) (start now : Option (List Step)) (xs : List X) (i : ℕ) : Type 0 where
   pub done : List Row
   pub taken : Takes start now done
   pub behind : (rest : List Row) → RowsOfEach R (map f (drop i xs)) rest → RowsOfEach R (map f xs) (done ++ rest)
 
-pub taken_none : {X Y : Type 0} (R : Y → List Row → Type 0) (f : X → Y) (a : Option (List Row)) (xs : List X) → TakenUpTo R f a a xs 0
+pub taken_none : {X Y : Type 0} (R : Y → List Row → Type 0) (f : X → Y) (a : Option (List Step)) (xs : List X) → TakenUpTo R f a a xs 0
 taken_none R f a xs = record { done = []; taken = takes_none a; behind = λ rest h. h }
 
-pub taken_more : {X Y : Type 0} (R : Y → List Row → Type 0) (f : X → Y) (a b c : Option (List Row)) (xs : List X) (i : ℕ) (x : X) → i < length xs → x ≡ get_or xs i x → TakenUpTo R f a b xs i → TakesSome b c (R (f x)) → TakenUpTo R f a c xs (i + 1)
+pub taken_more : {X Y : Type 0} (R : Y → List Row → Type 0) (f : X → Y) (a b c : Option (List Step)) (xs : List X) (i : ℕ) (x : X) → i < length xs → x ≡ get_or xs i x → TakenUpTo R f a b xs i → TakesSome b c (R (f x)) → TakenUpTo R f a c xs (i + 1)
 taken_more {X} R f a b c xs i x h e u t =
     let here : drop i xs ≡ x ∷ drop (i + 1) xs = drop_more xs i x h ∙ ap (λ (y : X). y ∷ drop (i + 1) xs) (sym e) in
     record {
@@ -57,30 +67,30 @@ taken_more {X} R f a b c xs i x h e u t =
       behind = λ rest k. subst (RowsOfEach R (map f xs)) (sym (append_assoc u.done t.0 rest)) (u.behind (t.0 ++ rest) (subst (λ (l : List X). RowsOfEach R (map f l) (t.0 ++ rest)) (sym here) (t.0, rest, t.1, k, refl)));
     }
 
-pub taken_all : {X Y : Type 0} (R : Y → List Row → Type 0) (f : X → Y) (a b : Option (List Row)) (xs : List X) (i : ℕ) → length xs ≤ i → TakenUpTo R f a b xs i → TakesSome a b (RowsOfEach R (map f xs))
+pub taken_all : {X Y : Type 0} (R : Y → List Row → Type 0) (f : X → Y) (a b : Option (List Step)) (xs : List X) (i : ℕ) → length xs ≤ i → TakenUpTo R f a b xs i → TakesSome a b (RowsOfEach R (map f xs))
 taken_all {X} R f a b xs i h u =
     let last : RowsOfEach R (map f (drop i xs)) [] = subst (λ (l : List X). RowsOfEach R (map f l) []) (sym (drop_all i xs h)) refl in
     (u.done, subst (RowsOfEach R (map f xs)) (append-nil u.done) (u.behind [] last), u.taken)
 
 -- ---- what is known of a model as a whole
 
-pub about_none : (a : Option (List Row)) → TakesSome a a AreMetadata
+pub about_none : (a : Option (List Step)) → TakesSome a a AreMetadata
 about_none a = ([], tt, takes_none a)
 
 all_append : {X : Type 0} (P : X → Type 0) (xs ys : List X) → AllByRecursion P xs → AllByRecursion P ys → AllByRecursion P (xs ++ ys)
 all_append P [] ys h k = k
 all_append P (x ∷ xs) ys h k = (h.0, all_append P xs ys h.1 k)
 
-pub about_then : (a b c : Option (List Row)) → TakesSome a b AreMetadata → TakesSome b c AreMetadata → TakesSome a c AreMetadata
+pub about_then : (a b c : Option (List Step)) → TakesSome a b AreMetadata → TakesSome b c AreMetadata → TakesSome a c AreMetadata
 about_then a b c h k = (h.0 ++ k.0, all_append _ h.0 k.0 h.1 k.1, takes_then a b c h.0 k.0 h.2 k.2)
 
 -- ---- a whole model
 
-pub model_rows : (s : Schema) (is : List Instance) (a b c d e : Option (List Row)) → Takes a b [] → TakesSome b c AreMetadata → TakesSome c d (RowsOfEach (AreInstanceRows s) is) → Takes d e [] → TakesSome a e (AreModelRows s is)
-model_rows s is a b c d e begun about others ended =
-    let first = takes_then a b c [] about.0 begun about.2 in
-    let both = takes_then a c d about.0 others.0 first others.2 in
-    (about.0 ++ others.0, (about.0, others.0, about.1, others.1, refl), subst (Takes a e) (append-nil (about.0 ++ others.0)) (takes_then a d e (about.0 ++ others.0) [] both ended))
+pub model_rows : (s : Schema) (is : List Instance) (a b c d e : Option (List Step)) → Goes a b (begun ∷ []) → TakesSome b c AreMetadata → TakesSome c d (RowsOfEach (AreInstanceRows s) is) → Goes d e (ended ∷ []) → GivesModel s is a e
+model_rows s is a b c d e begins about others ends =
+    let rows = about.0 ++ others.0 in
+    let all = takes_then b c d about.0 others.0 about.2 others.2 in
+    (rows, (about.0, others.0, about.1, others.1, refl), goes_then a b e (begun ∷ []) (map row rows ++ ended ∷ []) begins (goes_then b d e (map row rows) (ended ∷ []) all ends))
 
 -- ---- the names of entities
 
@@ -186,15 +196,15 @@ listed [] = refl
 listed (p ∷ ps) = ap (λ (l : List Tree). plain p ∷ l) (listed ps)
 
 -- of some references in a column the rows of those before a place were taken
-pub record ReferredUpTo (source : ℕ) (column : List ℕ) (start now : Option (List Row)) (ts : List ℕ) (i : ℕ) : Type 0 where
+pub record ReferredUpTo (source : ℕ) (column : List ℕ) (start now : Option (List Step)) (ts : List ℕ) (i : ℕ) : Type 0 where
   pub done : List Row
   pub taken : Takes start now done
   pub behind : (rest : List Row) → AreReferenceRows source column i (drop i ts) rest → AreReferenceRows source column 0 ts (done ++ rest)
 
-pub referred_none : (source : ℕ) (column : List ℕ) (a : Option (List Row)) (ts : List ℕ) → ReferredUpTo source column a a ts 0
+pub referred_none : (source : ℕ) (column : List ℕ) (a : Option (List Step)) (ts : List ℕ) → ReferredUpTo source column a a ts 0
 referred_none source column a ts = record { done = []; taken = takes_none a; behind = λ rest h. h }
 
-pub referred_more : (source : ℕ) (column : List ℕ) (a b c : Option (List Row)) (ts : List ℕ) (i t : ℕ) (r : Row) → i < length ts → t ≡ get_or ts i 0 → IsReferenceRow source column i t r → Takes b c (r ∷ []) → ReferredUpTo source column a b ts i → ReferredUpTo source column a c ts (i + 1)
+pub referred_more : (source : ℕ) (column : List ℕ) (a b c : Option (List Step)) (ts : List ℕ) (i t : ℕ) (r : Row) → i < length ts → t ≡ get_or ts i 0 → IsReferenceRow source column i t r → Takes b c (r ∷ []) → ReferredUpTo source column a b ts i → ReferredUpTo source column a c ts (i + 1)
 referred_more source column a b c ts i t r h e is k u =
     let here : drop i ts ≡ t ∷ drop (i + 1) ts = drop_more ts i 0 h ∙ ap (λ (x : ℕ). x ∷ drop (i + 1) ts) (sym e) in
     record {
@@ -203,7 +213,26 @@ referred_more source column a b c ts i t r h e is k u =
       behind = λ rest more. subst (AreReferenceRows source column 0 ts) (sym (append_assoc u.done (r ∷ []) rest)) (u.behind (r ∷ rest) (subst (λ (l : List ℕ). AreReferenceRows source column i l (r ∷ rest)) (sym here) (is, more)));
     }
 
-pub referred_all : (source : ℕ) (column : List ℕ) (a b : Option (List Row)) (ts : List ℕ) (i : ℕ) → length ts ≤ i → ReferredUpTo source column a b ts i → TakesSome a b (AreReferenceRows source column 0 ts)
+pub referred_all : (source : ℕ) (column : List ℕ) (a b : Option (List Step)) (ts : List ℕ) (i : ℕ) → length ts ≤ i → ReferredUpTo source column a b ts i → TakesSome a b (AreReferenceRows source column 0 ts)
 referred_all source column a b ts i h u =
     let last : AreReferenceRows source column i (drop i ts) [] = subst (λ (l : List ℕ). AreReferenceRows source column i l []) (sym (drop_all i ts h)) refl in
     (u.done, subst (AreReferenceRows source column 0 ts) (append-nil u.done) (u.behind [] last), u.taken)
+
+-- ---- entities that are known
+
+-- what is so of each item is so of the one at a place
+all_at : {X Y : Type 0} (P : Y → Type 0) (f : X → Y) (xs : List X) (i : ℕ) (x : X) → AllByRecursion P (map f xs) → i < length xs → x ≡ get_or xs i x → P (f x)
+all_at P f [] i x all less e = absurd (omega arith)
+all_at P f (y ∷ ys) zero x all less e = subst (λ z. P (f z)) (sym e) all.0
+all_at P f (y ∷ ys) (suc i) x all less e = all_at P f ys i x all.1 (omega arith) e
+
+pub known_instance : (s : Schema) (is : List RawInstance) (i : ℕ) (x : RawInstance) → AllByRecursion (λ r. AreKnown s r.records) (map plain_instance is) → i < length is → x ≡ get_or is i x → AreKnown s (plain_instance x).records
+known_instance s is i x all less e = all_at (λ r. AreKnown s r.records) plain_instance is i x all less e
+
+pub known_record : (s : Schema) (rs : List Record) (i : ℕ) (r : Record) → AreKnown s (map plain_record rs) → i < length rs → r ≡ get_or rs i r → IsEntity s r.keyword.now
+known_record s rs i r all less e = all_at (λ k. IsEntity s k.keyword) plain_record rs i r all less e
+
+-- ---- what is told
+
+pub told_of : {K : Type 0} {out : Change K} {a b : List ℕ} {due o : Outcome} → a ≡ b → IsTold out a due o → IsTold out b due o
+told_of {K} {out} {a} {b} {due} {o} e told = subst (λ x. IsTold out x due o) e told

@@ -50,6 +50,8 @@ pub record IsItemCell (s : Schema) (w : Where) (v : List ℕ) (c : Cell) : Type 
   pub item : ¬ (IsLogicalAt s w) → IsText (λ text. text ≡ v) c
 
 -- The cell of a value there: null of `$` and `*`, a number, the characters of a string, an item, the number of an instance name, and else JSON.
+-- An integer, or the nearest real where it does not fit 64 bits; 1, 0 or UNKNOWN of BOOLEAN and LOGICAL; the JSON of
+-- a binary, a typed value or a list.
 abbrev pub IsCell : Schema → Where → Tree → Cell → Type 0
 IsCell s w absent c = c ≡ Null
 IsCell s w derived c = c ≡ Null

@@ -1,5 +1,5 @@
 -- The rows of a model.
-use Rattle.std.specs.Prelude.{◌≡◌, ◌+◌, ◌-◌, ℕ, List, [], ◌∷◌, ◌++◌, Option, None, Some, Ok, ⊤, length, replicate}
+use Rattle.std.specs.Prelude.{◌≡◌, ◌+◌, ◌-◌, ℕ, Bool, true, List, [], ◌∷◌, ◌++◌, Option, None, Some, Ok, ⊤, length, map, replicate}
 use Rattle.std.specs.List.{AllByRecursion, AllZip, flat_map}
 use Rattle.p21_tree.specs.Tree.{Tree, Trees, nil, cons, absent, derived, int, real, str, enumeration, binary, reference, items, typed}
 use Rattle.p21_tree.specs.Grammar.{Entry}
@@ -11,6 +11,8 @@ use Rattle.p21_schema.specs.Place.{entity_name, IsEntityOf}
 use Rattle.p21_schema.specs.Row.{IsRow}
 use Rattle.p21_check.specs.Attributes.{AreAttributes}
 use Rattle.p21_reader.specs.Reading.{IsReading}
+use Rattle.p21_run.specs.declared.input.InputError.{InputError}
+use Rattle.p21_run.specs.declared.input.InputError.TheVariants.{Device}
 use Rattle.p21_json.specs.Spelled.{IsSpelled}
 use Rattle.p21_json.specs.Where.{attribute}
 use Rattle.p21_rows.specs.declared.cell.Cell.{Cell}
@@ -24,14 +26,24 @@ pub record Row : Type 0 where
   pub table : Table
   pub cells : List Cell
 
--- known rows grow by these
-abbrev pub Takes : Option (List Row) → Option (List Row) → List Row → Type 0
-Takes None new rows = ⊤
-Takes (Some xs) None rows = ⊥
-Takes (Some xs) (Some ys) rows = ys ≡ xs ++ rows
+-- a call of what takes rows: it begins, takes a row, or ends
+pub data Step : Type 0 where
+  begun : Step
+  row : Row → Step
+  ended : Step
 
--- known rows grow by some that are such
-abbrev pub TakesSome : Option (List Row) → Option (List Row) → (List Row → Type 0) → Type 0
+-- known calls go on by these
+abbrev pub Goes : Option (List Step) → Option (List Step) → List Step → Type 0
+Goes None new steps = ⊤
+Goes (Some xs) None steps = ⊥
+Goes (Some xs) (Some ys) steps = ys ≡ xs ++ steps
+
+-- these rows are taken
+abbrev pub Takes : Option (List Step) → Option (List Step) → List Row → Type 0
+Takes old new rows = Goes old new (map row rows)
+
+-- some rows are taken that are such
+abbrev pub TakesSome : Option (List Step) → Option (List Step) → (List Row → Type 0) → Type 0
 TakesSome old new Such = (rows : List Row) × Such rows × Takes old new rows
 
 -- rows of each element, one after the other
@@ -64,7 +76,7 @@ abbrev pub IsCellOfFirst : Schema → Instance → Origin → Trees → Cell →
 IsCellOfFirst s i o nil c = c ≡ Null
 IsCellOfFirst s i o (cons t ts) c = IsCell s (attribute i o) t c
 
--- those behind the first
+-- those after the first
 abbrev pub behind_first : Trees → Trees
 behind_first nil = nil
 behind_first (cons t ts) = ts
@@ -86,6 +98,8 @@ pub record AreRecordCells (s : Schema) (i : Instance) (e : Entry) (cells : List 
   pub parts : cells ≡ number_cell i.name ∷ (replicate (length row - length given) Null ++ values)
 
 -- The row of a record, in the table of its entity.
+-- The name of the instance, and for each attribute of the entity's row a cell: those of the attributes that the
+-- record gives come last, and the others are null.
 pub record IsRecordRow (s : Schema) (i : Instance) (e : Entry) (r : Row) : Type 0 where
   pub entity : EntityId
   pub known : IsEntityOf s entity
@@ -126,6 +140,7 @@ AreReferenceRows source column n (t ∷ ts) [] = ⊥
 AreReferenceRows source column n (t ∷ ts) (r ∷ rows) = IsReferenceRow source column n t r × AreReferenceRows source column (n + 1) ts rows
 
 -- the rows of the references in a value, which are of one column
+-- The name of the instance, the column, the number of the reference in that column, and the name that it refers to.
 abbrev pub AreReferencesOf : ℕ → Tree → List Row → Type 0
 AreReferencesOf source t rows = (column : List ℕ) × AreReferenceRows source column 0 (targets t) rows
 
@@ -138,6 +153,7 @@ abbrev pub AreRecordRows : Schema → Instance → Entry → List Row → Type 0
 AreRecordRows s i e rows = Leads (IsRecordRow s i e) (RowsOfEach (AreReferencesOf i.name) (list_of e.params)) rows
 
 -- The rows of an instance: its row, and those of each record, in order.
+-- Its row has its name, the names of its entities with `+` between them, and its place.
 abbrev pub AreInstanceRows : Schema → Instance → List Row → Type 0
 AreInstanceRows s i rows = Leads (IsInstanceRow i) (RowsOfEach (AreRecordRows s i) i.records) rows
 
@@ -149,6 +165,14 @@ AreMetadata rows = AllByRecursion (λ r. r.table ≡ Metadata) rows
 abbrev pub AreModelRows : Schema → List Instance → List Row → Type 0
 AreModelRows s is rows = (first : List Row) × (others : List Row) × AreMetadata first × RowsOfEach (AreInstanceRows s) is others × (rows ≡ first ++ others)
 
--- the rows of the model of the file against this schema are taken
-abbrev pub GivesRows : Schema → List ℕ → Option (List Row) → Option (List Row) → Type 0
-GivesRows s file old new = (is : List Instance) × IsReading s file (Ok is) × TakesSome old new (AreModelRows s is)
+-- the rows of a model are taken, from the beginning to the end
+abbrev pub GivesModel : Schema → List Instance → Option (List Step) → Option (List Step) → Type 0
+GivesModel s is old new = (rows : List Row) × AreModelRows s is rows × Goes old new (begun ∷ (map row rows ++ ended ∷ []))
+
+-- those of the model of the file against this schema
+abbrev pub GivesRows : {D : Type 0} → (taken : D → Option (List Step)) → Schema → List ℕ → D → D → Type 0
+GivesRows taken s file old new = (is : List Instance) × IsReading s file (Ok is) × GivesModel s is (taken old) (taken new)
+
+-- not all rows were taken: for Device, since what takes them answered it
+abbrev pub IsLeft : {D : Type 0} → (marked : D → Bool) → Schema → List ℕ → D → D → InputError → Type 0
+IsLeft marked s file old new cause = cause ≡ Device → marked new ≡ true

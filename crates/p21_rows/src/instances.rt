@@ -1,6 +1,10 @@
 //! The rows of instances.
 
-ghost use Rattle.std.specs.Prelude.{◌≡◌, ◌<◌, ◌++◌, ◌∷◌, IfOk, OnOk, map, string_bytes};
+ghost use Rattle.std.specs.Prelude.{◌≡◌, ◌<◌, ◌++◌, ◌∷◌, IfErr, IfOk, OnOk, map, string_bytes, true};
+ghost use Rattle.std.specs.List.{AllByRecursion};
+ghost use Rattle.p21_express.specs.WellFormed.{IsEntity};
+ghost use Rattle.p21_json.specs.Instances.{AreKnown};
+ghost use Rattle.p21_run.specs.declared.input.InputError.TheVariants.{Device};
 ghost use Rattle.p21_schema.specs.Place.{IsEntityOf, entity_name};
 ghost use Rattle.p21_tree.specs.Views.{plain_instance, plain_record};
 ghost use Rattle.p21_rows.specs.Rows.{AreInstanceRows, AreNames, AreRecordRows, IsInstanceRow, RowsOfEach, TakesSome};
@@ -25,7 +29,9 @@ pub(crate) fn insert_instances<D: Rows>(
     instances: &[RawInstance<'_>],
     rows: &mut D,
 ) -> Result<(), InputError>
-    ensures { OnOk result (TakesSome (D.taken rows.old) (D.taken rows.new) (RowsOfEach (AreInstanceRows terms.now) (map plain_instance instances.now))) }
+    requires { AllByRecursion (λ i. AreKnown terms.now i.records) (map plain_instance instances.now) }
+    ensures taken { OnOk result (TakesSome (D.taken rows.old) (D.taken rows.new) (RowsOfEach (AreInstanceRows terms.now) (map plain_instance instances.now))) }
+    ensures mark { IfErr result (λ e. e ≡ Device → D.marked rows.new ≡ true) }
 {
     for instance in instances {
         insert_instance(alloc, terms, layout, instance, rows)?;
@@ -41,7 +47,9 @@ fn insert_instance<D: Rows>(
     instance: &RawInstance<'_>,
     rows: &mut D,
 ) -> Result<(), InputError>
-    ensures { OnOk result (TakesSome (D.taken rows.old) (D.taken rows.new) (AreInstanceRows terms.now (plain_instance instance.now))) }
+    requires { AreKnown terms.now (plain_instance instance.now).records }
+    ensures taken { OnOk result (TakesSome (D.taken rows.old) (D.taken rows.new) (AreInstanceRows terms.now (plain_instance instance.now))) }
+    ensures mark { IfErr result (λ e. e ≡ Device → D.marked rows.new ≡ true) }
 {
     let records = instance.records.as_slice();
     let names = entity_names(alloc, terms, records)?;
@@ -70,18 +78,19 @@ fn entity_names(
     alloc: Global,
     terms: &Terms<'_>,
     records: &[Record<'_>],
-) -> Result<String, InputError>
+) -> Result<String, AllocError>
+    requires { AreKnown terms.now (map plain_record records.now) }
     ensures { IfOk result (λ text. AreNames (map plain_record records.now) (string_bytes text)) }
 {
     let mut names = String::new(alloc);
     for position in 0..records.len() {
-        let entity = entity_of(terms.schema(), &records[position])?;
+        let entity = entity_of(terms.schema(), &records[position]);
         push_name(&mut names, position, terms.entity(entity))?;
     }
     Ok(names)
 }
 
-/// Adds the name at a place: behind a `+` where it is not the first.
+/// Adds the name at a place: after a `+` where it is not the first.
 fn push_name(names: &mut String, position: usize, name: &str) -> Result<(), AllocError>
     ensures first { position ≡ 0 → OnOk result (string_bytes names.new ≡ string_bytes names.old ++ name.now) }
     ensures next { 0 < position → OnOk result (string_bytes names.new ≡ string_bytes names.old ++ 43 ∷ name.now) }
@@ -92,11 +101,12 @@ fn push_name(names: &mut String, position: usize, name: &str) -> Result<(), Allo
     names.push_str(name)
 }
 
-/// The entity of a record. A file that was checked has no record of another keyword.
-fn entity_of(schema: &Schema, record: &Record<'_>) -> Result<EntityId, InputError>
-    ensures { IfOk result (λ e. IsEntityOf schema.now e × (entity_name schema.now e ≡ record.now.keyword.now)) }
+/// The entity of a record whose keyword is one.
+fn entity_of(schema: &Schema, record: &Record<'_>) -> EntityId
+    requires { IsEntity schema.now record.now.keyword.now }
+    ensures { IsEntityOf schema.now result × (entity_name schema.now result ≡ record.now.keyword.now) }
 {
-    schema.entity(record.keyword).ok_or(InputError::Device)
+    schema.entity(record.keyword).unwrap()
 }
 
 /// Gives the rows of records of an instance, in order.
@@ -108,7 +118,9 @@ fn insert_records<D: Rows>(
     records: &[Record<'_>],
     rows: &mut D,
 ) -> Result<(), InputError>
-    ensures { OnOk result (TakesSome (D.taken rows.old) (D.taken rows.new) (RowsOfEach (AreRecordRows terms.now (plain_instance instance.now)) (map plain_record records.now))) }
+    requires { AreKnown terms.now (map plain_record records.now) }
+    ensures taken { OnOk result (TakesSome (D.taken rows.old) (D.taken rows.new) (RowsOfEach (AreRecordRows terms.now (plain_instance instance.now)) (map plain_record records.now))) }
+    ensures mark { IfErr result (λ e. e ≡ Device → D.marked rows.new ≡ true) }
 {
     for record in records {
         insert_record(alloc, terms, layout, instance, record, rows)?;
@@ -125,9 +137,11 @@ fn insert_record<D: Rows>(
     record: &Record<'_>,
     rows: &mut D,
 ) -> Result<(), InputError>
-    ensures { OnOk result (TakesSome (D.taken rows.old) (D.taken rows.new) (AreRecordRows terms.now (plain_instance instance.now) (plain_record record.now))) }
+    requires { IsEntity terms.now record.now.keyword.now }
+    ensures taken { OnOk result (TakesSome (D.taken rows.old) (D.taken rows.new) (AreRecordRows terms.now (plain_instance instance.now) (plain_record record.now))) }
+    ensures mark { IfErr result (λ e. e ≡ Device → D.marked rows.new ≡ true) }
 {
-    let entity = entity_of(terms.schema(), record)?;
+    let entity = entity_of(terms.schema(), record);
     let params = record.params.as_slice();
     let columns = given(layout.columns(entity), instance.complex, params.len());
     let cells = record_cells(alloc, terms, instance, entity, record)?;

@@ -1,12 +1,11 @@
 //! The tables of a model and their columns.
 
-ghost use Rattle.std.specs.Prelude.{IfSome};
 ghost use Rattle.p21_schema.specs.Place.{IsEntityOf};
 ghost use Rattle.p21_schema.specs.Row.{IsAttributeOf};
 
 use crate::uses::{Use, uses_of};
 use p21_json::Terms;
-use p21_schema::{AttrId, EntityId, Schema};
+use p21_schema::{AttrId, EntityId};
 use p21_tree::RawInstance;
 use std::alloc::{AllocError, Global};
 
@@ -20,7 +19,7 @@ pub struct Layout<'t, 's> {
     columns: Vec<TableColumns>,
 }
 
-/// The names of the columns of a table behind `id`: of each attribute of the entity's row.
+/// The names of the columns of a table after `id`: of each attribute of the entity's row.
 #[derive(Debug, Drop)]
 pub struct TableColumns {
     pub names: Vec<String>,
@@ -46,11 +45,15 @@ impl<'t, 's> Layout<'t, 's> {
     }
 
     /// The names of the schema.
+    ///
+    /// Tested.
     pub fn terms(&self) -> &'t Terms<'s> {
         self.terms
     }
 
     /// How an entity is used.
+    ///
+    /// Tested.
     pub fn use_of(&self, entity: EntityId) -> Use {
         match self.uses.get(entity.place()) {
             Some(found) => *found,
@@ -62,11 +65,15 @@ impl<'t, 's> Layout<'t, 's> {
     }
 
     /// Whether an entity has a table.
+    ///
+    /// Tested.
     pub fn has_table(&self, entity: EntityId) -> bool {
         self.use_of(entity).has_table()
     }
 
-    /// The names of the columns that the table of an entity has behind `id`; none where it has no table.
+    /// The names of the columns that the table of an entity has after `id`; none where it has no table.
+    ///
+    /// Tested.
     pub fn columns(&self, entity: EntityId) -> &[String] {
         match self.columns.get(entity.place()) {
             Some(found) => found.names.as_slice(),
@@ -91,7 +98,9 @@ fn columns_at(
 }
 
 /// The columns of an entity: each is called as its attribute; as `entity.attribute`, by the entity that declares it, where the name is that
-/// of a column before it, or `id`. That takes the square of how many they are. Memory alone can fail.
+/// of a column before it, `id`, or `entity`. That takes the square of how many they are. Memory alone can fail.
+///
+/// Tested.
 pub fn columns_of(
     alloc: Global,
     terms: &Terms<'_>,
@@ -107,7 +116,7 @@ pub fn columns_of(
     Ok(TableColumns { names })
 }
 
-/// How the column of an attribute is called behind some others.
+/// How the column of an attribute is called after some others.
 fn column(
     alloc: Global,
     terms: &Terms<'_>,
@@ -120,42 +129,16 @@ fn column(
     if !is_taken(name, before) {
         return String::from_str(alloc, name);
     }
-    match declaring(terms.schema(), attribute) {
-        Some(entity) => format!(in alloc; "{}.{name}", terms.entity(entity)),
-        None => format!(in alloc; ".{name}"),
-    }
+    let mut text = String::new(alloc);
+    terms.write_full_name(&mut text, attribute)?;
+    Ok(text)
 }
 
-/// Whether a name is that of one of some columns, or `id`, but for the case of letters.
+/// Whether a name is that of one of some columns, `id`, or `entity`, but for the case of letters.
 fn is_taken(name: &str, columns: &[String]) -> bool {
     name.eq_ignore_ascii_case("id")
+        || name.eq_ignore_ascii_case("entity")
         || columns
             .iter()
             .any(|column| column.as_str().eq_ignore_ascii_case(name))
-}
-
-/// The entity that newly declares an attribute.
-fn declaring(schema: &Schema, attribute: AttrId) -> Option<EntityId>
-    ensures { IfSome result (IsEntityOf schema.now) }
-{
-    for place in 0..schema.declared().entities.len() {
-        if let Some(entity) = schema.entity_at(place)
-            && declares(schema, entity, attribute)
-        {
-            return Some(entity);
-        }
-    }
-    None
-}
-
-/// Whether an entity newly declares an attribute.
-fn declares(schema: &Schema, entity: EntityId, attribute: AttrId) -> bool
-    requires { IsEntityOf schema.now entity }
-{
-    for position in 0..schema.own_count(entity) {
-        if schema.own(entity, position) == attribute {
-            return true;
-        }
-    }
-    false
 }

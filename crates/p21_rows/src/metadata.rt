@@ -1,6 +1,7 @@
 //! What is known of a model as a whole.
 
-ghost use Rattle.std.specs.Prelude.{OnOk};
+ghost use Rattle.std.specs.Prelude.{◌≡◌, ◌≤◌, IfErr, OnOk, length, true};
+ghost use Rattle.p21_run.specs.declared.input.InputError.TheVariants.{Device};
 ghost use Rattle.p21_tree.specs.Bodies.{AllHaveBodies};
 ghost use Rattle.p21_rows.specs.Rows.{AreMetadata, TakesSome};
 
@@ -31,7 +32,9 @@ pub(crate) fn insert_metadata<D: Rows>(
     instances: &[RawInstance<'_>],
     rows: &mut D,
 ) -> Result<(), InputError>
-    ensures { OnOk result (TakesSome (D.taken rows.old) (D.taken rows.new) AreMetadata) }
+    requires { 3 ≤ length preface.now.entities.items }
+    ensures taken { OnOk result (TakesSome (D.taken rows.old) (D.taken rows.new) AreMetadata) }
+    ensures mark { IfErr result (λ e. e ≡ Device → D.marked rows.new ≡ true) }
 {
     insert_text(alloc, rows, "program", about.program.as_bytes())?;
     insert_text(alloc, rows, "file", about.file.as_bytes())?;
@@ -63,10 +66,12 @@ fn insert_header<D: Rows>(
     preface: &Preface<'_>,
     rows: &mut D,
 ) -> Result<(), InputError>
-    ensures { OnOk result (TakesSome (D.taken rows.old) (D.taken rows.new) AreMetadata) }
+    requires { 3 ≤ length preface.now.entities.items }
+    ensures taken { OnOk result (TakesSome (D.taken rows.old) (D.taken rows.new) AreMetadata) }
+    ensures mark { IfErr result (λ e. e ≡ Device → D.marked rows.new ≡ true) }
 {
     let [description, name, schema, ..] = preface.entities.as_slice() else {
-        return Err(InputError::Device);
+        unreachable!();
     };
     let keys = [
         "file_description.description",
@@ -100,7 +105,8 @@ fn insert_entity<D: Rows>(
     keys: &[&str],
     entity: &HeaderEntity<'_>,
 ) -> Result<(), InputError>
-    ensures { OnOk result (TakesSome (D.taken rows.old) (D.taken rows.new) AreMetadata) }
+    ensures taken { OnOk result (TakesSome (D.taken rows.old) (D.taken rows.new) AreMetadata) }
+    ensures mark { IfErr result (λ e. e ≡ Device → D.marked rows.new ≡ true) }
 {
     let params = entity.params.as_slice();
     insert_params(alloc, terms, rows, keys, params)
@@ -115,7 +121,8 @@ fn insert_params<D: Rows>(
     params: &[Param<'_>],
 ) -> Result<(), InputError>
     requires { AllHaveBodies params.now }
-    ensures { OnOk result (TakesSome (D.taken rows.old) (D.taken rows.new) AreMetadata) }
+    ensures taken { OnOk result (TakesSome (D.taken rows.old) (D.taken rows.new) AreMetadata) }
+    ensures mark { IfErr result (λ e. e ≡ Device → D.marked rows.new ≡ true) }
 {
     for position in 0..keys.len().min(params.len()) {
         let value = cell_of(alloc, terms, &params[position], false)?;
@@ -131,7 +138,8 @@ fn insert_text<D: Rows>(
     key: &str,
     value: &[u8],
 ) -> Result<(), InputError>
-    ensures { OnOk result (TakesSome (D.taken rows.old) (D.taken rows.new) AreMetadata) }
+    ensures taken { OnOk result (TakesSome (D.taken rows.old) (D.taken rows.new) AreMetadata) }
+    ensures mark { IfErr result (λ e. e ≡ Device → D.marked rows.new ≡ true) }
 {
     let value = text(alloc, value)?;
     insert_value(alloc, rows, key, value)
@@ -144,7 +152,8 @@ fn insert_count<D: Rows>(
     key: &str,
     count: u64,
 ) -> Result<(), InputError>
-    ensures { OnOk result (TakesSome (D.taken rows.old) (D.taken rows.new) AreMetadata) }
+    ensures taken { OnOk result (TakesSome (D.taken rows.old) (D.taken rows.new) AreMetadata) }
+    ensures mark { IfErr result (λ e. e ≡ Device → D.marked rows.new ≡ true) }
 {
     insert_value(alloc, rows, key, number(count))
 }
@@ -156,7 +165,8 @@ fn insert_value<D: Rows>(
     key: &str,
     value: Cell,
 ) -> Result<(), InputError>
-    ensures { OnOk result (TakesSome (D.taken rows.old) (D.taken rows.new) AreMetadata) }
+    ensures taken { OnOk result (TakesSome (D.taken rows.old) (D.taken rows.new) AreMetadata) }
+    ensures mark { IfErr result (λ e. e ≡ Device → D.marked rows.new ≡ true) }
 {
     let cells = pair(alloc, key, value)?;
     rows.insert(Table::Metadata, cells)

@@ -1,6 +1,7 @@
 //! The references of records.
 
-ghost use Rattle.std.specs.Prelude.{◌≡◌, ◌++◌, ◌∷◌, [], IfOk, OnOk, List, map};
+ghost use Rattle.std.specs.Prelude.{◌≡◌, ◌++◌, ◌∷◌, [], IfErr, IfOk, OnOk, List, map, true};
+ghost use Rattle.p21_run.specs.declared.input.InputError.TheVariants.{Device};
 ghost use Rattle.p21_tree.specs.Plain.{plain, plain_all};
 ghost use Rattle.p21_rows.specs.Rows.{AreReferenceRows, AreReferencesOf, IsReferenceRow, RowsOfEach, TakesSome, all_targets, targets as targets_of};
 ghost use Rattle.p21_rows.specs.declared.rows.Table.TheVariants.{References};
@@ -19,7 +20,8 @@ pub(crate) fn insert_references<D: Rows>(
     columns: &[String],
     params: &[Param<'_>],
 ) -> Result<(), InputError>
-    ensures { OnOk result (TakesSome (D.taken rows.old) (D.taken rows.new) (RowsOfEach (AreReferencesOf source) (map plain params.now))) }
+    ensures taken { OnOk result (TakesSome (D.taken rows.old) (D.taken rows.new) (RowsOfEach (AreReferencesOf source) (map plain params.now))) }
+    ensures mark { IfErr result (λ e. e ≡ Device → D.marked rows.new ≡ true) }
 {
     for position in 0..params.len() {
         let mut targets = Vec::new(alloc);
@@ -46,7 +48,8 @@ fn insert_targets<D: Rows>(
     column: &str,
     targets: &[u64],
 ) -> Result<(), InputError>
-    ensures { OnOk result (TakesSome (D.taken rows.old) (D.taken rows.new) (AreReferenceRows source column.now 0 targets.now)) }
+    ensures taken { OnOk result (TakesSome (D.taken rows.old) (D.taken rows.new) (AreReferenceRows source column.now 0 targets.now)) }
+    ensures mark { IfErr result (λ e. e ≡ Device → D.marked rows.new ≡ true) }
 {
     for position in 0..targets.len() {
         let target = targets[position];

@@ -1,7 +1,8 @@
 //! What takes the rows of a model.
 
-ghost use Rattle.std.specs.Prelude.{List, [], ◌∷◌, None, OnOk, Option};
-ghost use Rattle.p21_rows.specs.Rows.{Row, Takes};
+ghost use Rattle.std.specs.Prelude.{◌≡◌, Bool, List, [], ◌∷◌, None, IfErr, OnOk, Option, true};
+ghost use Rattle.p21_run.specs.declared.input.InputError.TheVariants.{Device};
+ghost use Rattle.p21_rows.specs.Rows.{Step, begun, ended, Goes, Takes};
 
 use crate::cell::Cell;
 use crate::layout::Layout;
@@ -23,18 +24,30 @@ pub enum Table {
 
 /// What takes the rows of a model.
 pub trait Rows {
-    // The rows that it has taken, where it tells them.
-    ghost taken: { Self → Option (List Row) } = { λ _. None };
+    // The calls that it answered without an error, where it tells them.
+    ghost taken: { Self → Option (List Step) } = { λ _. None };
+
+    // Whether it ever answered `Device`. One that does not tell counts as if it had.
+    ghost marked: { Self → Bool } = { λ _. true };
 
     /// Makes the tables. It is called before the first row.
     fn begin(&mut self, layout: &Layout<'_, '_>) -> Result<(), InputError>
-        ensures { OnOk result (Takes (taken self.old) (taken self.new) []) };
+        // If it succeeds, and it tells its calls, it has begun. That it makes tables is no clause.
+        ensures taken { OnOk result (Goes (taken self.old) (taken self.new) (begun ∷ [])) }
+        // `marked` says whether it answered `Device`.
+        ensures mark { IfErr result (λ e. e ≡ Device → marked self.new ≡ true) };
 
     /// Takes a row of a table. The rows of one table come in the order of the file.
     fn insert(&mut self, table: Table, cells: Vec<Cell>) -> Result<(), InputError>
-        ensures { OnOk result (Takes (taken self.old) (taken self.new) (record { table = table; cells = cells.items } ∷ [])) };
+        // If it succeeds, and it tells its calls, it took this row, after those that it took before.
+        ensures taken { OnOk result (Takes (taken self.old) (taken self.new) (record { table = table; cells = cells.items } ∷ [])) }
+        // `marked` says whether it answered `Device`.
+        ensures mark { IfErr result (λ e. e ≡ Device → marked self.new ≡ true) };
 
     /// Hears that there are no more.
     fn end(&mut self) -> Result<(), InputError>
-        ensures { OnOk result (Takes (taken self.old) (taken self.new) []) };
+        // If it succeeds, and it tells its calls, it has ended.
+        ensures taken { OnOk result (Goes (taken self.old) (taken self.new) (ended ∷ [])) }
+        // `marked` says whether it answered `Device`.
+        ensures mark { IfErr result (λ e. e ≡ Device → marked self.new ≡ true) };
 }

@@ -1,46 +1,41 @@
-//! A run over a schema and a file.
+//! An export as rows.
 
-ghost use Rattle.std.specs.Prelude.{◌≡◌, ◌≤◌, ◌⊎◌, ℕ, List, Some, Ok, Err, IfOk, OnOk, length, map, true, false};
-ghost use Rattle.std.specs.Io.KnownBytes.{Appends};
-ghost use Rattle.p21_express.specs.Answer.{HasNoReading};
-ghost use Rattle.p21_express.specs.Plain.{plain_schema};
-ghost use Rattle.p21_express.specs.WellFormed.{IsWellFormed};
+ghost use Rattle.std.specs.Prelude.{◌≡◌, Ok, IfErr, IfOk, OnOk, map};
 ghost use Rattle.p21_tree.specs.Views.{plain_instance};
 ghost use Rattle.p21_spelling.specs.Spelled.{AreSpelled};
-ghost use Rattle.p21_schema.specs.Rules.{with_rules};
 ghost use Rattle.p21_reader.specs.Answer.{plain_answer};
 ghost use Rattle.p21_reader.specs.Reading.{IsReading};
-ghost use Rattle.p21_run.specs.Due.{most_file_bytes};
-ghost use Rattle.p21_run.specs.declared.outcome.Outcome.TheVariants.{Complete, Faulty, SchemaRefused, Device as Failed};
-ghost use Rattle.p21_run.specs.declared.input.InputError.TheVariants.{Device};
-ghost use Rattle.p21_export.specs.Export.{OfDeclared, TellsFault};
-ghost use Rattle.p21_rows.specs.Rows.{AreModelRows, GivesRows, TakesSome};
+ghost use Rattle.p21_run.specs.Run.{IsAnswered, IsOfFile, IsRun};
+ghost use Rattle.p21_export.specs.Export.{export_of, IsAnswer, IsGivenUp};
+ghost use Rattle.p21_rows.specs.Rows.{GivesModel, GivesRows, IsLeft};
 
 use crate::instances::insert_instances;
 use crate::layout::Layout;
 use crate::metadata::{About, insert_metadata};
 use crate::rows::Rows;
 use p21_crew::Gate;
-use p21_export::How;
-use p21_express::{Declarations, SchemaError, read_declarations};
+use p21_export::{Spelled, answer_of_fault, instances_are_known, preface_of_model, read_model};
 use p21_json::Terms;
-use p21_reader::{ReadError, Reading, read_lanes};
-use p21_render::{fault_line, schema_fault_line};
+use p21_reader::Reading;
 use p21_run::{
-    FILE_BOUNDS, InputError, Listener, Outcome, SCHEMA_BOUNDS, Sink, Source, WRITE_CALLS,
-    read_bounded, write_bounded,
+    Accepted, Answer, Begun, InputError, Listener, Options, Outcome, Sink, Source, begin, tell,
 };
 use p21_schema::Schema;
-use p21_spelling::{Spellings, spell_names};
-use p21_tree::{Preface, RawInstance, TreeError, read_preface};
+use p21_spelling::Spellings;
+use p21_tree::RawInstance;
 use std::alloc::Global;
-use std::slice;
 use std::sync::Wait;
 use std::thread::Threads;
 
 /// Reads a schema and then a file, checks the file against the schema, and gives the rows of its model to `rows`. Where the file or the
 /// schema has a fault, its line is written to `told`, as a run of the check tells it, and nothing is given to `rows`. Where a reader or a
 /// writer fails, a bound is passed, or memory or a thread is refused, some rows may be given.
+///
+/// What the rows of the model as a whole say, and how columns are called, is tested against the JSON
+/// (`tests/run_sqlite`).
+///
+/// Cost: For each entity that has records, the names of the columns of its row, and the square of their number in
+/// time; the rows of one instance are held at a time.
 pub fn export_rows<
     R: Threads + Wait + Sync,
     G: Gate + Sync,
@@ -52,7 +47,7 @@ pub fn export_rows<
 >(
     rt: &R,
     alloc: Global,
-    how: &How<'_, G>,
+    options: &Options<'_, G>,
     about: &About<'_>,
     schema_in: &mut S,
     file_in: &mut F,
@@ -60,179 +55,83 @@ pub fn export_rows<
     told: &mut T,
     listener: &mut L,
 ) -> Outcome
-    ensures given { (schema_text file : List ℕ) → S.remaining schema_in.old ≡ Some schema_text → F.remaining file_in.old ≡ Some file → result ≡ Complete → OfDeclared how.now.rules schema_text (λ s. GivesRows s file (D.taken rows.old) (D.taken rows.new)) }
-    ensures told { (schema_text file : List ℕ) → S.remaining schema_in.old ≡ Some schema_text → F.remaining file_in.old ≡ Some file → result ≡ Faulty → OfDeclared how.now.rules schema_text (λ s. TellsFault s file (T.taken told.old) (T.taken told.new)) }
-    ensures kept { result ≡ Faulty ⊎ result ≡ SchemaRefused → rows.new ≡ rows.old }
-    ensures untold { result ≡ Complete → told.new ≡ told.old }
-    ensures file_bounded { result ≡ Complete ⊎ result ≡ Faulty → (file : List ℕ) → F.remaining file_in.old ≡ Some file → length file ≤ most_file_bytes }
-    ensures unread { (schema_text : List ℕ) → S.remaining schema_in.old ≡ Some schema_text → HasNoReading schema_text → file_in.new ≡ file_in.old }
-    ensures schema_failed { S.failed schema_in.old ≡ false → S.failed schema_in.new ≡ true → (result ≡ Failed) × (file_in.new ≡ file_in.old) × (rows.new ≡ rows.old) }
-    ensures file_failed { F.failed file_in.old ≡ false → F.failed file_in.new ≡ true → (result ≡ Failed) × (rows.new ≡ rows.old) }
+    // It is a run whose answer is an export. If it is complete, the taker of rows has begun, took the rows of the model, after
+    // what it took before, and no others, and has ended, and nothing is told: rows of the model as a whole; for each
+    // instance, in file order, its row; for each of its records the row in the table of the entity, with the cell of each
+    // value in the place of its attribute (a number that does not parse is a text); and a row for each reference in its
+    // parameters. If it is faulty, the line of the first fault of the file is told. If it is faulty or the schema is
+    // refused, the taker of rows is not touched.
+    ensures { IsRun (export_of (GivesRows D.taken) (IsLeft D.marked)) options.now.rules
+        (record { marked = S.marked; failed = S.failed; bytes = S.remaining; old = schema_in.old; new = schema_in.new })
+        (record { marked = F.marked; failed = F.failed; bytes = F.remaining; old = file_in.old; new = file_in.new })
+        rows.old rows.new
+        (record { marked = T.marked; failed = T.failed; bytes = T.taken; old = told.old; new = told.new }) result }
 {
-    match exported(
-        rt, alloc, how, about, schema_in, file_in, rows, told, listener,
-    ) {
-        Ok(outcome) => outcome,
-        Err(InputError::Device) => Outcome::Device,
-        Err(InputError::Memory) => Outcome::Memory,
+    match begin(alloc, &Spelled, options, schema_in, file_in, told, listener) {
+        Ok(begun) => answer(rt, alloc, options, about, &begun, rows, told, listener),
+        Err(outcome) => outcome,
     }
 }
 
-fn exported<
-    R: Threads + Wait + Sync,
-    G: Gate + Sync,
-    S: Source,
-    F: Source,
-    D: Rows,
-    T: Sink,
-    L: Listener,
->(
+/// Answers both inputs of a run.
+fn answer<R: Threads + Wait + Sync, G: Gate + Sync, D: Rows, T: Sink, L: Listener>(
     rt: &R,
     alloc: Global,
-    how: &How<'_, G>,
+    options: &Options<'_, G>,
     about: &About<'_>,
-    schema_in: &mut S,
-    file_in: &mut F,
+    begun: &Begun<Spellings>,
     rows: &mut D,
     told: &mut T,
     listener: &mut L,
-) -> Result<Outcome, InputError>
-    ensures given { (schema_text file : List ℕ) → S.remaining schema_in.old ≡ Some schema_text → F.remaining file_in.old ≡ Some file → result ≡ Ok Complete → OfDeclared how.now.rules schema_text (λ s. GivesRows s file (D.taken rows.old) (D.taken rows.new)) }
-    ensures told { (schema_text file : List ℕ) → S.remaining schema_in.old ≡ Some schema_text → F.remaining file_in.old ≡ Some file → result ≡ Ok Faulty → OfDeclared how.now.rules schema_text (λ s. TellsFault s file (T.taken told.old) (T.taken told.new)) }
-    ensures kept { result ≡ Ok Faulty ⊎ result ≡ Ok SchemaRefused → rows.new ≡ rows.old }
-    ensures untold { result ≡ Ok Complete → told.new ≡ told.old }
-    ensures file_bounded { IfOk result (λ outcome. outcome ≡ Complete ⊎ outcome ≡ Faulty → (file : List ℕ) → F.remaining file_in.old ≡ Some file → length file ≤ most_file_bytes) }
-    ensures unread { (schema_text : List ℕ) → S.remaining schema_in.old ≡ Some schema_text → HasNoReading schema_text → file_in.new ≡ file_in.old }
-    ensures schema_failed { S.failed schema_in.old ≡ false → S.failed schema_in.new ≡ true → (result ≡ Err Device) × (file_in.new ≡ file_in.old) × (rows.new ≡ rows.old) }
-    ensures file_failed { F.failed file_in.old ≡ false → F.failed file_in.new ≡ true → (result ≡ Err Device) × (rows.new ≡ rows.old) }
+) -> Outcome
+    requires { AreSpelled begun.now.accepted.schema begun.now.accepted.taken }
+    ensures { IsAnswered (export_of (GivesRows D.taken) (IsLeft D.marked)) begun.now.accepted.schema begun.now.text.items begun.now.file.items rows.old rows.new
+        (record { marked = T.marked; failed = T.failed; bytes = T.taken; old = told.old; new = told.new }) result }
 {
-    let text = read_bounded(alloc, schema_in, SCHEMA_BOUNDS)?;
-    match read_declarations(alloc, text.as_slice()) {
-        Ok(declarations) => export_against(
-            rt,
-            alloc,
-            how,
-            about,
-            text.as_slice(),
-            declarations,
-            file_in,
-            rows,
-            told,
-            listener,
-        ),
-        Err(error) => {
-            listener.hear_refused(text.as_slice(), &error);
-            tell_refusal(alloc, error, told)
-        }
-    }
-}
-
-/// Tells why a schema is refused.
-fn tell_refusal<T: Sink>(
-    alloc: Global,
-    error: SchemaError,
-    told: &mut T,
-) -> Result<Outcome, InputError>
-    ensures { IfOk result (λ outcome. outcome ≡ SchemaRefused) }
-{
-    let line = schema_fault_line(alloc, error)?;
-    write(told, line.as_slice())?;
-    Ok(Outcome::SchemaRefused)
-}
-
-/// Writes a text.
-fn write<T: Sink>(out: &mut T, text: &[u8]) -> Result<(), InputError>
-    ensures { OnOk result (Appends (T.taken out.old) (T.taken out.new) text.now) }
-{
-    match write_bounded(out, text, WRITE_CALLS) {
-        Ok(()) => Ok(()),
-        Err(_) => Err(InputError::Device),
-    }
-}
-
-/// Exports the file against the declarations of a schema's text.
-fn export_against<
-    R: Threads + Wait + Sync,
-    G: Gate + Sync,
-    F: Source,
-    D: Rows,
-    T: Sink,
-    L: Listener,
->(
-    rt: &R,
-    alloc: Global,
-    how: &How<'_, G>,
-    about: &About<'_>,
-    text: &[u8],
-    declarations: Declarations,
-    file_in: &mut F,
-    rows: &mut D,
-    told: &mut T,
-    listener: &mut L,
-) -> Result<Outcome, InputError>
-    requires { IsWellFormed (plain_schema declarations) }
-    ensures given { (file : List ℕ) → F.remaining file_in.old ≡ Some file → result ≡ Ok Complete → GivesRows (with_rules (plain_schema declarations) how.now.rules) file (D.taken rows.old) (D.taken rows.new) }
-    ensures told { (file : List ℕ) → F.remaining file_in.old ≡ Some file → result ≡ Ok Faulty → TellsFault (with_rules (plain_schema declarations) how.now.rules) file (T.taken told.old) (T.taken told.new) }
-    ensures ends { IfOk result (λ outcome. outcome ≡ Complete ⊎ outcome ≡ Faulty) }
-    ensures kept { result ≡ Ok Faulty ⊎ result ≡ Ok SchemaRefused → rows.new ≡ rows.old }
-    ensures untold { result ≡ Ok Complete → told.new ≡ told.old }
-    ensures file_bounded { IfOk result (λ _. (file : List ℕ) → F.remaining file_in.old ≡ Some file → length file ≤ most_file_bytes) }
-    ensures file_failed { F.failed file_in.old ≡ false → F.failed file_in.new ≡ true → (result ≡ Err Device) × (rows.new ≡ rows.old) }
-{
-    let spelled = spell_names(alloc, text, &declarations)?;
-    let schema = Schema::build_with_key(alloc, declarations, how.rules, how.key)?;
-    listener.hear_schema(text);
-    let file = read_bounded(alloc, file_in, FILE_BOUNDS)?;
-    listener.hear_file(file.as_slice());
-    export_file(
+    let Accepted { schema, taken } = &begun.accepted;
+    match export_file(
         rt,
         alloc,
-        how,
+        options,
         about,
-        &schema,
-        &spelled,
-        file.as_slice(),
+        schema,
+        taken,
+        begun.file.as_slice(),
         rows,
-        told,
         listener,
-    )
+    ) {
+        Ok(answer) => tell(told, answer.outcome, answer.text.as_slice(), listener),
+        Err(error) => error.outcome(),
+    }
 }
 
-/// Exports a file.
-fn export_file<R: Threads + Wait + Sync, G: Gate + Sync, D: Rows, T: Sink, L: Listener>(
+/// Gives the rows of a file, or answers with its first fault.
+fn export_file<R: Threads + Wait + Sync, G: Gate + Sync, D: Rows, L: Listener>(
     rt: &R,
     alloc: Global,
-    how: &How<'_, G>,
+    options: &Options<'_, G>,
     about: &About<'_>,
     schema: &Schema,
     spelled: &Spellings,
     file: &[u8],
     rows: &mut D,
-    told: &mut T,
     listener: &mut L,
-) -> Result<Outcome, InputError>
+) -> Result<Answer, InputError>
     requires { AreSpelled schema.now spelled.now }
-    ensures given { result ≡ Ok Complete → GivesRows schema.now file.now (D.taken rows.old) (D.taken rows.new) }
-    ensures told { result ≡ Ok Faulty → TellsFault schema.now file.now (T.taken told.old) (T.taken told.new) }
-    ensures ends { IfOk result (λ outcome. outcome ≡ Complete ⊎ outcome ≡ Faulty) }
-    ensures kept { result ≡ Ok Faulty ⊎ result ≡ Ok SchemaRefused → rows.new ≡ rows.old }
-    ensures untold { result ≡ Ok Complete → told.new ≡ told.old }
+    ensures answered { IfOk result (λ answer. IsAnswer (GivesRows D.taken) schema.now file.now rows.old rows.new answer.outcome answer.text.items) }
+    ensures of_file { IfOk result (λ answer. IsOfFile answer.outcome) }
+    ensures given_up { IfErr result (IsGivenUp (IsLeft D.marked) schema.now file.now rows.old rows.new) }
 {
-    match read_lanes(rt, alloc, schema, how.gate, file, how.lanes, how.capacity) {
-        Ok(reading) => {
-            listener.hear_checked();
-            let outcome = export_reading(
-                alloc, about, schema, spelled, file, &reading, rows, told, listener,
-            )?;
-            listener.let_go(reading);
-            Ok(outcome)
-        }
-        Err(ReadError::Memory) => Err(InputError::Memory),
-    }
+    let reading = read_model(rt, alloc, options, schema, file, listener)?;
+    let answer = export_reading(
+        alloc, about, schema, spelled, file, &reading, rows, listener,
+    )?;
+    listener.let_go(reading);
+    Ok(answer)
 }
 
-/// Gives the rows of a reading, or tells its fault.
-fn export_reading<D: Rows, T: Sink, L: Listener>(
+/// Gives the rows of a reading, or answers with its fault.
+fn export_reading<D: Rows, L: Listener>(
     alloc: Global,
     about: &About<'_>,
     schema: &Schema,
@@ -240,30 +139,24 @@ fn export_reading<D: Rows, T: Sink, L: Listener>(
     file: &[u8],
     reading: &Reading<'_>,
     rows: &mut D,
-    told: &mut T,
     listener: &mut L,
-) -> Result<Outcome, InputError>
+) -> Result<Answer, InputError>
     requires spelled { AreSpelled schema.now spelled.now }
     requires read { IsReading schema.now file.now (plain_answer reading.now.answer) }
-    ensures given { result ≡ Ok Complete → GivesRows schema.now file.now (D.taken rows.old) (D.taken rows.new) }
-    ensures told { result ≡ Ok Faulty → TellsFault schema.now file.now (T.taken told.old) (T.taken told.new) }
-    ensures ends { IfOk result (λ outcome. outcome ≡ Complete ⊎ outcome ≡ Faulty) }
-    ensures kept { result ≡ Ok Faulty ⊎ result ≡ Ok SchemaRefused → rows.new ≡ rows.old }
-    ensures untold { result ≡ Ok Complete → told.new ≡ told.old }
+    ensures answered { IfOk result (λ answer. IsAnswer (GivesRows D.taken) schema.now file.now rows.old rows.new answer.outcome answer.text.items) }
+    ensures of_file { IfOk result (λ answer. IsOfFile answer.outcome) }
+    ensures given_up { IfErr result (IsGivenUp (IsLeft D.marked) schema.now file.now rows.old rows.new) }
 {
     match &reading.answer {
         Ok(model) => {
             listener.hear_made();
             insert_model(alloc, about, schema, spelled, file, model.instances(), rows)?;
-            Ok(Outcome::Complete)
+            Ok(Answer {
+                outcome: Outcome::Complete,
+                text: Vec::new(alloc),
+            })
         }
-        Err(fault) => {
-            listener.hear(schema, file, slice::from_ref(fault));
-            let line = fault_line(alloc, fault)?;
-            listener.hear_made();
-            write(told, line.as_slice())?;
-            Ok(Outcome::Faulty)
-        }
+        Err(fault) => Ok(answer_of_fault(alloc, schema, file, fault, listener)?),
     }
 }
 
@@ -277,23 +170,17 @@ fn insert_model<D: Rows>(
     instances: &[RawInstance<'_>],
     rows: &mut D,
 ) -> Result<(), InputError>
-    requires { AreSpelled schema.now spelled.now }
-    ensures { OnOk result (TakesSome (D.taken rows.old) (D.taken rows.new) (AreModelRows schema.now (map plain_instance instances.now))) }
+    requires spelled { AreSpelled schema.now spelled.now }
+    requires read { IsReading schema.now file.now (Ok (map plain_instance instances.now)) }
+    ensures given { OnOk result (GivesModel schema.now (map plain_instance instances.now) (D.taken rows.old) (D.taken rows.new)) }
+    ensures left { IfErr result (IsLeft D.marked schema.now file.now rows.old rows.new) }
 {
+    instances_are_known();
     let terms = Terms::new(alloc, schema, spelled)?;
-    let preface = preface_of(alloc, file)?;
+    let preface = preface_of_model(alloc, schema, file)?;
     let layout = Layout::new(alloc, &terms, instances)?;
     rows.begin(&layout)?;
     insert_metadata(alloc, &terms, about, &preface, instances, rows)?;
     insert_instances(alloc, &terms, &layout, instances, rows)?;
     rows.end()
-}
-
-/// What stands before the instances of a file that was read.
-fn preface_of<'a>(alloc: Global, file: &'a [u8]) -> Result<Preface<'a>, InputError> {
-    match read_preface(alloc, file) {
-        Ok(preface) => Ok(preface),
-        Err(TreeError::Grammar(_)) => Err(InputError::Device),
-        Err(TreeError::Memory) => Err(InputError::Memory),
-    }
 }

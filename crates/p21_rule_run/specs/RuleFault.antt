@@ -33,6 +33,7 @@ pub record AreRulesIn (s : Schema) (rules : Rules) : Type 0 where
   pub inverse : AreInverseRulesOf s rules.inverse.items
 
 -- the faults of the instances of a file by the rules
+-- Those of UNIQUE, then those of INVERSE attributes, sorted.
 pub record AreRuleFaults (s : Schema) (rules : Rules) (is : List Instance) (all : List RuleFault) : Type 0 where
   pub not_unique : List NotUnique
   pub inverse_counts : List InverseCount

@@ -8,5 +8,6 @@ mod runner;
 
 pub use fault_text::render_rule_faults;
 pub use listener::RuleListener;
+pub use p21_run::Options;
 pub use rule_fault::RuleFault;
-pub use runner::{How, run_rules};
+pub use runner::run_rules;

@@ -8,12 +8,12 @@ use Rattle.p21_express.specs.declared.refusal.Refusal.{Refusal}
 use Rattle.p21_express.specs.declared.refusal.Refusal.TheVariants as refusal
 use Rattle.p21_express.specs.declared.word.Word as source
 use Rattle.p21_express.specs.Word.{Word, begins_name, begins_symbol}
-use Rattle.p21_express.specs.Grammar.{begins_rules}
+use Rattle.p21_express.specs.Grammar.{begins_rules, ends_attributes}
 use Rattle.p21_express.specs.Keywords.{decl_word_of}
 use Rattle.p21_express.specs.Reader.{◌>>=◌, Fails, words_of, name_at, word_at, symbol_at, behind_stop, up_to, ends_at, if_name, many_at, again_at, naming_at, next_naming}
 use Rattle.p21_rule_text.specs.Bounds.{in_brackets_at, if_brackets_at, collection_at, bounds_at}
 use Rattle.p21_rule_text.specs.Clauses.{has_label, label_at, if_label_at, names_at, unique_at, attribute_of_at, attribute_at, inverse_at}
-use Rattle.p21_rule_text.specs.Entities.{EntityClauses, behind_attributes, inverses_at, if_inverses_at, uniques_at, if_uniques_at, entity_end, entity_at, skipped_at, one_entity_at, declaration_by, declaration_at, ended}
+use Rattle.p21_rule_text.specs.Entities.{EntityClauses, behind_attributes, behind_derive, behind_statements, inverses_at, if_inverses_at, uniques_at, if_uniques_at, entity_end, entity_at, skipped_at, one_entity_at, declaration_by, declaration_at, ended}
 use Rattle.p21_rule_text.proofs.LengthLemmas.{Leaves, Shrinks, leaves_none, leaves_some, then, either, name_leaves, word_leaves, symbol_leaves, up_to_leaves, ends_leaves, if_name_leaves, many_leaves}
 
 -- ---- names
@@ -101,11 +101,19 @@ unfolding up_to
 up_to_fails refusal.Memory stop ws h = tt
 up_to_fails (refusal.Refused k n) stop ws h = rw h refl
 
+statements_leave : (stops : List Word → Bool) (n : ℕ) (ws : List Word) → length ws < n → Leaves (λ r. r) n (behind_statements stops ws)
+unfolding behind_statements
+statements_leave stops n ws h = then (many_at stops (up_to 59) ws) _ (many_leaves stops (up_to 59) up_to_shrinks n _ ws h) (λ xs hxs. leaves_some _ hxs)
+
+derive_leaves : (n : ℕ) (ws : List Word) → length ws < n → Leaves (λ r. r) n (behind_derive ws)
+unfolding behind_derive
+derive_leaves n ws h = either (if_name (codes "DERIVE") ws).0 _ _ (statements_leave begins_rules n _ (if_name_leaves (codes "DERIVE") n ws h)) (leaves_some _ h)
+
 attributes_leave : (n : ℕ) (ws : List Word) → length ws < n → Leaves (λ r. r) n (behind_attributes ws)
 unfolding behind_attributes
-attributes_leave n ws h = then (many_at begins_rules (up_to 59) ws) _ (many_leaves begins_rules (up_to 59) up_to_shrinks n _ ws h) (λ xs hxs. leaves_some _ hxs)
+attributes_leave n ws h = then (behind_statements ends_attributes ws) _ (statements_leave ends_attributes n ws h) (λ derive hd. derive_leaves n derive hd)
 
--- a word of the grammar, and one or more things behind it
+-- a word of the grammar, and one or more things after it
 abbrev clauses_at : {X : Type 0} → List ℕ → (List Word → Option (X × List Word)) → List Word → Option (List X × List Word)
 clauses_at first item ws = do
   behind ← word_at first ws
@@ -155,7 +163,7 @@ declaration_leaves n ws h = then (name_at ws) _ (name_leaves n ws h) (λ x hx. d
 pub declaration_shrinks : Shrinks declaration_at
 declaration_shrinks = record { leaves = declaration_leaves }
 
--- words behind the end
+-- words after the end
 pub ended_none : (ws : List source.Word) (es : List EntityClauses) → eqb (length ws) 0 ≡ false → ended (words_of ws) es ≡ None
 ended_none [] es h = absurd cc
 ended_none (w ∷ ws) es h = refl

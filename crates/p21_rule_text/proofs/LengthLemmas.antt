@@ -49,7 +49,7 @@ pub symbol_leaves : (c n : ℕ) (ws : List Word) → length ws ≤ n → Leaves 
 symbol_leaves c n [] h = leaves_none
 symbol_leaves c n (w ∷ ws) h = either (is_symbol c w) (Some ws) None (leaves_some ws (omega arith)) leaves_none
 
--- ---- words that are passed over
+-- ---- words that are skipped
 
 stop_leaves : (n depth : ℕ) (o s c : Bool) (ws : List Word) (again : ℕ → Option (List Word)) → length ws < n → ((k : ℕ) → Leaves (λ r. r) n (again k)) → Leaves (λ r. r) n (stop_by o depth s c ws again)
 stop_leaves n depth true s c ws again h more = more (suc depth)

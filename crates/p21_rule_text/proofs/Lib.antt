@@ -1,7 +1,13 @@
 pub mod LoopLemmas
 pub mod LengthLemmas
 pub mod ClauseLemmas
+pub mod IdLemmas
 pub mod ResolveLemmas
+pub mod DeclarationLemmas
+pub mod FormLemmas
+pub mod LabelLemmas
 pub mod StatementLemmas
+pub mod TellingLemmas
+pub mod InverseLemmas
 pub mod SchemaLemmas
 pub mod RefusalLemmas

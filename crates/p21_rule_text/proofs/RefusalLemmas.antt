@@ -2,7 +2,7 @@
 use Rattle.std.proofs.Common.{◌≡◌, ◌≢◌, ◌<◌, ◌+◌, ℕ, zero, suc, Bool, true, false, List, [], ◌∷◌, ◌++◌, map, length, get_or, refl, sym, ap, subst, ◌∙◌, Option, Some, None, Result, Ok, Err, inl, inr, IsTrue, arith}
 use Rattle.std.specs.Prelude.{IfErr}
 use Rattle.std.specs.Char.{to_ascii_uppercase}
-use Rattle.std.specs.List.{AllZip, flat_map}
+use Rattle.std.specs.List.{AllByRecursion, AllZip, flat_map}
 use Rattle.std.proofs.lemmas.List.Concat.{flat_map-cons}
 use Rattle.p21_express.specs.Lexer.{HasNoWords}
 use Rattle.p21_express.specs.Misfit.{IsRefusedAs}
@@ -22,9 +22,9 @@ use Rattle.p21_schema.specs.declared.ids.AttrId.{AttrId}
 use Rattle.p21_schema.specs.declared.ids.EntityId.{EntityId}
 use Rattle.p21_rule_text.specs.Clauses.{InverseClause, UniqueClause}
 use Rattle.p21_rule_text.specs.Entities.{AreClauses, EntityClauses, entities_at, if_whole}
-use Rattle.p21_rule_text.specs.Rules.{AreStated, HasNoRules, HasUnstated}
+use Rattle.p21_rule_text.specs.Rules.{AreStated, HasNoRules, HasUnstated, HaveDistinctLabels}
 use Rattle.p21_rule_text.specs.Resolve.{IsMeant}
-use Rattle.p21_rule_text.specs.Statements.{AreExplicit, Clause, IsDeclarable, IsFirst, IsNamed, IsUncounted, IsUnstated, States, any_count, clauses_of, inverse, inverse_passed, inverse_rule, no_numbers, numbered, other, unique, unique_passed, unique_rule}
+use Rattle.p21_rule_text.specs.Statements.{AreExplicit, Clause, IsDeclarable, IsFirst, IsNamed, IsUncounted, IsUnstated, States, any_count, clauses_of, derived_elsewhere, inverse, inverse_passed, inverse_rule, no_numbers, numbered, other, unique, unique_passed, unique_rule}
 use Rattle.p21_rule_text.specs.declared.bounds.Bounds.{Bounds}
 use Rattle.p21_rule_text.specs.declared.resolve.Found.{Found}
 use Rattle.p21_rule_text.specs.declared.resolve.Found.TheVariants as found
@@ -82,14 +82,15 @@ record IsReadable (s : Schema) (es : List EntityClauses) (n : List ℕ) (c : Inv
   is_meant : IsMeant s es source c.attribute thing
   is_known : thing ≢ found.Nothing
 
-counted_known : (n m : List ℕ) (b : Option Bounds) (f : Found) → IsUncounted n b f m → f ≢ found.Nothing
-counted_known n m b f (no_numbers h) = h
-counted_known n m b f other = λ e. absurd (cc)
+counted_known : (s : Schema) (source : EntityId) (n m k : List ℕ) (b : Option Bounds) (f : Found) → IsUncounted s source n b f m k → f ≢ found.Nothing
+counted_known s source n m k b f (no_numbers h) = h
+counted_known s source n m k b f other = λ e. absurd (cc)
+counted_known s source n m k b f (derived_elsewhere h d) = λ e. absurd (cc)
 
 readable : (s : Schema) (es : List EntityClauses) (n : List ℕ) (c : InverseClause) (t : Statement) → States s es (inverse n c) t → IsReadable s es n c
 readable s es n c t (inverse_rule {r = r} rule b l) = record { entity = r.entity; named = rule.entity; declarable = rule.declarable; source = r.source; is_source = rule.source; thing = found.Explicit r.attribute; is_meant = rule.attribute; is_known = λ e. absurd (cc) }
 readable s es n c t (any_count {r = r} rule b) = record { entity = r.entity; named = rule.entity; declarable = rule.declarable; source = r.source; is_source = rule.source; thing = found.Explicit r.attribute; is_meant = rule.attribute; is_known = λ e. absurd (cc) }
-readable s es n c t (inverse_passed {p = p} is) = record { entity = p.entity; named = is.entity; declarable = is.declarable; source = is.source; is_source = is.is_source; thing = is.found; is_meant = is.is_meant; is_known = counted_known c.attribute.name p.attribute.items c.bounds is.found is.uncounted }
+readable s es n c t (inverse_passed {p = p} is) = record { entity = p.entity; named = is.entity; declarable = is.declarable; source = is.source; is_source = is.is_source; thing = is.found; is_meant = is.is_meant; is_known = counted_known s is.source c.attribute.name p.attribute.items p.subtype.items c.bounds is.found is.uncounted }
 
 pub no_declarer : (s : Schema) (es : List EntityClauses) (n : List ℕ) (c : InverseClause) → ((i : EntityId) → ¬ (IsNamed s n i)) → IsUnstated s es (inverse n c)
 no_declarer s es n c none t is = let r = readable s es n c t is in none r.entity r.named
@@ -115,7 +116,7 @@ explicit_at R (y ∷ front) x behind [] all = absurd all
 explicit_at R (y ∷ front) x behind (a ∷ ids) all = explicit_at R front x behind ids all.1
 
 module _ (s : Schema) (es : List EntityClauses) (e : EntityId) (meaning : OneMeaning s) where
-  -- a name that is nothing is not the first that is a derived or inverse attribute, and not behind it
+  -- a name that is nothing is not the first that is a derived or inverse attribute, and not after it
   not_both : (fs gs : List Naming) (x y : Naming) (us vs : List Naming) (is js : List AttrId) → fs ++ x ∷ us ≡ gs ++ y ∷ vs → AreExplicit s es e fs is → AreExplicit s es e gs js → IsMeant s es e x found.Nothing → IsMeant s es e y found.Other → ⊥
   not_both [] [] x y us vs is js same all more is_x is_y =
       let k : x ≡ y = cc in
@@ -145,11 +146,11 @@ module _ (s : Schema) (es : List EntityClauses) (e : EntityId) (meaning : OneMea
   not_passed xs n m first passed = not_both first.front passed.front first.first passed.first first.behind passed.behind first.ids passed.ids (sym first.names_are ∙ passed.names_are) first.explicit passed.explicit first.is_meant passed.is_meant
 
 pub no_owner : (s : Schema) (es : List EntityClauses) (n : List ℕ) (k : ℕ) (c : UniqueClause) → ((i : EntityId) → ¬ (IsNamed s n i)) → IsUnstated s es (unique n k c)
-no_owner s es n k c none t (unique_rule {r = r} rule label) = none r.entity rule.entity
+no_owner s es n k c none t (unique_rule {r = r} rule label told) = none r.entity rule.entity
 no_owner s es n k c none t (unique_passed {p = p} passed) = none p.entity passed.entity
 
 pub unknown_name : (s : Schema) (es : List EntityClauses) (n : List ℕ) (k : ℕ) (c : UniqueClause) (e : EntityId) (m : List ℕ) → OneId s → OneMeaning s → IsNamed s n e → IsFirst s es e c.names found.Nothing m → IsUnstated s es (unique n k c)
-unknown_name s es n k c e m one meaning named first t (unique_rule {r = r} rule label) = not_explicit s es e meaning c.names m r.attributes.items first (subst (λ i. AreExplicit s es i c.names r.attributes.items) (same_entity s one n r.entity e rule.entity named) rule.attributes)
+unknown_name s es n k c e m one meaning named first t (unique_rule {r = r} rule label told) = not_explicit s es e meaning c.names m r.attributes.items first (subst (λ i. AreExplicit s es i c.names r.attributes.items) (same_entity s one n r.entity e rule.entity named) rule.attributes)
 unknown_name s es n k c e m one meaning named first t (unique_passed {p = p} passed) = not_passed s es e meaning c.names m p.attribute.items first (subst (λ i. IsFirst s es i c.names found.Other p.attribute.items) (same_entity s one n p.entity e passed.entity named) passed.attribute)
 
 -- ---- places
@@ -204,6 +205,12 @@ unruled s text upper b words es one u w read none rules are =
     let stated = subst (λ fs. AreStated s fs (flat_map clauses_of fs) rules) e are.stated in
     let t = paired (States s es) (flat_map clauses_of es) stated.statements none.0 stated.states none.1.0 in
     none.1.1 t.0 t.1
+
+-- nor has a text with two rules of one label
+pub repeated : (s : Schema) (text upper : List ℕ) (b : Bool) (words : List Word) (es : List EntityClauses) → ((text : List ℕ) (vs ws : List Word) → AreWords text vs → AreWords text ws → vs ≡ ws) → upper ≡ map to_ascii_uppercase text → (IsTrue b → UpperWords upper words) → if_whole b (entities_at words) ≡ Some es → ¬ (AllByRecursion (λ e. HaveDistinctLabels e.unique) es) → HasNoRules s text
+repeated s text upper b words es one u w read not rules are =
+    let e = clauses_once text b words es one (subst (λ v. IsTrue b → UpperWords v words) u w) read are.clauses are.are_clauses in
+    not (subst (AllByRecursion (λ e. HaveDistinctLabels e.unique)) e are.distinct)
 
 unread_by : (s : Schema) (text : List ℕ) (b : Bool) (words : List Word) → ((text : List ℕ) (vs ws : List Word) → AreWords text vs → AreWords text ws → vs ≡ ws) → (IsTrue b → UpperWords (map to_ascii_uppercase text) words) → (b ≡ false → HasNoWords (map to_ascii_uppercase text)) → if_whole b (entities_at words) ≡ None → HasNoRules s text
 unread_by s text true words one w n none rules are =

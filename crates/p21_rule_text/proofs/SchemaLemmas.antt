@@ -6,11 +6,13 @@ use Rattle.p21_express.specs.Grammar.{Naming}
 use Rattle.p21_express.specs.Schema.{Schema}
 use Rattle.p21_rules.specs.InverseCount.{AreInverseRulesOf, IsInverseRuleOf}
 use Rattle.p21_rules.specs.NotUnique.{AreRulesOf, IsRuleOf}
+use Rattle.p21_rules.specs.declared.rule.UniqueRule.{UniqueRule}
+use Rattle.p21_schema.specs.Place.{IsEntityOf}
 use Rattle.p21_schema.specs.Row.{IsAttributeOf}
 use Rattle.p21_schema.specs.declared.ids.AttrId.{AttrId}
 use Rattle.p21_schema.specs.declared.ids.EntityId.{EntityId}
 use Rattle.p21_rule_text.specs.Entities.{EntityClauses}
-use Rattle.p21_rule_text.specs.Resolve.{IsMeant, explicit, again, other, nothing}
+use Rattle.p21_rule_text.specs.Resolve.{IsAmong, IsAttribute, IsMeant}
 use Rattle.p21_rule_text.specs.Rules.{AreStated, inverse_in, unique_in}
 use Rattle.p21_rule_text.specs.Statements.{AreExplicit, Clause, States, any_count, inverse_passed, inverse_rule, unique_passed, unique_rule}
 use Rattle.p21_rule_text.specs.declared.rules.Rules.{Rules}
@@ -43,11 +45,20 @@ IsOfSchema s (found.Explicit a) = IsAttributeOf s a
 IsOfSchema s found.Other = Unit {0}
 IsOfSchema s found.Nothing = Unit {0}
 
+attribute_of : (s : Schema) (e : EntityId) (a : AttrId) (f : Found) → IsAttributeOf s a → IsAttribute s e a f → IsOfSchema s f
+attribute_of s e a _ known (IsAttribute.not_derived n) = known
+attribute_of s e a _ known (IsAttribute.is_derived d) = tt
+
+among_of : (s : Schema) (es : List EntityClauses) (e o : EntityId) (n : List ℕ) (f : Found) → IsAmong s es e o n f → IsOfSchema s f
+among_of s es e o n f (IsAmong.own {a = a} h x) = attribute_of s e a f h.0 x
+among_of s es e o n _ (IsAmong.new none d) = tt
+among_of s es e o n f (IsAmong.again {a = a} none h x) = attribute_of s e a f h.own.0 x
+among_of s es e o n _ (IsAmong.again_derived none m d) = tt
+among_of s es e o n _ (IsAmong.nothing none m d) = tt
+
 found_of : (s : Schema) (es : List EntityClauses) (e : EntityId) (x : Naming) (f : Found) → IsMeant s es e x f → IsOfSchema s f
-found_of s es e x f (explicit is not) = is.known
-found_of s es e x f (again is derived) = tt
-found_of s es e x f (other none some) = tt
-found_of s es e x f (nothing none derived inverse) = tt
+found_of s es e x f (IsMeant.by {o = o} h a) = among_of s es e o x.name f a
+found_of s es e x _ (IsMeant.none m) = tt
 
 explicit_of : (s : Schema) (es : List EntityClauses) (e : EntityId) (xs : List Naming) (ids : List AttrId) → AreExplicit s es e xs ids → AllByRecursion (IsAttributeOf s) ids
 explicit_of s es e [] [] all = tt
@@ -55,19 +66,26 @@ explicit_of s es e [] (a ∷ ids) all = absurd all
 explicit_of s es e (x ∷ xs) [] all = absurd all
 explicit_of s es e (x ∷ xs) (a ∷ ids) all = (found_of s es e x (found.Explicit a) all.0, explicit_of s es e xs ids all.1)
 
+pub is_attribute : (s : Schema) (es : List EntityClauses) (e : EntityId) (x : Naming) (a : AttrId) → IsMeant s es e x (found.Explicit a) → IsAttributeOf s a
+is_attribute s es e x a meant = found_of s es e x (found.Explicit a) meant
+
 -- ---- rules
 
+-- a rule UNIQUE of explicit attributes is of the schema
+pub is_rule : (s : Schema) (es : List EntityClauses) (xs : List Naming) (r : UniqueRule) → IsEntityOf s r.entity → AreExplicit s es r.entity xs r.attributes.items → IsRuleOf s r
+is_rule s es xs r known explicit = record { entity = known; attributes = each (IsAttributeOf s) r.attributes.items (explicit_of s es r.entity xs r.attributes.items explicit) }
+
 unique_of : (s : Schema) (es : List EntityClauses) (c : Clause) (t : Statement) → States s es c t → AllByRecursion (IsRuleOf s) (unique_in t)
-unique_of s es c t (unique_rule {c = clause} {r = r} rule label) = (record { entity = rule.entity.known; attributes = each (IsAttributeOf s) r.attributes.items (explicit_of s es r.entity clause.names r.attributes.items rule.attributes) }, tt)
+unique_of s es c t (unique_rule {c = clause} {r = r} rule label told) = (is_rule s es clause.names r rule.entity.known rule.attributes, tt)
 unique_of s es c t (unique_passed passed) = tt
 unique_of s es c t (inverse_rule rule bounds name) = tt
 unique_of s es c t (any_count rule any) = tt
 unique_of s es c t (inverse_passed passed) = tt
 
 inverse_of : (s : Schema) (es : List EntityClauses) (c : Clause) (t : Statement) → States s es c t → AllByRecursion (IsInverseRuleOf s) (inverse_in t)
-inverse_of s es c t (unique_rule rule label) = tt
+inverse_of s es c t (unique_rule rule label told) = tt
 inverse_of s es c t (unique_passed passed) = tt
-inverse_of s es c t (inverse_rule {c = clause} {r = r} rule bounds name) = (record { entity = rule.entity.known; source = rule.source.known; attribute = found_of s es r.source clause.attribute (found.Explicit r.attribute) rule.attribute }, tt)
+inverse_of s es c t (inverse_rule {c = clause} {r = r} rule counted name) = (record { entity = rule.entity.known; source = rule.source.known; attribute = found_of s es r.source clause.attribute (found.Explicit r.attribute) rule.attribute }, tt)
 inverse_of s es c t (any_count rule any) = tt
 inverse_of s es c t (inverse_passed passed) = tt
 

@@ -30,10 +30,10 @@ numbered_push e n (d ∷ cs) c = let k : suc n + length cs ≡ n + suc (length c
 pub map_more : {A B : Type 0} (f : A → B) (xs : List A) (k : ℕ) (d : A) → k < length xs → map f (take (k + 1) xs) ≡ map f (take k xs) ++ f (get_or xs k d) ∷ []
 map_more f xs k d l = ap (map f) (take_more xs k d l) ∙ map-append f (take k xs) (get_or xs k d ∷ [])
 
--- the items before one, that one, and those behind it
+-- the items before one, that one, and those after it
 pub map_at : {A B : Type 0} (f : A → B) (xs : List A) (k : ℕ) (d : A) → k < length xs → map f xs ≡ map f (take k xs) ++ f (get_or xs k d) ∷ map f (drop (k + 1) xs)
 map_at f xs k d l = ap (map f) (sym (take-append-drop k xs)) ∙ (map-append f (take k xs) (drop k xs) ∙ ap (λ zs. map f (take k xs) ++ map f zs) (drop_more xs k d l))
 
--- what was made of the first k items behind others, and of one more
+-- what was made of the first k items after others, and of one more
 pub grown : {A B C : Type 0} (f : A → B) (g : B → C) (cs : List C) (xs : List A) (k : ℕ) (d : A) → k < length xs → (cs ++ map g (map f (take k xs))) ++ g (f (get_or xs k d)) ∷ [] ≡ cs ++ map g (map f (take (k + 1) xs))
 grown f g cs xs k d l = append_assoc cs (map g (map f (take k xs))) (g (f (get_or xs k d)) ∷ []) ∙ ap (λ zs. cs ++ zs) (sym (ap (map g) (map_more f xs k d l) ∙ map-append g (map f (take k xs)) (f (get_or xs k d) ∷ [])))

@@ -1,12 +1,12 @@
--- The clauses of the entities of a schema, in the order of the text. What else is declared is passed over.
+-- The clauses of the entities of a schema, in the order of the text. What else is declared is skipped.
 use Rattle.std.specs.Prelude.{◌≡◌, ℕ, Bool, true, false, List, [], ◌∷◌, ◌++◌, Option, Some, None, if◌then◌else◌, codes, map}
 use Rattle.p21_express.specs.declared.keywords.DeclWord.{DeclWord}
 use Rattle.p21_express.specs.declared.keywords.DeclWord.TheVariants as decls
 use Rattle.p21_express.specs.Word.{Word, begins_name}
 use Rattle.p21_express.specs.Words.{AreWords}
-use Rattle.p21_express.specs.Grammar.{begins_rules}
+use Rattle.p21_express.specs.Grammar.{begins_rules, ends_attributes}
 use Rattle.p21_express.specs.Keywords.{decl_word_of}
-use Rattle.p21_express.specs.Reader.{◌>>=◌, ends_at, many_at, name_at, symbol_at, up_to, word_at}
+use Rattle.p21_express.specs.Reader.{◌>>=◌, ends_at, if_name, many_at, name_at, symbol_at, up_to, word_at}
 use Rattle.p21_rule_text.specs.Clauses.{InverseClause, UniqueClause, inverse_at, plain_inverse, plain_unique, unique_at}
 use Rattle.p21_rule_text.specs.declared.entities.EntityClauses as source
 
@@ -26,13 +26,23 @@ none_or_one (Some e) = plain_clauses e ∷ []
 
 -- ---- entities
 
--- { tokens ';' }: SUPERTYPE, SUBTYPE and the attributes, explicit and in DERIVE
-unfoldable pub behind_attributes : List Word → Option (List Word)
-behind_attributes ws = do
-  xs ← many_at begins_rules (up_to 59) ws
+-- { tokens ';' } up to one of these words
+unfoldable pub behind_statements : (List Word → Bool) → List Word → Option (List Word)
+behind_statements stops ws = do
+  xs ← many_at stops (up_to 59) ws
   Some xs.1
 
--- INVERSE inverse { inverse }; no other section begins right behind INVERSE
+-- [ DERIVE { tokens ';' } ]
+unfoldable pub behind_derive : List Word → Option (List Word)
+behind_derive ws = if (if_name (codes "DERIVE") ws).0 then behind_statements begins_rules (if_name (codes "DERIVE") ws).1 else Some ws
+
+-- { tokens ';' } [ DERIVE { tokens ';' } ]: SUPERTYPE, SUBTYPE and the attributes, explicit and in DERIVE, where there may be none
+unfoldable pub behind_attributes : List Word → Option (List Word)
+behind_attributes ws = do
+  derive ← behind_statements ends_attributes ws
+  behind_derive derive
+
+-- INVERSE inverse { inverse }; no other section begins right after INVERSE
 unfoldable pub inverses_at : List Word → Option (List InverseClause × List Word)
 inverses_at ws = do
   first ← word_at (codes "INVERSE") ws
@@ -42,7 +52,7 @@ inverses_at ws = do
 unfoldable pub if_inverses_at : List Word → Option (List InverseClause × List Word)
 if_inverses_at ws = if begins_name (codes "INVERSE") ws then inverses_at ws else Some ([], ws)
 
--- UNIQUE unique { unique }; no other section begins right behind UNIQUE
+-- UNIQUE unique { unique }; no other section begins right after UNIQUE
 unfoldable pub uniques_at : List Word → Option (List UniqueClause × List Word)
 uniques_at ws = do
   first ← word_at (codes "UNIQUE") ws
@@ -56,7 +66,7 @@ if_uniques_at ws = if begins_name (codes "UNIQUE") ws then uniques_at ws else So
 unfoldable pub entity_end : List Word → Option (List Word)
 entity_end ws = if begins_name (codes "WHERE") ws then ends_at None (codes "END_ENTITY") 0 ws else word_at (codes "END_ENTITY") ws
 
--- an entity behind the word ENTITY
+-- an entity after the word ENTITY
 unfoldable pub entity_at : List Word → Option (EntityClauses × List Word)
 entity_at ws = do
   n ← name_at ws
@@ -69,7 +79,7 @@ entity_at ws = do
 
 -- ---- the schema
 
--- the words behind what is passed over
+-- the words after what is skipped
 unfoldable pub skipped_at : Option (List ℕ) → List ℕ → List Word → Option (List EntityClauses × List Word)
 skipped_at again last ws = do
   end ← ends_at again last 0 ws
@@ -81,7 +91,7 @@ one_entity_at ws = do
   e ← entity_at ws
   Some (e.0 ∷ [], e.1)
 
--- a declaration behind its first word: the entity, or none
+-- a declaration after its first word: the entity, or none
 abbrev pub declaration_by : DeclWord → List Word → Option (List EntityClauses × List Word)
 declaration_by decls.Entity ws = one_entity_at ws
 declaration_by decls.Type ws = skipped_at None (codes "END_TYPE") ws
@@ -129,6 +139,8 @@ if_whole true es = es
 if_whole false es = None
 
 -- The clauses of a text's entities are what its words are.
+-- Of each entity, in the order of the text, those of INVERSE and then those of UNIQUE. Other declarations, and what
+-- follows WHERE, are skipped.
 pub record AreClauses (text : List ℕ) (es : List EntityClauses) : Type 0 where
   pub words : List Word
   pub are_words : AreWords text words

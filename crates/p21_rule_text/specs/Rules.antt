@@ -1,11 +1,12 @@
 -- The rules of a schema's text.
-use Rattle.std.specs.Prelude.{◌≡◌, ℕ, List, [], ◌∷◌, Vec}
-use Rattle.std.specs.List.{AllZip, flat_map}
+use Rattle.std.specs.Prelude.{◌≡◌, ℕ, List, [], ◌∷◌, Some, Vec, take, slice_get}
+use Rattle.std.specs.List.{AllByRecursion, AllZip, flat_map}
 use Rattle.std.specs.declared.alloc.Global.{Global}
 use Rattle.p21_express.specs.Schema.{Schema}
 use Rattle.p21_express.specs.WellFormed.{IsIn}
 use Rattle.p21_rules.specs.declared.rule.InverseRule.{InverseRule}
 use Rattle.p21_rules.specs.declared.rule.UniqueRule.{UniqueRule}
+use Rattle.p21_rule_text.specs.Clauses.{UniqueClause}
 use Rattle.p21_rule_text.specs.Entities.{AreClauses, EntityClauses}
 use Rattle.p21_rule_text.specs.Statements.{Clause, IsUnstated, States, clauses_of}
 use Rattle.p21_rule_text.specs.declared.rules.Rules.{Rules}
@@ -15,12 +16,12 @@ use Rattle.p21_rule_text.specs.declared.statements.Statement.TheVariants as stat
 
 -- the rule UNIQUE of a statement, where it is one
 abbrev pub unique_in : Statement → List UniqueRule
-unique_in (statement.Unique r label) = r ∷ []
+unique_in (statement.Unique r label told) = r ∷ []
 unique_in _ = []
 
 -- its label
 abbrev pub labels_in : Statement → List (Vec ℕ Global)
-labels_in (statement.Unique r label) = label ∷ []
+labels_in (statement.Unique r label told) = label ∷ []
 labels_in _ = []
 
 -- the bounds of an INVERSE attribute, where it is one
@@ -33,8 +34,9 @@ abbrev pub names_in : Statement → List (Vec ℕ Global)
 names_in (statement.Inverse r name) = name ∷ []
 names_in _ = []
 
--- what is passed over
+-- what is skipped
 abbrev pub passed_in : Statement → List PassedOver
+passed_in (statement.Unique r label told) = told.items
 passed_in (statement.PassedOver p) = p ∷ []
 passed_in _ = []
 
@@ -52,10 +54,19 @@ pub record AreStated (s : Schema) (es : List EntityClauses) (cs : List Clause) (
   pub states : AllZip (States s es) cs statements
   pub listed : AreListed statements rules
 
--- The rules of a text, against the schema that it declares, are what the clauses of its entities state.
+-- one of the rules has this label
+abbrev pub HasLabel : List UniqueClause → List ℕ → Type 0
+HasLabel cs n = (c : UniqueClause) × (IsIn cs c × (c.label ≡ Some n))
+
+-- no rule has the label of one before it
+abbrev pub HaveDistinctLabels : List UniqueClause → Type 0
+HaveDistinctLabels cs = (k : ℕ) (c : UniqueClause) (n : List ℕ) → slice_get cs k ≡ Some c → c.label ≡ Some n → ¬ (HasLabel (take k cs) n)
+
+-- The rules of a text, against the schema that it declares, are what the clauses of its entities state. No entity has two rules of one label.
 pub record AreRules (s : Schema) (text : List ℕ) (rules : Rules) : Type 0 where
   pub clauses : List EntityClauses
   pub are_clauses : AreClauses text clauses
+  pub distinct : AllByRecursion (λ e. HaveDistinctLabels e.unique) clauses
   pub stated : AreStated s clauses (flat_map clauses_of clauses) rules
 
 -- nothing is stated by one of these clauses
@@ -63,5 +74,7 @@ abbrev pub HasUnstated : Schema → List EntityClauses → List Clause → Type 
 HasUnstated s es cs = (c : Clause) × (IsIn cs c × IsUnstated s es c)
 
 -- no rules are those of the text
+-- Its words are no entities by the grammar, an entity has two rules with one label, or a clause names what is no such
+-- entity or attribute.
 abbrev pub HasNoRules : Schema → List ℕ → Type 0
 HasNoRules s text = (rules : Rules) → ¬ (AreRules s text rules)

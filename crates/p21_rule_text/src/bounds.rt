@@ -85,7 +85,7 @@ fn if_brackets<'t, 'a>(
     Ok((Some(any(is_bag)), words))
 }
 
-/// The bounds behind SET or BAG, and the words behind OF.
+/// The bounds after SET or BAG, and the words after OF.
 #[tactic(auto, unfolding(crate::specs::Bounds::collection_at))]
 fn collection<'t, 'a>(
     is_bag: bool,
@@ -97,7 +97,7 @@ fn collection<'t, 'a>(
     Ok((bounds, keyword(rest, b"OF")?))
 }
 
-/// The bounds in front of the entity that refers, or `None` where they are no numbers, and the words behind them.
+/// The bounds in front of the entity that refers, or `None` where they are no numbers, and the words after them.
 #[tactic(auto, unfolding(crate::specs::Bounds::bounds_at))]
 pub(crate) fn bounds_in_front<'t, 'a>(
     words: &'t [Word<'a>],

@@ -2,13 +2,11 @@
 
 ghost use Rattle.std.specs.Prelude.{◌≡◌, option_map};
 ghost use Rattle.p21_express.specs.Naming.{plain_naming, plain_namings};
-ghost use Rattle.p21_express.specs.Reader.{words_of, Gives};
+ghost use Rattle.p21_express.specs.Reader.{words_of, Gives, naming_at, next_naming};
 ghost use Rattle.p21_rule_text.specs.Clauses.{attribute_at, attribute_of_at, has_label, if_label_at, inverse_at, label_at, names_at, plain_inverse, plain_unique, unique_at};
 
 use crate::bounds::{Bounds, bounds_in_front};
-use p21_express::{
-    AttrName, Refusal, Word, begins_symbol, keyword, name, naming, next_naming, symbol,
-};
+use p21_express::{AttrName, Refusal, Word, begins_symbol, keyword, name, naming, symbol};
 use std::alloc::Global;
 
 /// A rule UNIQUE.
@@ -52,7 +50,7 @@ fn label<'t, 'a>(words: &'t [Word<'a>]) -> Result<(Option<&'a [u8]>, &'t [Word<'
     Ok((Some(label), symbol(rest, b':')?))
 }
 
-/// The label of a rule, where it has one, and the words behind the colon.
+/// The label of a rule, where it has one, and the words after the colon.
 #[tactic(auto, unfolding(crate::specs::Clauses::if_label_at))]
 fn if_label<'t, 'a>(words: &'t [Word<'a>]) -> Result<(Option<&'a [u8]>, &'t [Word<'a>]), Refusal>
     ensures { Gives (λ x. (option_map (λ n. n.now) x.0, words_of x.1.now)) result (if_label_at (words_of words.now)) }
@@ -63,6 +61,27 @@ fn if_label<'t, 'a>(words: &'t [Word<'a>]) -> Result<(Option<&'a [u8]>, &'t [Wor
     Ok((None, words))
 }
 
+/// The name of an attribute in a rule. RENAMED does not fit after it.
+fn attribute_in_rule<'t, 'a>(
+    words: &'t [Word<'a>],
+) -> Result<(AttrName<'a>, &'t [Word<'a>]), Refusal>
+    ensures { Gives (λ x. (plain_naming x.0, words_of x.1.now)) result (naming_at (words_of words.now)) }
+{
+    match naming(words) {
+        Ok(found) => Ok(found),
+        Err(Refusal::Refused(_, left)) => Err(Refusal::syntax(left)),
+        Err(Refusal::Memory) => Err(Refusal::Memory),
+    }
+}
+
+/// A comma and the name of a further one.
+#[tactic(auto, unfolding(p21_express::specs::Reader::next_naming))]
+fn next_in_rule<'t, 'a>(words: &'t [Word<'a>]) -> Result<(AttrName<'a>, &'t [Word<'a>]), Refusal>
+    ensures { Gives (λ x. (plain_naming x.0, words_of x.1.now)) result (next_naming (words_of words.now)) }
+{
+    attribute_in_rule(symbol(words, b',')?)
+}
+
 /// Names of attributes with commas between them, up to the semicolon.
 #[tactic(auto, unfolding(crate::specs::Clauses::names_at))]
 fn names<'t, 'a>(
@@ -71,11 +90,11 @@ fn names<'t, 'a>(
 ) -> Result<(Vec<AttrName<'a>>, &'t [Word<'a>]), Refusal>
     ensures { Gives (λ x. (plain_namings x.0.items, words_of x.1.now)) result (names_at (words_of words.now)) }
 {
-    let (first, mut rest) = naming(words)?;
+    let (first, mut rest) = attribute_in_rule(words)?;
     let mut names = Vec::new(alloc);
     names.push(first)?;
     while !begins_symbol(rest, b';') {
-        let (next, behind) = next_naming(rest)?;
+        let (next, behind) = next_in_rule(rest)?;
         names.push(next)?;
         rest = behind;
     }
@@ -83,7 +102,7 @@ fn names<'t, 'a>(
     Ok((names, rest))
 }
 
-/// A rule UNIQUE, and the words behind it.
+/// A rule UNIQUE, and the words after it.
 #[tactic(auto, unfolding(crate::specs::Clauses::unique_at))]
 pub(crate) fn unique<'t, 'a>(
     alloc: Global,
@@ -101,7 +120,7 @@ pub(crate) fn unique<'t, 'a>(
     Ok((clause, rest))
 }
 
-/// The attribute of an entity behind the name of that one.
+/// The attribute of an entity after the name of that one.
 #[tactic(auto, unfolding(crate::specs::Clauses::attribute_of_at))]
 fn attribute_of<'t, 'a>(
     of: &'a [u8],
@@ -119,7 +138,7 @@ fn attribute_of<'t, 'a>(
     Ok((attribute, rest))
 }
 
-/// The attribute behind FOR, perhaps behind the name of its entity, and the words behind it.
+/// The attribute after FOR, perhaps after the name of its entity, and the words after it.
 #[tactic(auto, unfolding(crate::specs::Clauses::attribute_at))]
 fn attribute<'t, 'a>(words: &'t [Word<'a>]) -> Result<(AttrName<'a>, &'t [Word<'a>]), Refusal>
     ensures { Gives (λ x. (plain_naming x.0, words_of x.1.now)) result (attribute_at (words_of words.now)) }
@@ -136,7 +155,7 @@ fn attribute<'t, 'a>(words: &'t [Word<'a>]) -> Result<(AttrName<'a>, &'t [Word<'
     Ok((attribute, rest))
 }
 
-/// An INVERSE attribute, and the words behind it.
+/// An INVERSE attribute, and the words after it.
 #[tactic(auto, unfolding(crate::specs::Clauses::inverse_at))]
 pub(crate) fn inverse<'t, 'a>(
     words: &'t [Word<'a>],

@@ -1,15 +1,15 @@
 //! The clauses of the entities of a schema, in the order of its words.
 
 ghost use Rattle.std.specs.Prelude.{◌≡◌, ◌++◌, OnOk, map};
-ghost use Rattle.p21_express.specs.Grammar.{begins_rules};
+ghost use Rattle.p21_express.specs.Grammar.{begins_rules, ends_attributes};
 ghost use Rattle.p21_express.specs.Reader.{words_of, again_of, Gives, many_at};
 ghost use Rattle.p21_rule_text.specs.Clauses.{inverse_at, plain_inverse, plain_unique, unique_at};
-ghost use Rattle.p21_rule_text.specs.Entities.{behind_attributes, declaration_at, none_or_one, declarations_at, entities_at, entity_at, entity_end, if_inverses_at, if_uniques_at, inverses_at, plain_clauses, skipped_at, uniques_at};
+ghost use Rattle.p21_rule_text.specs.Entities.{behind_attributes, behind_statements, declaration_at, none_or_one, declarations_at, entities_at, entity_at, entity_end, if_inverses_at, if_uniques_at, inverses_at, plain_clauses, skipped_at, uniques_at};
 
 use crate::clauses::{InverseClause, UniqueClause, inverse, unique};
 use p21_express::{
-    DeclWord, Refusal, Word, begins_name, begins_rules, behind, behind_stop, decl_word, keyword,
-    name, symbol,
+    DeclWord, Refusal, Word, begins_name, begins_rules, behind, behind_stop, decl_word, if_name,
+    keyword, name, symbol,
 };
 use std::alloc::{AllocError, Global};
 
@@ -23,10 +23,29 @@ pub(crate) struct EntityClauses<'a> {
     pub(crate) unique: Vec<UniqueClause<'a>>,
 }
 
-/// The words behind the attributes of an entity, explicit and in DERIVE.
-#[tactic(auto, unfolding(crate::specs::Entities::behind_attributes))]
-fn behind_attributes<'t, 'a>(words: &'t [Word<'a>]) -> Result<&'t [Word<'a>], Refusal>
-    ensures { Gives (λ x. words_of x.now) result (behind_attributes (words_of words.now)) }
+/// Whether what stands after the explicit attributes of an entity begins.
+fn ends_attributes(words: &[Word]) -> bool
+    ensures { result ≡ ends_attributes (words_of words.now) }
+{
+    begins_name(words, b"DERIVE") || begins_rules(words)
+}
+
+/// The words after the explicit attributes of an entity.
+#[tactic(auto, unfolding(crate::specs::Entities::behind_statements))]
+fn behind_explicit<'t, 'a>(words: &'t [Word<'a>]) -> Result<&'t [Word<'a>], Refusal>
+    ensures { Gives (λ x. words_of x.now) result (behind_statements ends_attributes (words_of words.now)) }
+{
+    let (_, mut rest) = words.split_at(0);
+    while !ends_attributes(rest) {
+        rest = behind_stop(rest, b';')?;
+    }
+    Ok(rest)
+}
+
+/// The words after the attributes of DERIVE.
+#[tactic(auto, unfolding(crate::specs::Entities::behind_statements))]
+fn behind_derived<'t, 'a>(words: &'t [Word<'a>]) -> Result<&'t [Word<'a>], Refusal>
+    ensures { Gives (λ x. words_of x.now) result (behind_statements begins_rules (words_of words.now)) }
 {
     let (_, mut rest) = words.split_at(0);
     while !begins_rules(rest) {
@@ -35,7 +54,19 @@ fn behind_attributes<'t, 'a>(words: &'t [Word<'a>]) -> Result<&'t [Word<'a>], Re
     Ok(rest)
 }
 
-/// The attributes behind INVERSE.
+/// The words after the attributes of an entity, explicit and in DERIVE.
+#[tactic(auto, unfolding(crate::specs::Entities::behind_attributes, crate::specs::Entities::behind_derive))]
+fn behind_attributes<'t, 'a>(words: &'t [Word<'a>]) -> Result<&'t [Word<'a>], Refusal>
+    ensures { Gives (λ x. words_of x.now) result (behind_attributes (words_of words.now)) }
+{
+    let (is_derive, rest) = if_name(behind_explicit(words)?, b"DERIVE");
+    if is_derive {
+        return behind_derived(rest);
+    }
+    Ok(rest)
+}
+
+/// The attributes after INVERSE.
 fn inverses_from<'t, 'a>(
     alloc: Global,
     words: &'t [Word<'a>],
@@ -80,7 +111,7 @@ fn if_inverses<'t, 'a>(
     Ok((Vec::new(alloc), words))
 }
 
-/// The rules behind UNIQUE.
+/// The rules after UNIQUE.
 fn uniques_from<'t, 'a>(
     alloc: Global,
     words: &'t [Word<'a>],
@@ -125,7 +156,7 @@ fn if_uniques<'t, 'a>(
     Ok((Vec::new(alloc), words))
 }
 
-/// The words behind WHERE and its rules, if they are there, and END_ENTITY.
+/// The words after WHERE and its rules, if they are there, and END_ENTITY.
 #[tactic(auto, unfolding(crate::specs::Entities::entity_end))]
 fn entity_end<'t, 'a>(words: &'t [Word<'a>]) -> Result<&'t [Word<'a>], Refusal>
     ensures { Gives (λ x. words_of x.now) result (entity_end (words_of words.now)) }
@@ -136,7 +167,7 @@ fn entity_end<'t, 'a>(words: &'t [Word<'a>]) -> Result<&'t [Word<'a>], Refusal>
     keyword(words, b"END_ENTITY")
 }
 
-/// The clauses of an entity behind the word ENTITY.
+/// The clauses of an entity after the word ENTITY.
 #[tactic(auto, unfolding(crate::specs::Entities::entity_at))]
 fn entity<'t, 'a>(
     alloc: Global,
@@ -157,7 +188,7 @@ fn entity<'t, 'a>(
     Ok((clauses, rest))
 }
 
-/// The words behind a declaration that is passed over, behind its first word; there are no entities in it.
+/// The words after a declaration that is skipped, after its first word; there are no entities in it.
 #[tactic(auto, unfolding(crate::specs::Entities::skipped_at))]
 fn skipped<'t, 'a>(
     words: &'t [Word<'a>],

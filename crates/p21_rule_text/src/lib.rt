@@ -1,10 +1,13 @@
 //! The rules UNIQUE and the INVERSE attributes of a schema's text.
 #![tactic(auto)]
 
+mod attributes;
 mod bounds;
 mod clauses;
 mod entities;
 mod inverse;
+mod labels;
+mod redeclared;
 mod resolve;
 mod rules;
 mod statements;

@@ -9,8 +9,11 @@ ghost use Rattle.p21_rule_text.specs.Entities.{entities_at, if_whole, plain_clau
 ghost use Rattle.p21_rule_text.specs.Rules.{AreListed, AreRules, HasNoRules};
 
 use crate::entities::{EntityClauses, entities};
+use crate::labels::repeated_label;
 use crate::statements::{Known, PassedOver, Statement, push_statements};
-use p21_express::{Refusal, Scanned, SchemaError, one_word_list, refused_as, scan, upper_case};
+use p21_express::{
+    Refusal, Scanned, SchemaError, one_word_list, place_at, refused_as, scan, upper_case,
+};
 use p21_rules::{InverseRule, UniqueRule};
 use p21_schema::Schema;
 use std::alloc::{AllocError, Global};
@@ -48,9 +51,10 @@ impl Rules {
         ensures { OnOk result ((ss : List Statement) → AreListed ss self.old → AreListed (ss ++ statement ∷ []) self.new) }
     {
         match statement {
-            Statement::Unique(rule, label) => {
+            Statement::Unique(rule, label, mut told) => {
                 self.unique.push(rule)?;
                 self.labels.push(label)?;
+                self.passed_over.append(&mut told)?;
             }
             Statement::Inverse(rule, name) => {
                 self.inverse.push(rule)?;
@@ -65,13 +69,24 @@ impl Rules {
 
 /// The rules of the text from which a schema was read.
 ///
-/// A rule UNIQUE or an INVERSE attribute that is not of the grammar is refused as `Syntax` at its first word that does not fit, `RENAMED` behind
-/// an attribute with SELF as `NotSupported`, and the name of what is no such entity or attribute as `UnknownName`. `Memory` says that there was no memory
-/// left.
+/// A rule UNIQUE or an INVERSE attribute that is not of the grammar is refused as `Syntax` at its first word that does not fit, and `RENAMED` after the name
+/// of an INVERSE attribute with SELF as `NotSupported`. Then the second of two rules UNIQUE of one label in an entity is refused as `Repeated`, and then the
+/// name of what is no such entity or attribute as `UnknownName`. `Memory` says that there was no memory left.
+///
+/// No clause says where in the text begins what is not checked (`PassedOver::at`): tested.
+///
+/// Cost: A copy of the text in upper case, and its words with their places; a bit for each entity for each attribute
+/// that is named, and a look at the INVERSE attributes of the schema.
 pub fn read_rules(alloc: Global, text: &[u8], schema: &Schema) -> Result<Rules, SchemaError>
+    // The rules are those of the text against the schema: what the clauses of its entities state, in their order, and
+    // no others.
     ensures rules { IfOk result (AreRules schema.now text.now) }
+    // An error other than out of memory means that the text has no rules against the schema. As which kind, and at
+    // which place, is tested.
     ensures refused { IfErr result (λ e. OnRefusal e (HasNoRules schema.now text.now)) }
+    // Each rule UNIQUE is of an entity and of explicit attributes of the schema.
     ensures unique { IfOk result (λ rules. AreRulesOf schema.now rules.unique.items) }
+    // The bounds of each INVERSE attribute are of two entities and of an explicit attribute of the schema.
     ensures inverse { IfOk result (λ rules. AreInverseRulesOf schema.now rules.inverse.items) }
 {
     one_word_list();
@@ -84,6 +99,9 @@ pub fn read_rules(alloc: Global, text: &[u8], schema: &Schema) -> Result<Rules, 
                 clauses: &clauses,
                 places: &scanned.places,
             };
+            if let Some(label) = repeated_label(&clauses) {
+                return Err(SchemaError::Repeated(place_at(&scanned.places, label)));
+            }
             let mut rules = Rules::new(alloc);
             push_statements(alloc, &mut rules, known)?;
             Ok(rules)

@@ -27,7 +27,8 @@ pub enum RuleKind {
     Inverse,
 }
 
-/// A rule UNIQUE that names a derived or inverse attribute; an INVERSE attribute FOR such a one; or one whose bounds are no numbers.
+/// A rule UNIQUE that names a derived or inverse attribute; an INVERSE attribute FOR such a one; or one whose bounds are no numbers. Or a rule UNIQUE in
+/// the instances of another entity that derives one of its attributes; or an INVERSE attribute FOR one that another entity derives.
 #[derive(Debug, Drop)]
 pub struct PassedOver {
     pub kind: RuleKind,
@@ -38,13 +39,16 @@ pub struct PassedOver {
     pub label: Vec<u8>,
     /// The name of the derived or inverse attribute, in upper case; empty where bounds are no numbers.
     pub attribute: Vec<u8>,
+    /// The name of the other entity that derives the attribute, in upper case; empty where the entity itself has it as a derived or inverse one, and where bounds
+    /// are no numbers.
+    pub subtype: Vec<u8>,
 }
 
 /// What a clause states.
 #[derive(Drop)]
 pub(crate) enum Statement {
-    /// A rule UNIQUE, and its label or number.
-    Unique(UniqueRule, Vec<u8>),
+    /// A rule UNIQUE, its label or number, and that it is skipped in the instances of some subtypes.
+    Unique(UniqueRule, Vec<u8>, Vec<PassedOver>),
     /// The bounds of an INVERSE attribute, and its name.
     Inverse(InverseRule, Vec<u8>),
     /// Bounds that every count is within.
@@ -61,20 +65,23 @@ pub(crate) struct Known<'k, 'a> {
     pub(crate) places: &'k [usize],
 }
 
-/// How many words stand from the name itself on, behind SELF and the entity, if they are there.
-pub(crate) fn bare_place(name: &AttrName) -> usize {
-    match name.of {
-        Some(_) => name.place.saturating_sub(4),
-        None => name.place,
-    }
-}
-
 impl Known<'_, '_> {
     /// That the name from which on so many words stand is of nothing.
     pub(crate) fn unknown(self, left: usize) -> SchemaError
         ensures { (at : ℕ) × (result ≡ UnknownName at) }
     {
         SchemaError::UnknownName(place_at(self.places, left))
+    }
+
+    /// That an attribute's name is of nothing, at the entity after SELF, where none has that name, and else at the name itself.
+    pub(crate) fn unknown_attribute(self, name: &AttrName) -> SchemaError
+        ensures { (at : ℕ) × (result ≡ UnknownName at) }
+    {
+        self.unknown(match name.of {
+            Some(of) if self.schema.entity(of).is_none() => name.place.saturating_sub(2),
+            Some(_) => name.place.saturating_sub(4),
+            None => name.place,
+        })
     }
 
     /// The entity of this name, from which on so many words stand.

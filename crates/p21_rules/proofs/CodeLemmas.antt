@@ -1,11 +1,10 @@
 -- Different values are written by different bytes.
-use Rattle.std.proofs.Common.{◌≡◌, ◌⊎◌, ◌<◌, ◌+◌, ◌/◌, ◌%◌, ◌^◌, ℕ, true, false, List, [], ◌∷◌, ◌++◌, map, cond, refl, sym, ap, ◌∙◌, ⊎_elim, inl, inr, append_assoc, arith}
+use Rattle.std.proofs.Common.{◌≡◌, ◌<◌, ◌+◌, ◌/◌, ◌%◌, ◌^◌, ℕ, true, false, List, [], ◌∷◌, ◌++◌, cond, refl, sym, ap, ◌∙◌, ⊎_elim, append_assoc, arith}
 use Rattle.std.specs.Prelude.{nat_lt}
 use Rattle.std.proofs.lemmas.List.{append-nil}
 use Rattle.std.proofs.lemmas.Bool.{cases_Bool, ltb-true}
-use Rattle.p21_text.specs.Items.{Item, scalar, page}
-use Rattle.p21_rules.specs.Code.{triple, number_code, scalar_code, item_code, items_code, bytes_code, value_code, elements_code, values_code, key_code}
-use Rattle.p21_rules.specs.Value.{Value, Values, number, text, item, instance, binary, list, typed, nil, cons}
+use Rattle.p21_rules.specs.Code.{triple, number_code, scalar_code, bytes_code, value_code, elements_code, values_code, key_code}
+use Rattle.p21_rules.specs.Value.{Value, Values, number, text, spelled, item, instance, binary, list, bag, typed, nil, cons}
 
 triple_once : (m n : ℕ) → m / 65536 ≡ n / 65536 → m / 256 % 256 ≡ n / 256 % 256 → m % 256 ≡ n % 256 → m ≡ n
 triple_once m n high mid low = omega arith
@@ -71,56 +70,29 @@ scalar_split c d a b e =
         let one : c + 1 ≡ 200 = cc in
         omega arith
 
--- a character begins with no byte that ends a string or begins a character of a part
-scalar_first : (c f : ℕ) (a b : List ℕ) → (f ≡ 0) ⊎ (f ≡ 201) → scalar_code c ++ a ≡ f ∷ b → ⊥
-scalar_first c f a b which e =
+-- a byte begins as no end
+scalar_first : (c : ℕ) (a b : List ℕ) → scalar_code c ++ a ≡ 0 ∷ b → ⊥
+scalar_first c a b e =
     ⊎_elim
     (λ (h : nat_lt c 128 ≡ true).
     let p = scalar_low c h in
-    let both : (c + 1) ∷ a ≡ f ∷ b = sym (ap (λ l. l ++ a) p.1) ∙ e in
-    let one : c + 1 ≡ f = cc in
-    let less = p.0 in
+    let both : (c + 1) ∷ a ≡ 0 ∷ b = sym (ap (λ l. l ++ a) p.1) ∙ e in
+    let one : c + 1 ≡ 0 = cc in
     omega arith)
     (λ (h : nat_lt c 128 ≡ false).
-    let both : 200 ∷ (triple c ++ a) ≡ f ∷ b = sym (ap (λ l. l ++ a) (scalar_high c h)) ∙ e in
-    let one : 200 ≡ f = cc in
+    let both : 200 ∷ (triple c ++ a) ≡ 0 ∷ b = sym (ap (λ l. l ++ a) (scalar_high c h)) ∙ e in
+    let one : ◌≡◌ {A = ℕ} 200 0 = cc in
     omega arith)
     (cases_Bool (nat_lt c 128))
 
-item_split : (x y : Item) (a b : List ℕ) → item_code x ++ a ≡ item_code y ++ b → (x ≡ y) × (a ≡ b)
-item_split (scalar c) (scalar d) a b e = let r = scalar_split c d a b e in (ap scalar r.0, r.1)
-item_split (scalar c) (page l n) a b e = absurd (scalar_first c 201 a (l ∷ n ∷ b) (inr refl) e)
-item_split (page l n) (scalar d) a b e = absurd (scalar_first d 201 b (l ∷ n ∷ a) (inr refl) (sym e))
-item_split (page l n) (page k m) a b e =
-    let one : l ≡ k = cc in
-    let two : n ≡ m = cc in
-    let rest : a ≡ b = cc in
-    (ap (λ u. page u n) one ∙ ap (page k) two, rest)
-
-item_first : (x : Item) (a b : List ℕ) → item_code x ++ a ≡ 0 ∷ b → ⊥
-item_first (scalar c) a b e = scalar_first c 0 a b (inl refl) e
-item_first (page l n) a b e = let one : ◌≡◌ {A = ℕ} 201 0 = cc in omega (arith, one)
-
-items_split : (xs ys : List Item) (a b : List ℕ) → items_code xs ++ a ≡ items_code ys ++ b → (xs ≡ ys) × (a ≡ b)
-items_split [] [] a b e = let rest : a ≡ b = cc in (refl, rest)
-items_split [] (y ∷ ys) a b e = absurd (item_first y (items_code ys ++ b) a (sym (append_assoc (item_code y) (items_code ys) b) ∙ sym e))
-items_split (x ∷ xs) [] a b e = absurd (item_first x (items_code xs ++ a) b (sym (append_assoc (item_code x) (items_code xs) a) ∙ e))
-items_split (x ∷ xs) (y ∷ ys) a b e =
-    let first = item_split x y (items_code xs ++ a) (items_code ys ++ b) (sym (append_assoc (item_code x) (items_code xs) a) ∙ e ∙ append_assoc (item_code y) (items_code ys) b) in
-    let rest = items_split xs ys a b first.1 in
-    (ap (λ u. u ∷ xs) first.0 ∙ ap (λ l. y ∷ l) rest.0, rest.1)
-
-scalars_once : (xs ys : List ℕ) → map scalar xs ≡ map scalar ys → xs ≡ ys
-scalars_once [] [] e = refl
-scalars_once [] (y ∷ ys) e = cc
-scalars_once (x ∷ xs) [] e = cc
-scalars_once (x ∷ xs) (y ∷ ys) e =
-    let first : x ≡ y = cc in
-    let others : map scalar xs ≡ map scalar ys = cc in
-    ap (λ u. u ∷ xs) first ∙ ap (λ l. y ∷ l) (scalars_once xs ys others)
-
 bytes_split : (xs ys : List ℕ) (a b : List ℕ) → bytes_code xs ++ a ≡ bytes_code ys ++ b → (xs ≡ ys) × (a ≡ b)
-bytes_split xs ys a b e = let r = items_split (map scalar xs) (map scalar ys) a b e in (scalars_once xs ys r.0, r.1)
+bytes_split [] [] a b e = let rest : a ≡ b = cc in (refl, rest)
+bytes_split [] (y ∷ ys) a b e = absurd (scalar_first y (bytes_code ys ++ b) a (sym (append_assoc (scalar_code y) (bytes_code ys) b) ∙ sym e))
+bytes_split (x ∷ xs) [] a b e = absurd (scalar_first x (bytes_code xs ++ a) b (sym (append_assoc (scalar_code x) (bytes_code xs) a) ∙ e))
+bytes_split (x ∷ xs) (y ∷ ys) a b e =
+    let first = scalar_split x y (bytes_code xs ++ a) (bytes_code ys ++ b) (sym (append_assoc (scalar_code x) (bytes_code xs) a) ∙ e ∙ append_assoc (scalar_code y) (bytes_code ys) b) in
+    let rest = bytes_split xs ys a b first.1 in
+    (ap (λ u. u ∷ xs) first.0 ∙ ap (λ l. y ∷ l) rest.0, rest.1)
 
 behind_tag : (t u : ℕ) (a b : List ℕ) → t ∷ a ≡ u ∷ b → a ≡ b
 behind_tag t u a b e = cc
@@ -134,6 +106,8 @@ no_end (instance n) a b e = let one : ◌≡◌ {A = ℕ} 4 0 = cc in omega (ari
 no_end (typed k v) a b e = let one : ◌≡◌ {A = ℕ} 5 0 = cc in omega (arith, one)
 no_end (binary s) a b e = let one : ◌≡◌ {A = ℕ} 6 0 = cc in omega (arith, one)
 no_end (list vs) a b e = let one : ◌≡◌ {A = ℕ} 7 0 = cc in omega (arith, one)
+no_end (bag vs) a b e = let one : ◌≡◌ {A = ℕ} 8 0 = cc in omega (arith, one)
+no_end (spelled s) a b e = let one : ◌≡◌ {A = ℕ} 9 0 = cc in omega (arith, one)
 
 mutual
   value_split : (v w : Value) (a b : List ℕ) → value_code v ++ a ≡ value_code w ++ b → (v ≡ w) × (a ≡ b)
@@ -143,7 +117,8 @@ mutual
       let up = number_split h i (number_code l ++ a) (number_code k ++ b) (sym (append_assoc (number_code h) (number_code l) a) ∙ digits.1 ∙ append_assoc (number_code i) (number_code k) b) in
       let down = number_split l k a b up.1 in
       (ap (λ u. number u h l) digits.0 ∙ ap (λ u. number t u l) up.0 ∙ ap (number t i) down.0, down.1)
-  value_split (text s) (text t) a b e = let r = items_split s t a b (behind_tag 2 2 (items_code s ++ a) (items_code t ++ b) e) in (ap text r.0, r.1)
+  value_split (text s) (text t) a b e = let r = bytes_split s t a b (behind_tag 2 2 (bytes_code s ++ a) (bytes_code t ++ b) e) in (ap text r.0, r.1)
+  value_split (spelled s) (spelled t) a b e = let r = bytes_split s t a b (behind_tag 9 9 (bytes_code s ++ a) (bytes_code t ++ b) e) in (ap spelled r.0, r.1)
   value_split (item s) (item t) a b e = let r = bytes_split s t a b (behind_tag 3 3 (bytes_code s ++ a) (bytes_code t ++ b) e) in (ap item r.0, r.1)
   value_split (instance m) (instance n) a b e = let r = number_split m n a b (behind_tag 4 4 (number_code m ++ a) (number_code n ++ b) e) in (ap instance r.0, r.1)
   value_split (binary s) (binary t) a b e = let r = bytes_split s t a b (behind_tag 6 6 (bytes_code s ++ a) (bytes_code t ++ b) e) in (ap binary r.0, r.1)
@@ -153,12 +128,15 @@ mutual
       let rest = value_split v w a b first.1 in
       (ap (λ u. typed u v) first.0 ∙ ap (typed l) rest.0, rest.1)
   value_split (list vs) (list ws) a b e = let r = elements_split vs ws a b (behind_tag 7 7 (elements_code vs ++ a) (elements_code ws ++ b) e) in (ap list r.0, r.1)
+  value_split (bag vs) (bag ws) a b e = let r = elements_split vs ws a b (behind_tag 8 8 (elements_code vs ++ a) (elements_code ws ++ b) e) in (ap bag r.0, r.1)
   value_split (number s h l) w a b e = cc
   value_split (text s) w a b e = cc
   value_split (item s) w a b e = cc
   value_split (instance m) w a b e = cc
   value_split (binary s) w a b e = cc
   value_split (list vs) w a b e = cc
+  value_split (bag vs) w a b e = cc
+  value_split (spelled s) w a b e = cc
   value_split (typed k v) w a b e = cc
 
   elements_split : (vs ws : Values) (a b : List ℕ) → elements_code vs ++ a ≡ elements_code ws ++ b → (vs ≡ ws) × (a ≡ b)
@@ -177,6 +155,8 @@ some (item s) a e = cc
 some (instance n) a e = cc
 some (binary s) a e = cc
 some (list vs) a e = cc
+some (bag vs) a e = cc
+some (spelled s) a e = cc
 some (typed k v) a e = cc
 
 pub code_once : (v w : Value) → value_code v ≡ value_code w → v ≡ w

@@ -18,7 +18,7 @@ use Rattle.p21_rules.specs.Named.{IsNamed}
 abbrev pub no_wanted : EntityId
 no_wanted = record { index = 0 }
 
--- ---- what stands at a place, and behind it
+-- ---- what stands at a place, and after it
 
 module _ {X : Type 0} where
   first_left : (xs : List X) (k : ℕ) (x : X) (rest : List X) → drop k xs ≡ x ∷ rest → (slice_get xs k ≡ Some x) × (drop (suc k) xs ≡ rest)
@@ -33,7 +33,7 @@ module _ {X : Type 0} where
   left_from (y ∷ xs) zero x e = let same : y ≡ x = cc in ap (λ (z : X). z ∷ xs) same
   left_from (y ∷ xs) (suc k) x e = left_from xs k x e
 
-  -- the element at a place, and those behind it
+  -- the element at a place, and those after it
   pub left_of : (xs : List X) (k : ℕ) (x : X) → slice_get xs k ≡ Some x → drop k xs ≡ x ∷ drop (k + 1) xs
   left_of xs k x e = left_from xs k x e ∙ ap (λ (n : ℕ). x ∷ drop n xs) (sym (add-one k))
 
@@ -70,7 +70,7 @@ module _ {R : Type 0} (entity : R → EntityId) (s : Schema) (ks : List (List �
 
 module _ {R : Type 0} (entity : R → EntityId) (s : Schema) (ks : List (List ℕ)) (rules : List R) (k : ℕ) (numbers : List ℕ) (place : ℕ) (h : AreConcerned s ks k (map entity (drop k rules)) (drop place numbers)) where
   module _ (less : place < length numbers) where
-    -- the rule of the number that stands there, and what is known behind the rules before it
+    -- the rule of the number that stands there, and what is known after the rules before it
     pub next : (State : ℕ → Type 0) → ((m : ℕ) (r : R) → slice_get rules m ≡ Some r → ¬ (AnyBelow s ks (entity r)) → State m → State (m + 1)) → State k
         → (r : R) × (slice_get rules (get_or numbers place 0) ≡ Some r) × AnyBelow s ks (entity r) × AreConcerned s ks (get_or numbers place 0 + 1) (map entity (drop (get_or numbers place 0 + 1) rules)) (drop (place + 1) numbers) × State (get_or numbers place 0)
     next State pass state =
@@ -88,11 +88,11 @@ module _ {R : Type 0} (entity : R → EntityId) (s : Schema) (ks : List (List �
         let same : n.0 ≡ r = cc in
         subst (λ (x : R). AnyBelow s ks (entity x)) same n.2
 
-    -- the numbers behind it are those of the rules behind it
+    -- the numbers after it are those of the rules after it
     pub behind : AreConcerned s ks (get_or numbers place 0 + 1) (map entity (drop (get_or numbers place 0 + 1) rules)) (drop (place + 1) numbers)
     behind = let r = next (λ m. Unit {0}) (λ m r there not t. tt) tt in r.3
 
-  -- where no number is left, what is known behind all rules
+  -- where no number is left, what is known after all rules
   pub last : (State : ℕ → Type 0) → ((m : ℕ) (r : R) → slice_get rules m ≡ Some r → ¬ (AnyBelow s ks (entity r)) → State m → State (m + 1)) → length numbers ≤ place → State k → (m : ℕ) × (length rules ≤ m) × State m
   last State pass past state = finish entity s ks rules State pass k (drop k rules) refl (subst (AreConcerned s ks k (map entity (drop k rules))) (drop_all place numbers past) h) state
 

@@ -1,5 +1,5 @@
 -- The lists that stand for a type, as the code keeps them.
-use Rattle.std.proofs.Common.{◌≡◌, ℕ, zero, suc, ◌<◌, inl, inr, Bool, List, [], ◌∷◌, Option, Some, None, length, get_or, map, refl, sym, ap, subst, ◌∙◌, arith}
+use Rattle.std.proofs.Common.{◌≡◌, ℕ, zero, suc, ◌<◌, inl, inr, List, [], ◌∷◌, Option, Some, None, length, get_or, map, refl, sym, ap, subst, ◌∙◌, arith}
 use Rattle.std.specs.Prelude.{option_map, slice_get}
 use Rattle.p21_express.specs.Schema.{Schema, Expr, Entity, Defined, Underlying, Aggregate, items, select, plain, named, aggregate}
 use Rattle.p21_express.specs.WellFormed.{IsIn, IsType, IsWellFormed}
@@ -13,11 +13,7 @@ use Rattle.p21_schema.specs.declared.resolved.Target.{Target}
 use Rattle.p21_schema.specs.declared.resolved.Target.TheVariants as target
 use Rattle.p21_schema.specs.Place.{no_entity, no_type, type_name, IsTypeOf}
 use Rattle.p21_schema.specs.Under.{StandsUnder, IsResolvedIn}
-use Rattle.p21_schema.specs.declared.declarations.Form.{Form as CodedForm}
-use Rattle.p21_schema.specs.declared.declarations.Form.TheVariants as coded
-use Rattle.p21_schema.specs.Declaration.{Form, IsResolvedForm, derived, explicit}
 use Rattle.p21_check.specs.Wanted.{by_names}
-use Rattle.p21_rules.specs.Parameter.{type_or}
 use Rattle.p21_rules.specs.declared.elements.Elements.{Elements}
 use Rattle.p21_rules.specs.Elements.{AreElements, IsElementsOf, IsListOf, is_ordered}
 use Rattle.p21_rules.specs.Elements as elements
@@ -122,16 +118,3 @@ list_once s w _ a b e f (elements.under {n = n} h) l =
     let one : a ≡ b = cc in
     let two : e ≡ f = cc in
     (one, two)
-
--- ---- the type of an attribute
-
--- an explicit declaration has a type
-pub explicit_type : (s : Schema) (c : CodedForm) (o : Bool) (e : ResolvedExpr) (f : Form) (rest : Option Expr) → c ≡ coded.Explicit o e → IsResolvedForm s c f → (x : Expr) × (type_or f rest ≡ Some x) × (by_names s e ≡ Some x)
-explicit_type s c o e derived rest is h = absurd (subst (λ (d : CodedForm). IsResolvedForm s d derived) is h)
-explicit_type s c o e (explicit p x) rest is h = let r = subst (λ (d : CodedForm). IsResolvedForm s d (explicit p x)) is h in (x, refl, r.1.0)
-
--- one in DERIVE has none
-pub derived_type : (s : Schema) (c : CodedForm) (f : Form) (rest : Option Expr) → ((o : Bool) (e : ResolvedExpr) → ¬ (c ≡ coded.Explicit o e)) → IsResolvedForm s c f → type_or f rest ≡ rest
-derived_type s c derived rest none h = refl
-derived_type s coded.Derived (explicit p x) rest none h = absurd h
-derived_type s (coded.Explicit o e) (explicit p x) rest none h = absurd (none o e refl)

@@ -11,5 +11,10 @@ pub mod ValueLemmas
 pub mod FirstLemmas
 pub mod Sizes
 pub mod PushLemmas
+pub mod IdLemmas
+pub mod DeclarationLemmas
+pub mod SlotLemmas
+pub mod TextLemmas
 pub mod CounterLemmas
 pub mod InverseLemmas
+pub mod LawLemmas

@@ -8,7 +8,7 @@ use Rattle.p21_rules.specs.Number.{before_first, behind_first, before_zeros, beh
 use Rattle.p21_rules.specs.Code.{bytes_code, number_code, value_code}
 use Rattle.p21_rules.specs.Value.{number}
 
--- ---- up to a byte, and behind it
+-- ---- up to a byte, and after it
 
 module _ (c : ℕ) where
   before_found : (b : ℕ) (bs : List ℕ) → b ≡ c → before_first c (b ∷ bs) ≡ []
@@ -66,7 +66,7 @@ behind_zeros_none (x ∷ xs) ys e =
     let both : x ∷ xs ≡ [] = sym (ap (λ b. cond b (behind_zeros xs) (x ∷ xs)) t) ∙ e in cc)
     (cases_eq x 48)
 
--- ---- zeros behind
+-- ---- zeros after it
 
 pub before_zeros_both : (xs ys : List ℕ) (z : ℕ) (zs : List ℕ) → before_zeros ys ≡ z ∷ zs → before_zeros (xs ++ ys) ≡ xs ++ z ∷ zs
 before_zeros_both [] ys z zs e = e
@@ -94,7 +94,7 @@ module _ (s : List ℕ) (some : length s ≡ 0 → ⊥) where
   pub last_other : (get_or s (length s - 1) 0 ≡ 48 → ⊥) → s ≡ before_zeros s
   last_other n = last_more ∙ sym (other_last (take (length s - 1) s) (get_or s (length s - 1) 0) n) ∙ ap before_zeros (sym last_more)
 
--- ---- digits before the point and behind it
+-- ---- digits before the point and after it
 
 empty : (xs : List ℕ) → nat_eq (length xs) 0 ≡ true → xs ≡ []
 empty [] t = refl

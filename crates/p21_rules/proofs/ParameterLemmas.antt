@@ -140,7 +140,7 @@ module _ {A B : Type 0} (R : A → B → Type 0) where
   zip_next (x ∷ cs) (d ∷ ds) zero c h l = (d, refl, h.0)
   zip_next (x ∷ cs) (d ∷ ds) (suc i) c h l = zip_next cs ds i c h.1 (omega arith)
 
-  -- what corresponds to an element, and what stands behind it
+  -- what corresponds to an element, and what stands after it
   pub zip_drop : (cs : List A) (ds : List B) (i : ℕ) (c : A) → AllZip R cs ds → i < length cs → (d : B) × (drop i ds ≡ d ∷ drop (i + 1) ds) × R (get_or cs i c) d
   zip_drop cs ds i c h l =
       let r = zip_next cs ds i c h l in
@@ -272,6 +272,6 @@ named_at s rs named i r h l e =
     let at = zip_at (λ (x : Option EntityId) (k : List ℕ). IsNamed s k x) named (map (λ (x : Entry). x.keyword) (map plain_record rs)) i None [] h (omega (arith, long)) in
     subst (λ (k : List ℕ). IsNamed s k (get_or named i None)) (keyword_at rs i r l ∙ ap (λ (x : Record). x.keyword.now) (sym e)) at
 
--- a record, and those behind it
+-- a record, and those after it
 pub entries_at : (rs : List Record) (i : ℕ) (r : Record) → i < length rs → r ≡ get_or rs i r → map plain_record (drop i rs) ≡ plain_record r ∷ map plain_record (drop (i + 1) rs)
 entries_at rs i r l e = ap (map plain_record) (drop_more rs i r l) ∙ ap (λ (x : Record). plain_record x ∷ map plain_record (drop (i + 1) rs)) (sym e)

@@ -7,7 +7,6 @@ use Rattle.std.proofs.lemmas.List.{append-nil, drop_all, drop_more, map-append}
 use Rattle.p21_express.specs.Schema.{Schema, Expr, Aggregate, named}
 use Rattle.p21_express.specs.WellFormed.{IsWellFormed}
 use Rattle.std.proofs.lemmas.List.Elements.{All-nil, All-cons}
-use Rattle.p21_text.specs.Items.{Item, ItemsOf}
 use Rattle.p21_tree.specs.declared.params.Param.{Param, fold-roll-Param}
 use Rattle.p21_tree.specs.declared.params.Param.TheOpen as level
 use Rattle.p21_tree.specs.declared.params.Param.TheVariants.{Int, Real, Str, Enumeration, Binary, Ref, rolls-Int, rolls-Real, rolls-Str, rolls-Enumeration, rolls-Binary, rolls-Ref}
@@ -17,7 +16,7 @@ use Rattle.p21_tree.specs.Bodies.{HasBodies, HaveBodies, AllHaveBodies}
 use Rattle.p21_tree.specs.Plain.{plain, plain_all, plain_level}
 use Rattle.p21_tree.specs.Tree.{Tree, Trees}
 use Rattle.p21_tree.specs.Tree as tree
-use Rattle.p21_rules.specs.Code.{bytes_code, elements_code, items_code, number_code, value_code}
+use Rattle.p21_rules.specs.Code.{bytes_code, elements_code, number_code, value_code}
 use Rattle.p21_rules.specs.Pushed.{AreEachPushed, IsPushed, IsRealPushed, codes_code}
 use Rattle.p21_rules.specs.declared.elements.Elements.{Elements}
 use Rattle.p21_rules.specs.Arranged.{AreArranged}
@@ -28,7 +27,8 @@ use Rattle.p21_rules.specs.Means.{Means, MeanEach}
 use Rattle.p21_rules.specs.Means as means
 use Rattle.p21_rules.specs.Bits.{bits}
 use Rattle.p21_rules.specs.Number.{integer_of, real_of, IsNear}
-use Rattle.p21_rules.specs.Value.{Value, listed}
+use Rattle.p21_rules.specs.Text.{IsTextValue}
+use Rattle.p21_rules.specs.Value.{Value, Values, gathered, listed}
 use Rattle.p21_rules.specs.Value as value
 
 -- ---- a parameter as a plain tree
@@ -77,8 +77,8 @@ module _ (s : Schema) (x : Expr) where
   real_pushed t b old new true e (n, code) = (real_of b, subst (λ (y : Tree). Means s x y (real_of b)) (sym e) (means.real n), code)
   real_pushed t b old new false e far = λ v m. far (near_of b v (subst (λ (y : Tree). Means s x y v) e m))
 
-  pub text_pushed : (t : Tree) (b : List ℕ) (xs : List Item) (old mid new : List ℕ) → t ≡ tree.str b → ItemsOf b xs → mid ≡ old ++ 2 ∷ [] → new ≡ mid ++ items_code xs → IsPushed s x t old new true
-  text_pushed t b xs old mid new e h first behind = pushed t (tree.str b) (value.text xs) 2 (items_code xs) old mid new e (means.text h) refl first behind
+  pub text_pushed : (t : Tree) (b old new : List ℕ) → t ≡ tree.str b → (v : Value) × IsTextValue b v × (new ≡ old ++ value_code v) → IsPushed s x t old new true
+  text_pushed t b old new e (v, is, code) = (v, subst (λ (y : Tree). Means s x y v) (sym e) (means.text is), code)
 
   pub item_pushed : (t : Tree) (b old mid new : List ℕ) → t ≡ tree.enumeration b → mid ≡ old ++ 3 ∷ [] → new ≡ mid ++ bytes_code b → IsPushed s x t old new true
   item_pushed t b old mid new e first behind = pushed t (tree.enumeration b) (value.item b) 3 (bytes_code b) old mid new e means.item refl first behind
@@ -106,15 +106,26 @@ module _ (s : Schema) (x : Expr) where
   pub same_list : (t : Tree) (ts : Trees) (old new : List ℕ) (done : Bool) → t ≡ tree.items ts → IsPushed s x (tree.items ts) old new done → IsPushed s x t old new done
   same_list t ts old new done e h = subst (λ (y : Tree). IsPushed s x y old new done) (sym e) h
 
-  list_pushed_by : IsWellFormed s → (a : Aggregate) (e : Expr) → IsListOf s x a e → (o : Bool) → o ≡ is_ordered a → (ts : Trees) (old tag new : List ℕ) (done : Bool) → tag ≡ old ++ 7 ∷ [] → AreEachPushed s e o ts tag new done → IsPushed s x (tree.items ts) old new done
+  -- the byte in front of the elements
+  abbrev tag_of : Bool → ℕ
+  tag_of true = 7
+  tag_of false = 8
+
+  gathered_code : (o p : Bool) (vs : Values) → o ≡ p → value_code (gathered p vs) ≡ tag_of o ∷ elements_code vs
+  gathered_code true true vs e = refl
+  gathered_code true false vs e = absurd (cc)
+  gathered_code false true vs e = absurd (cc)
+  gathered_code false false vs e = refl
+
+  list_pushed_by : IsWellFormed s → (a : Aggregate) (e : Expr) → IsListOf s x a e → (o : Bool) → o ≡ is_ordered a → (ts : Trees) (old tag new : List ℕ) (done : Bool) → tag ≡ old ++ tag_of o ∷ [] → AreEachPushed s e o ts tag new done → IsPushed s x (tree.items ts) old new done
   list_pushed_by w a e l o same ts old tag new true first h =
-      pushed (tree.items ts) (tree.items ts) (value.list (listed h.arranged)) 7 (elements_code (listed h.arranged)) old tag new refl (means.list h.arranged l h.mean (subst (λ b. AreArranged b h.values h.arranged) same h.order)) refl first h.added
+      pushed (tree.items ts) (tree.items ts) (gathered (is_ordered a) (listed h.arranged)) (tag_of o) (elements_code (listed h.arranged)) old tag new refl (means.list h.arranged l h.mean (subst (λ b. AreArranged b h.values h.arranged) same h.order)) (gathered_code o (is_ordered a) (listed h.arranged) same) first h.added
   list_pushed_by w a e l o same ts old tag new false first h = λ v m.
       let r = list_of ts v m in
       let one = list_once s w x r.0 a r.1 e r.3 l in
       h r.2 (subst (λ (y : Expr). MeanEach s y ts r.2) one.1 r.4)
 
-  pub list_pushed : IsWellFormed s → (found : Elements) (o : Bool) → found.ordered ≡ o → (f : IsElementsOf s x found) (ts : Trees) (old tag new : List ℕ) (done : Bool) → tag ≡ old ++ 7 ∷ [] → AreEachPushed s f.element o ts tag new done → IsPushed s x (tree.items ts) old new done
+  pub list_pushed : IsWellFormed s → (found : Elements) (o : Bool) → found.ordered ≡ o → (f : IsElementsOf s x found) (ts : Trees) (old tag new : List ℕ) (done : Bool) → tag ≡ old ++ tag_of o ∷ [] → AreEachPushed s f.element o ts tag new done → IsPushed s x (tree.items ts) old new done
   list_pushed w found o is f ts old tag new done first h = list_pushed_by w f.aggregate_ f.element f.listed o (sym is ∙ f.ordered) ts old tag new done first h
 
 -- its body is a binary's
@@ -143,7 +154,7 @@ module _ (s : Schema) (e : Expr) where
       let one = element_means ps k p vs less m in
       none one.0 (subst (λ (q : Param). Means s e (plain q) one.0) (sym is) one.1)
 
-  -- The values of these elements behind those that were added are the values of all.
+  -- The values of these elements after those that were added are the values of all.
   pub record AreBehind (all : Trees) (old new : List ℕ) (vs : List Value) : Type 0 where
     pub values : List Value
     pub mean : MeanEach s e all values

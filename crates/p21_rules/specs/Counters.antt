@@ -7,17 +7,17 @@ use Rattle.p21_rules.specs.declared.rule.InverseRule.{InverseRule}
 use Rattle.p21_rules.specs.declared.counters.Counter.{Counter}
 use Rattle.p21_rules.specs.InverseCount.{IsCount, times}
 
--- the counter behind one more reference from the instance at a place
+-- the counter after one more reference from the instance at a place
 abbrev pub next_counter : (bag : Bool) → (place : ℕ) → Option Counter → Counter
 next_counter bag place None = record { count = 1; last = place }
 next_counter bag place (Some c) = if bag || not (nat_eq c.last place) then record { count = c.count + 1; last = place } else c
 
--- the counter behind so many more
+-- the counter after so many more
 abbrev pub counter_after : (bag : Bool) → (place : ℕ) → ℕ → Option Counter → Option Counter
 counter_after bag place zero c = c
 counter_after bag place (suc k) c = counter_after bag place k (Some (next_counter bag place c))
 
--- the counters behind references to these names
+-- the counters after references to these names
 abbrev pub AreCounted : {S : Type 0} → (bag : Bool) → (place : ℕ) → List ℕ → IndexMap ℕ Counter S → IndexMap ℕ Counter S → Type 0
 AreCounted bag place names old new = (n : ℕ) → get nat_eq new n ≡ counter_after bag place (times n names) (get nat_eq old n)
 
@@ -26,7 +26,7 @@ abbrev pub count_of : Option Counter → ℕ
 count_of None = 0
 count_of (Some c) = c.count
 
--- the counters have the count of each name by the rule over these instances, of which none behind them was the last
+-- the counters have the count of each name by the rule over these instances, of which none after them was the last
 abbrev pub Counts : {S : Type 0} → Schema → InverseRule → List Instance → IndexMap ℕ Counter S → Type 0
 Counts s r is counters = (n : ℕ) → IsCount s r n is (count_of (get nat_eq counters n)) × IfSome (get nat_eq counters n) (λ c. c.last < length is)
 

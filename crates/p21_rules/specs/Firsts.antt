@@ -35,16 +35,16 @@ IsKept old key name (Some first) new = (get key_eq old key ≡ Some first) × ((
 abbrev pub Holds : {A S : Type 0} → Schema → List UniqueRule → IndexMap (Vec ℕ A) ℕ S → (ℕ → List Instance) → Type 0
 Holds {A} s rules firsts seen = (k : ℕ) (r : UniqueRule) (vs : List Value) (q : Vec ℕ A) → slice_get rules k ≡ Some r → q.items ≡ key_code k vs → IsFirstOrNone s r vs (seen k) (get key_eq firsts q)
 
--- these instances were seen, and the one behind them too by the rules below this number
+-- these instances were seen, and the one after them too by the rules below this number
 abbrev pub seen_below : List Instance → Instance → ℕ → ℕ → List Instance
 seen_below before i n k = if nat_lt k n then before ++ i ∷ [] else before
 
--- whether an instance behind these breaks the rule
+-- whether an instance after these breaks the rule
 abbrev pub IsBreach : Schema → UniqueRule → List Instance → Instance → Option ℕ → Type 0
 IsBreach s r before i None = Keeps s r before i
 IsBreach s r before i (Some name) = Breaks s r before i name
 
--- the faults of an instance behind these were added, and it is among those that were seen
+-- the faults of an instance after these were added, and it is among those that were seen
 abbrev pub AreAdded : {A S : Type 0} → Schema → List UniqueRule → List Instance → Instance → IndexMap (Vec ℕ A) ℕ S → List NotUnique → List NotUnique → Type 0
 AreAdded s rules before i firsts old new = ((fs : List NotUnique) × AreFaultsAt s before i 0 rules fs × (new ≡ old ++ fs)) × Holds s rules firsts (λ k. before ++ i ∷ [])
 

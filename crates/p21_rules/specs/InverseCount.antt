@@ -76,5 +76,6 @@ pub data AreCountsOf (s : Schema) (rules : List InverseRule) (is : List Instance
   more : {i : Instance} {js : List Instance} {fs gs all : List InverseCount} → AreCountsAt s is i 0 rules fs → AreCountsOf s rules is js gs → all ≡ fs ++ gs → AreCountsOf s rules is (i ∷ js) all
 
 -- the faults of the instances of a file by these rules
+-- Of each instance in turn those by each attribute in turn whose bounds its count is not within, at its place.
 abbrev pub AreInverseCounts : Schema → List InverseRule → List Instance → List InverseCount → Type 0
 AreInverseCounts s rules is fs = AreCountsOf s rules is is fs

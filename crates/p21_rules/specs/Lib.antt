@@ -1,4 +1,5 @@
 pub mod Value
+pub mod Text
 pub mod Number
 pub mod Bits
 pub mod Elements
@@ -9,6 +10,7 @@ pub mod Concerned
 pub mod Code
 pub mod Pushed
 pub mod Parameter
+pub mod Slots
 pub mod NotUnique
 pub mod Firsts
 pub mod Mentions

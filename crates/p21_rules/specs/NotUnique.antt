@@ -51,18 +51,19 @@ Breaks s r earlier i name = (vs : List Value) × IsUnder s r i vs × IsFirst s r
 abbrev pub Keeps : Schema → UniqueRule → (earlier : List Instance) → Instance → Type 0
 Keeps s r earlier i = (vs : List Value) → IsUnder s r i vs → HaveNot s r vs earlier
 
--- the faults of an instance behind these, by the rules from this number on, one at most of each
+-- the faults of an instance after these, by the rules from this number on, one at most of each
 pub data AreFaultsAt (s : Schema) (earlier : List Instance) (i : Instance) : ℕ → List UniqueRule → List NotUnique → Type 0 where
   none : {k : ℕ} → AreFaultsAt s earlier i k [] []
   keeps : {k : ℕ} {r : UniqueRule} {rs : List UniqueRule} {fs : List NotUnique} → Keeps s r earlier i → AreFaultsAt s earlier i (k + 1) rs fs → AreFaultsAt s earlier i k (r ∷ rs) fs
   breaks : {k name : ℕ} {r : UniqueRule} {rs : List UniqueRule} {fs : List NotUnique} → Breaks s r earlier i name → AreFaultsAt s earlier i (k + 1) rs fs
       → AreFaultsAt s earlier i k (r ∷ rs) (record { at = i.at; rule = k; earlier = name } ∷ fs)
 
--- The faults of some instances behind others: those of the first of them, and then those of the rest.
+-- The faults of some instances after others: those of the first of them, and then those of the rest.
 pub data AreFaultsBehind (s : Schema) (rules : List UniqueRule) : List Instance → List Instance → List NotUnique → Type 0 where
   none : {earlier : List Instance} → AreFaultsBehind s rules earlier [] []
   more : {earlier is : List Instance} {i : Instance} {fs gs all : List NotUnique} → AreFaultsAt s earlier i 0 rules fs → AreFaultsBehind s rules (earlier ++ i ∷ []) is gs → all ≡ fs ++ gs → AreFaultsBehind s rules earlier (i ∷ is) all
 
 -- the faults of the instances of a file by these rules
+-- Of each instance in turn those by each rule in turn that it breaks, at its place.
 abbrev pub AreFaults : Schema → List UniqueRule → List Instance → List NotUnique → Type 0
 AreFaults s rules is fs = AreFaultsBehind s rules [] is fs

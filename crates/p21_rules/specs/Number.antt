@@ -8,7 +8,7 @@ abbrev pub before_first : ℕ → List ℕ → List ℕ
 before_first c [] = []
 before_first c (b ∷ bs) = if b == c then [] else b ∷ before_first c bs
 
--- those behind it, or none
+-- those after it, or none
 abbrev pub behind_first : ℕ → List ℕ → List ℕ
 behind_first c [] = []
 behind_first c (b ∷ bs) = if b == c then bs else behind_first c bs
@@ -38,11 +38,11 @@ abbrev pub before_zeros : List ℕ → List ℕ
 before_zeros [] = []
 before_zeros (b ∷ bs) = in_front b (before_zeros bs)
 
--- how many zeros stand behind that
+-- how many zeros stand after that
 abbrev pub zeros_behind : List ℕ → ℕ
 zeros_behind ds = length ds - length (before_zeros ds)
 
--- digits, behind `-` in a negative number
+-- digits, after `-` in a negative number
 abbrev pub signed : Bool → List ℕ → List ℕ
 signed minus ds = if minus then 45 ∷ ds else ds
 
@@ -51,7 +51,7 @@ abbrev pub scaled : Bool → List ℕ → ℕ → ℕ → Value
 scaled minus [] up down = number [] 0 0
 scaled minus (d ∷ ds) up down = number (signed minus (d ∷ ds)) (up - down) (down - up)
 
--- The number of these digits before the point and those behind it, times a power of ten. Zeros in front and behind say nothing of its value but the power
+-- The number of these digits before the point and those after it, times a power of ten. Zeros in front and after say nothing of its value but the power
 -- of ten of the last digit that is not 0.
 abbrev pub decimal : Bool → List ℕ → List ℕ → ℕ → ℕ → Value
 decimal minus whole fraction up down = scaled minus (behind_zeros (before_zeros (whole ++ fraction))) (up + zeros_behind (whole ++ fraction)) (down + length fraction)
@@ -80,11 +80,11 @@ whole_of s = before_first 46 (before_first 69 s)
 abbrev pub fraction_of : List ℕ → List ℕ
 fraction_of s = behind_first 46 (before_first 69 s)
 
--- what stands behind the `E`
+-- what stands after the `E`
 abbrev pub exponent_of : List ℕ → List ℕ
 exponent_of s = behind_first 69 s
 
--- a real: its digits before the point and behind it, times the power of ten behind the `E`
+-- a real: its digits before the point and after it, times the power of ten after the `E`
 abbrev pub real_of : List ℕ → Value
 real_of s = decimal (is_negative (whole_of s)) (unsigned (whole_of s)) (fraction_of s) (up_of (exponent_of s)) (down_of (exponent_of s))
 

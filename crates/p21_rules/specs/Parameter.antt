@@ -1,16 +1,17 @@
 -- The parameter of an instance that stands for an attribute.
 use Rattle.std.specs.Prelude.{◌≡◌, ℕ, Bool, List, [], ◌∷◌, Option, None, Some, if◌then◌else◌}
 use Rattle.std.specs.List.{AllZip}
-use Rattle.p21_express.specs.Schema.{Schema, Expr}
+use Rattle.p21_express.specs.Schema.{Schema}
 use Rattle.p21_express.specs.WellFormed.{Origin}
 use Rattle.p21_tree.specs.Tree.{Tree, Trees, nil, cons}
 use Rattle.p21_tree.specs.Grammar.{Entry}
 use Rattle.p21_tree.specs.Sentence.{Instance}
-use Rattle.p21_schema.specs.Declaration.{AreDeclarations, Declaration, Form, derived, explicit}
+use Rattle.p21_schema.specs.Declaration.{Declaration, Form, derived, explicit}
 use Rattle.p21_schema.specs.Row.{same_origin}
 use Rattle.p21_check.specs.Attributes.{AreAttributes}
-use Rattle.p21_check.specs.EntitySet.{keywords}
+use Rattle.p21_check.specs.EntitySet.{IsInSet, keywords}
 use Rattle.p21_check.specs.Sets.{AnyIn}
+use Rattle.p21_check.specs.Slot.{Counts}
 use Rattle.p21_rules.specs.Named.{IsBelow}
 use Rattle.p21_rules.specs.Value.{Value}
 use Rattle.p21_rules.specs.Means.{Means}
@@ -26,25 +27,21 @@ pub data IsParameterIn (s : Schema) (complex : Bool) (o : Origin) : List Entry �
   here : {e : Entry} {es : List Entry} {os : List Origin} {t : Tree} → AreAttributes s complex e.keyword os → parameter_of os e.params o ≡ Some t → IsParameterIn s complex o (e ∷ es) t
   behind : {e : Entry} {es : List Entry} {os : List Origin} {t : Tree} → AreAttributes s complex e.keyword os → parameter_of os e.params o ≡ None → IsParameterIn s complex o es t → IsParameterIn s complex o (e ∷ es) t
 
--- its type where it is explicit, and else the other one
-abbrev pub type_or : Form → Option Expr → Option Expr
-type_or derived o = o
-type_or (explicit optional x) o = Some x
+-- the parameter is this value by a declaration: by its type, and by one in DERIVE it is none
+abbrev pub MeansBy : Schema → Form → Tree → Value → Type 0
+MeansBy s derived t v = ⊥
+MeansBy s (explicit optional x) t v = Means s x t v
 
--- the type of the first of some declarations that is explicit
-abbrev pub first_type : List Declaration → Option Expr
-first_type [] = None
-first_type (d ∷ ds) = type_or d.form (first_type ds)
-
--- The type of an attribute is that of the first declaration of the text that is explicit.
-pub record IsAttributeType (s : Schema) (o : Origin) (x : Expr) : Type 0 where
-  pub declarations : List Declaration
-  pub are : AreDeclarations s o declarations
-  pub first : first_type declarations ≡ Some x
+-- The parameter of an attribute in an instance is this value by each of the declarations of the attribute that count there, of which there is one.
+pub record IsValueOf (s : Schema) (i : Instance) (o : Origin) (t : Tree) (v : Value) : Type 0 where
+  pub declaration : Declaration
+  pub counts : Counts s (IsInSet s i) o declaration
+  pub each : (d : Declaration) → Counts s (IsInSet s i) o d → MeansBy s d.form t v
 
 -- the value of an attribute in an instance
+-- What its parameter is by each declaration of the attribute that counts there; there is one.
 abbrev pub HasValue : Schema → Instance → Origin → Value → Type 0
-HasValue s i o v = (t : Tree) × (x : Expr) × IsParameterIn s i.complex o i.records t × IsAttributeType s o x × Means s x t v
+HasValue s i o v = (t : Tree) × IsParameterIn s i.complex o i.records t × IsValueOf s i o t v
 
 -- the values of some attributes in an instance, one by one
 abbrev pub HasValues : Schema → Instance → List Origin → List Value → Type 0

@@ -1,18 +1,20 @@
 -- The values that rules compare, without how they are spelled.
-use Rattle.std.specs.Prelude.{ℕ, List, [], ◌∷◌}
-use Rattle.p21_text.specs.Items.{Item}
+use Rattle.std.specs.Prelude.{ℕ, Bool, true, false, List, [], ◌∷◌}
 
 mutual
-  -- a number by its digits from the first to the last that is not 0, behind `-` where it is negative, and by the power of ten of that last digit, which
-  -- is the first number less the second, of which one is 0; a string by its items, an item of an enumeration by its name, an instance by its number, a
-  -- binary by its bits, a list by the values of its elements, or such a value of a type, by the type's name
+  -- a number by its digits from the first to the last that is not 0, after `-` where it is negative, and by the power of ten of that last digit, which
+  -- is the first number less the second, of which one is 0; a string by its characters in UTF-8, or by what is written; an item of an enumeration by its
+  -- name, an instance by its number, a binary by its bits; an ARRAY or a LIST by the values of its elements, and so a SET or a BAG; or such a value of a
+  -- type, by the type's name
   pub data Value : Type 0 where
     number : List ℕ → ℕ → ℕ → Value
-    text : List Item → Value
+    text : List ℕ → Value
+    spelled : List ℕ → Value
     item : List ℕ → Value
     instance : ℕ → Value
     binary : List ℕ → Value
     list : Values → Value
+    bag : Values → Value
     typed : List ℕ → Value → Value
 
   -- the values of elements, one after the other
@@ -24,3 +26,8 @@ mutual
 abbrev pub listed : List Value → Values
 listed [] = nil
 listed (v ∷ vs) = cons v (listed vs)
+
+-- the values of elements whose order counts, or does not, as one value
+abbrev pub gathered : Bool → Values → Value
+gathered true vs = list vs
+gathered false vs = bag vs

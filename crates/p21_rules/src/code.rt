@@ -1,12 +1,8 @@
-//! Numbers and texts as bytes.
+//! Numbers and bytes as bytes.
 
 ghost use Rattle.std.specs.Prelude.{◌≡◌, ◌<◌, ◌^◌, ◌++◌, List, ℕ, OnOk};
-ghost use Rattle.p21_text.specs.Items.{page};
-ghost use Rattle.p21_text.specs.Meanings.{item_of};
-ghost use Rattle.p21_text.specs.StringItems.{items_left};
-ghost use Rattle.p21_rules.specs.Code.{bytes_code, item_code, items_code, number_code, scalar_code, triple};
+ghost use Rattle.p21_rules.specs.Code.{bytes_code, number_code, scalar_code, triple};
 
-use p21_text::{StrItem, StrItems, items};
 use std::alloc::AllocError;
 
 /// Adds a number by three bytes.
@@ -29,7 +25,7 @@ pub(crate) fn push_number(code: &mut Vec<u8>, number: u64) -> Result<(), AllocEr
     push_triple(code, number % 0x100_0000)
 }
 
-/// Adds a character by its number.
+/// Adds a byte, or any number below 2^24.
 #[tactic(auto, unfolding(crate::specs::Code::scalar_code))]
 pub(crate) fn push_scalar(code: &mut Vec<u8>, number: u32) -> Result<(), AllocError>
     requires { number < 2 ^ 24 }
@@ -41,37 +37,6 @@ pub(crate) fn push_scalar(code: &mut Vec<u8>, number: u32) -> Result<(), AllocEr
     }
     code.push(200)?;
     push_triple(code, u64::from(number))
-}
-
-/// Adds an item of a string.
-fn push_item(code: &mut Vec<u8>, item: StrItem) -> Result<(), AllocError>
-    ensures { OnOk result (code.new.items ≡ code.old.items ++ item_code (item_of item)) }
-{
-    match item {
-        StrItem::Scalar(character) => push_scalar(code, u32::from(character)),
-        StrItem::Page(letter, number) => push_page(code, letter, number),
-    }
-}
-
-/// Adds a character of a part of ISO 8859.
-fn push_page(code: &mut Vec<u8>, letter: u8, number: u8) -> Result<(), AllocError>
-    ensures { OnOk result (code.new.items ≡ code.old.items ++ item_code (page letter number)) }
-{
-    code.push(201)?;
-    code.push(letter)?;
-    code.push(number)?;
-    Ok(())
-}
-
-/// Adds the items of a string, and their end.
-pub(crate) fn push_items(code: &mut Vec<u8>, mut items: StrItems<'_>) -> Result<(), AllocError>
-    ensures { OnOk result (code.new.items ≡ code.old.items ++ items_code (items_left items.entry)) }
-{
-    while let Some(item) = items.next() {
-        push_item(code, item)?;
-    }
-    code.push(0)?;
-    Ok(())
 }
 
 /// Adds bytes, and their end.

@@ -69,7 +69,7 @@ fn count_name(
     }
 }
 
-/// The counter behind one more reference from the instance at a place. A count of 2^64 is none.
+/// The counter after one more reference from the instance at a place. A count of 2^64 is none.
 fn next_counter(counter: Option<Counter>, is_bag: bool, place: usize) -> Result<Counter, AllocError>
     ensures { IfOk result (λ next. next ≡ next_counter is_bag place counter) }
 {

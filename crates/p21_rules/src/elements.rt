@@ -1,14 +1,12 @@
 //! The lists that stand for a type.
 
-ghost use Rattle.std.specs.Prelude.{◌≡◌, List, ℕ, Some, None, MatchOption};
+ghost use Rattle.std.specs.Prelude.{◌≡◌, List, ℕ, Some};
 ghost use Rattle.p21_express.specs.Schema.{Schema as Declared, Expr, named};
-ghost use Rattle.p21_schema.specs.Declaration.{AreResolvedIn, Declaration as Written};
 ghost use Rattle.p21_schema.specs.Place.{IsTypeOf, type_name};
 ghost use Rattle.p21_check.specs.Wanted.{by_names};
 ghost use Rattle.p21_rules.specs.Elements.{AreElements};
-ghost use Rattle.p21_rules.specs.Parameter.{first_type};
 
-use p21_schema::{Declaration, Form, Resolved, ResolvedExpr, Schema, Target, TypeId};
+use p21_schema::{Resolved, ResolvedExpr, Schema, Target, TypeId};
 
 /// The elements of the lists that stand for a type.
 #[derive(Clone, Copy)]
@@ -17,18 +15,6 @@ pub(crate) struct Elements<'s> {
     pub(crate) ordered: bool,
     /// Their type.
     pub(crate) item: &'s ResolvedExpr,
-}
-
-/// The type of the first of the declarations of an attribute that is explicit.
-pub(crate) fn first_type(declarations: &[Declaration]) -> Option<&ResolvedExpr>
-    ensures { (s : Declared) (ds : List Written) → AreResolvedIn s declarations.entry.now ds → MatchOption result (first_type ds ≡ None) (λ e. (x : Expr) × (first_type ds ≡ Some x) × (by_names s e.now ≡ Some x)) }
-{
-    for declaration in declarations {
-        if let Form::Explicit { texpr, .. } = &declaration.form {
-            return Some(texpr);
-        }
-    }
-    None
 }
 
 /// Those of a type; `None` where no list stands for it.

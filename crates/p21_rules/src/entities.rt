@@ -1,6 +1,6 @@
 //! The entities that the records of an instance name.
 
-ghost use Rattle.std.specs.Prelude.{◌≡◌, ◌↔◌, ℕ, List, IsTrue, OnOk};
+ghost use Rattle.std.specs.Prelude.{◌≡◌, ◌↔◌, ℕ, List, IsTrue, OnOk, Some};
 ghost use Rattle.p21_check.specs.Sets.{AnyIn, keywords_of};
 ghost use Rattle.p21_schema.specs.Place.{IsEntityOf, entity_name};
 ghost use Rattle.p21_rules.specs.Named.{AreNamed, IsBelow, IsNamed};
@@ -36,6 +36,31 @@ pub(crate) fn is_of(schema: &Schema, named: &[Option<EntityId>], entity: EntityI
         }
     }
     false
+}
+
+/// Whether one of the entities is this one.
+pub(crate) fn is_named(schema: &Schema, named: &[Option<EntityId>], entity: EntityId) -> bool
+    requires named { (ks : List (List ℕ)) × AreNamed schema.now ks named.now }
+    requires entity { IsEntityOf schema.now entity }
+    ensures { (ks : List (List ℕ)) → AreNamed schema.now ks named.now → (IsTrue result ↔ AnyIn ks (λ k. entity_name schema.now entity ≡ k)) }
+{
+    schema.one_id();
+    for place in 0..named.len() {
+        if is_this(named[place], entity) {
+            return true;
+        }
+    }
+    false
+}
+
+/// Whether there is an entity, and it is this one.
+fn is_this(named: Option<EntityId>, entity: EntityId) -> bool
+    ensures { IsTrue result ↔ (named ≡ Some entity) }
+{
+    match named {
+        Some(own) => own == entity,
+        None => false,
+    }
 }
 
 /// Whether there is an entity, and it is this one or has it as an ancestor.

@@ -35,6 +35,9 @@ pub struct InverseCount {
 /// The faults of the instances of a file by the bounds of INVERSE attributes, in the order of the instances, and of one instance in the
 /// order of the rules. The entities are those of the instances: `None` for one that is complex or whose keyword names no entity. Memory
 /// alone can fail.
+///
+/// Cost: As `all_not_unique`, once by the entities that have the attributes and once by those that refer. A counter
+/// takes some 50 bytes, for each attribute and each instance that is referred to by it.
 pub fn all_inverse_counts(
     alloc: Global,
     schema: &Schema,
@@ -44,6 +47,9 @@ pub fn all_inverse_counts(
 ) -> Result<Vec<InverseCount>, AllocError>
     requires rules { AreInverseRulesOf schema.now rules.now }
     requires entities { AreSimpleEntities schema.now (map plain_instance instances.now) entities.now }
+    // Exactly the instances whose count is not within the bounds, each with this count: the sum over all instances of
+    // the entity that refers of their references to the name by the attribute, in lists and typed values too; each
+    // counts for a BAG, and otherwise an instance once.
     ensures { IfOk result (λ faults. AreInverseCounts schema.now rules.now (map plain_instance instances.now) faults.items) }
 {
     let counters = count_all(alloc, schema, rules, instances, entities)?;

@@ -13,7 +13,7 @@ use std::alloc::AllocError;
 /// No exponent of a number that is compared is as great as this.
 const FAR: u64 = 100_000_000_000_000_000;
 
-/// The digits of a number before its point and behind it.
+/// The digits of a number before its point and after it.
 #[derive(Clone, Copy)]
 struct Digits<'a> {
     whole: &'a [u8],
@@ -27,7 +27,7 @@ struct Power {
     down: u64,
 }
 
-/// The part before the first such byte, and the part behind it.
+/// The part before the first such byte, and the part after it.
 fn parted(text: &[u8], byte: u8) -> (&[u8], &[u8])
     ensures before { result.0.now ≡ before_first byte text.entry.now }
     ensures behind { result.1.now ≡ behind_first byte text.entry.now }
@@ -113,7 +113,7 @@ impl<'a> Digits<'a> {
         }
     }
 
-    /// Without the zeros behind.
+    /// Without the zeros after it.
     fn before_zeros(self) -> Digits<'a>
         ensures { result.whole.now ++ result.fraction.now ≡ before_zeros (self.entry.whole.now ++ self.entry.fraction.now) }
     {
@@ -151,7 +151,7 @@ impl<'a> Digits<'a> {
     }
 }
 
-/// Adds digits behind `-` if they are negative, and their end.
+/// Adds digits after `-` if they are negative, and their end.
 fn push_signed(code: &mut Vec<u8>, minus: bool, digits: Digits<'_>) -> Result<(), AllocError>
     ensures { OnOk result (code.new.items ≡ code.old.items ++ bytes_code (signed minus (digits.entry.whole.now ++ digits.entry.fraction.now))) }
 {

@@ -17,10 +17,9 @@ ghost use Rattle.p21_rules.specs.Parameter.{IsOf};
 use crate::attributes::parameter;
 use crate::code::push_number;
 use crate::concerned::{Subject, concerns_of, empty_room, subject_of};
-use crate::elements::{elements_of, first_type};
 use crate::firsts::{Firsts, first_of, no_firsts};
 use crate::rule::UniqueRule;
-use crate::value::push_value;
+use crate::slots::push_attribute;
 use p21_schema::{AttrId, EntityId, Schema};
 use p21_text::items_are_unique;
 use p21_tree::RawInstance;
@@ -39,8 +38,13 @@ pub struct NotUnique {
 
 /// The faults of the instances of a file by rules of UNIQUE, in the order of the instances, and of one instance in the order of the
 /// rules. An instance of which a value is `$`, `*`, a real whose exponent is 10^17 or more or -10^17 or less, a list with such an element or a list
-/// for which the type is no aggregate is passed over by the rule. The entities are those of the instances: `None` for one that is complex or
+/// for which the type is no aggregate is skipped by the rule. The entities are those of the instances: `None` for one that is complex or
 /// whose keyword names no entity. Memory alone can fail.
+///
+/// Cost: Once a bit for each entity of the schema and each rule, and the numbers of the rules of each entity. For
+/// each instance a look at the numbers of its entity, and for a complex one a look-up for each record. For each rule
+/// that concerns it, its values, in time and memory, and a search through the attributes of its entity. Elements of a
+/// SET or a BAG are held once more in memory, and sorted.
 pub fn all_not_unique(
     alloc: Global,
     schema: &Schema,
@@ -50,6 +54,8 @@ pub fn all_not_unique(
 ) -> Result<Vec<NotUnique>, AllocError>
     requires rules { AreRulesOf schema.now rules.now }
     requires entities { AreSimpleEntities schema.now (map plain_instance instances.now) entities.now }
+    // Exactly the instances that have under a rule the values of an earlier one, each with the name of the first
+    // such.
     ensures { IfOk result (λ faults. AreFaults schema.now rules.now (map plain_instance instances.now) faults.items) }
 {
     let wanted = wanted_entities(alloc, rules)?;
@@ -187,11 +193,7 @@ fn push_values(
             Some(param) => param,
             None => return Ok(false),
         };
-        let texpr = match first_type(schema.declarations(*attribute)) {
-            Some(texpr) => texpr,
-            None => return Ok(false),
-        };
-        if !push_value(schema, elements_of(schema, texpr), code, param)? {
+        if !push_attribute(schema, named, instance, *attribute, code, param)? {
             return Ok(false);
         }
     }

@@ -9,11 +9,11 @@ ghost use Rattle.p21_rules.specs.Elements.{AreElements, IsElementsOf};
 ghost use Rattle.p21_rules.specs.Pushed.{AreEachPushed, IsPushed, codes_code};
 
 use crate::binary::push_binary;
-use crate::code::{push_bytes, push_items, push_number};
+use crate::code::{push_bytes, push_number};
 use crate::elements::{Elements, elements_of, elements_typed};
 use crate::number::{push_integer, push_real};
+use crate::text::push_text;
 use p21_schema::Schema;
-use p21_text::items;
 use p21_tree::Param;
 use std::alloc::AllocError;
 
@@ -37,8 +37,7 @@ pub(crate) fn push_value<'s>(
         }
         Param::Real(text) => push_real(code, text),
         Param::Str(body) => {
-            code.push(2)?;
-            push_items(code, items(body))?;
+            push_text(code, body)?;
             Ok(true)
         }
         Param::Enumeration(name) => {
@@ -82,10 +81,11 @@ fn push_list<'s>(
 {
     schema.fits();
     let inner = elements_of(schema, elements.item);
-    code.push(7)?;
     if elements.ordered {
+        code.push(7)?;
         return push_ordered(schema, inner, code, params);
     }
+    code.push(8)?;
     push_unordered(schema, inner, code, params)
 }
 

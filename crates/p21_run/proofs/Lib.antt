@@ -1,3 +1,5 @@
 pub mod InputLemmas
 pub mod OutputLemmas
 pub mod DueLemmas
+pub mod RunLemmas
+pub mod ClauseLemmas

@@ -55,11 +55,12 @@ pub record IsRefusal (schema_text text : List ℕ) : Type 0 where
 
 -- The text that is due with an outcome: the line of the schema's fault where it declares nothing, and otherwise the report of
 -- the file against the schema that it declares, under these rules.
+-- A schema's fault is of the first condition that its text fails. The outcome is that of a model or of a fault.
 abbrev pub IsDue : (all : Bool) → Rules → List ℕ → List ℕ → Outcome → List ℕ → Type 0
 IsDue all rules schema_text file outcome.SchemaRefused text = IsRefusal schema_text text
 IsDue all rules schema_text file o text = (s : Schema) × express.IsReading schema_text s × IsReport all (with_rules s rules) file o text
 
--- The text that is due is written, and nothing else; nothing is written for want of memory; where a reader or the writer failed,
+-- The text that is due is written, and nothing else; nothing is written for lack of memory; where a reader or the writer failed,
 -- or a bound was passed, a front of a text that is due is written, or nothing.
 abbrev pub Writes : (all : Bool) → Rules → List ℕ → List ℕ → Outcome → Option (List ℕ) → Option (List ℕ) → Type 0
 Writes all rules schema_text file outcome.Device old new = Keeps old new ⊎ ((o : Outcome) × (text : List ℕ) × (n : ℕ) × IsDue all rules schema_text file o text × Appends old new (take n text))

@@ -1,3 +1,5 @@
 pub mod Marks
 pub mod Stream
 pub mod Due
+pub mod Run
+pub mod Check

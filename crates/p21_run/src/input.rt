@@ -2,8 +2,10 @@
 
 ghost use Rattle.std.specs.Prelude.{◌≡◌, ◌+◌, ◌<◌, ◌≤◌, ◌++◌, false, true, length, vec_len, min, Err, IfOk, IfSome, OnOk};
 ghost use Rattle.std.specs.Io.KnownBytes.{IsAtEnd};
+ghost use Rattle.p21_run.specs.Run.{outcome_without};
 ghost use Rattle.p21_run.specs.declared.input.InputError.TheVariants.{Device, Memory};
 
+use crate::outcome::Outcome;
 use crate::source::{IoFault, Source};
 use std::alloc::{AllocError, Global};
 
@@ -48,16 +50,35 @@ impl From<AllocError> for InputError {
     }
 }
 
+impl InputError {
+    /// The outcome of a run that has no answer for it.
+    pub fn outcome(self) -> Outcome
+        // The outcome of the same name.
+        ensures { result ≡ outcome_without self }
+    {
+        match self {
+            InputError::Device => Outcome::Device,
+            InputError::Memory => Outcome::Memory,
+        }
+    }
+}
+
 /// Reads a source to its end. `Device` where a call fails or a bound is passed.
 pub fn read_bounded<S: Source>(
     alloc: Global,
     source: &mut S,
     bounds: Bounds,
 ) -> Result<Vec<u8>, InputError>
+    // Of a source that tells its bytes, those that it had left.
     ensures whole { IfOk result (λ bytes. IfSome (S.remaining source.old) (λ all. bytes.items ≡ all)) }
+    // At most as many as the limit.
     ensures bounded { IfOk result (λ bytes. vec_len bytes ≤ bounds.bytes) }
+    // None is left.
     ensures at_end { IfOk result (λ _. IsAtEnd (S.remaining source.new)) }
+    // A source that tells its bytes and never failed gives Device only where it was interrupted, or has at least as
+    // many bytes as a limit.
     ensures cause { result ≡ Err Device → S.marked source.new ≡ false → IfSome (S.remaining source.old) (λ all. min bounds.bytes bounds.calls ≤ length all) }
+    // If a source fails that had not failed before, the result is Device.
     ensures failed { S.failed source.old ≡ false → S.failed source.new ≡ true → result ≡ Err Device }
 {
     let mut chunk = vec![in alloc; 0u8; CHUNK]?;

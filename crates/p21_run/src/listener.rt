@@ -26,7 +26,7 @@ pub trait Listener {
     /// Hears why the text of a schema is refused: what the report tells.
     fn hear_refused(&mut self, text: &[u8], error: &SchemaError);
 
-    /// Is handed what was read of the file, when the report is made and nothing more is asked of it. It drops it; who ends right behind
+    /// Is handed what was read of the file, when the report is made and nothing more is asked of it. It drops it; who ends right after
     /// the run may forget it, and so save the time of going through it.
     fn let_go<T: Drop>(&mut self, _read: T) {}
 }

@@ -14,9 +14,14 @@ pub struct OutputError;
 
 /// Writes a text in so many calls at most. Where that fails, a front of it is written.
 pub fn write_bounded<S: Sink>(sink: &mut S, text: &[u8], calls: u64) -> Result<(), OutputError>
+    // The text is written, to a sink that tells its bytes.
     ensures whole { OnOk result (Appends (S.taken sink.old) (S.taken sink.new) text.now) }
+    // Otherwise a prefix of it is.
     ensures front { OnErr result ((n : ℕ) × Appends (S.taken sink.old) (S.taken sink.new) (take n text.now)) }
+    // It fails only where the sink failed, was interrupted or took no byte, or the text has at least as many bytes as
+    // there may be calls.
     ensures cause { OnErr result (S.marked sink.new ≡ false → calls ≤ length text.now) }
+    // After a success, a sink that had not failed before has not failed.
     ensures unfailed { OnOk result (S.failed sink.new ≡ S.failed sink.old) }
 {
     let mut rest = text;

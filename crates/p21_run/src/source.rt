@@ -17,6 +17,9 @@ pub enum IoFault {
 }
 
 /// What gives bytes.
+///
+/// Its ghosts say whether it ever returned an error (`marked`), whether it ever failed (`failed`), and which bytes
+/// are left, if it tells them (`remaining`).
 pub trait Source {
     // Whether it ever answered a fault.
     ghost marked: { Self → Bool };
@@ -30,13 +33,20 @@ pub trait Source {
     /// Gives the next bytes, at most as many as there is room for, and says how many: 0 into some room is the end. A fault
     /// leaves the bytes as they were.
     fn read(&mut self, into: &mut [u8]) -> Result<usize, IoFault>
+        // At most as many bytes as there is room for.
         ensures bound { ReadsAtMost result into.new }
+        // They are the first of those that were left.
         ensures bytes { ReadConsumes (remaining self.old) (remaining self.new) result into.new }
+        // `marked` says whether it ever returned an error.
         ensures mark { marked self.new ≡ (marked self.old || is_fault result) }
+        // `failed` says whether one of these errors was more than an interruption.
         ensures failure { failed self.new ≡ (failed self.old || is_failure result) };
 }
 
 /// What takes bytes.
+///
+/// Its ghosts say whether it ever returned an error or took no byte (`marked`), whether it ever failed (`failed`),
+/// and which bytes it took, if it tells them (`taken`).
 pub trait Sink {
     // Whether it ever answered a fault, or took no byte of some.
     ghost marked: { Self → Bool };
@@ -49,9 +59,13 @@ pub trait Sink {
 
     /// Takes the first of some bytes, and says how many. A fault leaves what was taken as it was.
     fn write(&mut self, from: &[u8]) -> Result<usize, IoFault>
+        // At most as many bytes as were given.
         ensures bound { WritesAtMost result from.now }
+        // They follow those that were taken.
         ensures bytes { WriteAppends (taken self.old) (taken self.new) result from.now }
+        // `marked` says whether it ever returned an error, or took no byte of some.
         ensures mark { marked self.new ≡ (marked self.old || is_fault_or_nothing result from.now) }
+        // `failed` says whether one of these errors was more than an interruption.
         ensures failure { failed self.new ≡ (failed self.old || is_failure result) };
 }
 
@@ -83,6 +97,8 @@ impl<T> Stream<T> {
     }
 
     /// The last error by which the reader or the writer failed.
+    ///
+    /// Which error it is is tested.
     pub fn error(&self) -> Option<io::Error> {
         self.error
     }

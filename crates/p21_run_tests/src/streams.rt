@@ -13,7 +13,7 @@ pub(crate) enum Turn {
     Fails,
 }
 
-/// What calls do, one after the other: so many do the first, and all behind them the other.
+/// What calls do, one after the other: so many do the first, and all after them the other.
 #[derive(Clone, Copy, Debug)]
 pub(crate) struct Turns {
     first: Turn,
@@ -29,7 +29,7 @@ impl Turns {
         then: Turn::Moves,
     };
 
-    /// So many calls move bytes, and behind them each does this.
+    /// So many calls move bytes, and after them each does this.
     pub(crate) fn until(calls: u64, then: Turn) -> Turns {
         Turns {
             first: Turn::Moves,
@@ -38,7 +38,7 @@ impl Turns {
         }
     }
 
-    /// So many calls are interrupted, and behind them each moves bytes.
+    /// So many calls are interrupted, and after them each moves bytes.
     pub(crate) fn behind(calls: u64) -> Turns {
         Turns {
             first: Turn::IsInterrupted,

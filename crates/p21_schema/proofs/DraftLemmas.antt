@@ -19,7 +19,7 @@ either_false : (b : Bool) → (b || false) ≡ b
 either_false true = refl
 either_false false = refl
 
--- an attribute that is put behind the others has the mark of the row
+-- an attribute that is put after the others has the mark of the row
 put_marks : (marks : List ℕ) (number : ℕ) (row : List AttrId) (a : AttrId) → AreMarks marks number row → a.index < length marks → AreMarks (set marks a.index number) number (row ++ a ∷ [])
 put_marks marks number row a h less = record {
   marked = λ b below.
@@ -119,7 +119,7 @@ in_any [] x i = absurd i
 in_any (y ∷ ys) x (inl e) = let t : same_id y x ≡ true = eq-eqb y.index x.index (ap (λ (u : AttrId). u.index) e) in rw t refl
 in_any (y ∷ ys) x (inr i) = ap (λ (b : Bool). same_id y x || b) (in_any ys x i) ∙ either_true (same_id y x)
 
--- what is new is put behind the others
+-- what is new is put after the others
 pub all_new : (r xs : List AttrId) → AreDistinct (r ++ xs) → all_kept r xs ≡ r ++ xs
 all_new r [] d = sym (append-nil r)
 all_new r (x ∷ xs) d =

@@ -1,4 +1,4 @@
--- Worked examples: the diamond of a small schema, and a type behind two names.
+-- Worked examples: the diamond of a small schema, and a type after two names.
 use Rattle.std.proofs.Common.{ℕ, false, true, List, [], ◌∷◌, Some, None, refl, inl, inr, ◌≡◌}
 use Rattle.std.specs.Prelude.{codes}
 use Rattle.p21_express.specs.Schema.{Schema, Entity, Attribute, Defined, integer, plain, named}

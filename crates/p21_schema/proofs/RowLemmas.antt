@@ -182,7 +182,7 @@ own_below (e ∷ es) (suc i) k less h =
     let ih = own_below es i k (omega arith) h in
     omega (arith, ih, length-append (own_attributes e) (attributes_of (take i es)), length-append (own_attributes e) (attributes_of es))
 
--- the own attributes of an entity stand upwards, and not behind the last of all
+-- the own attributes of an entity stand upwards, and not after the last of all
 pub own_upward : (s : Schema) (own : List Own) → IsOwnTable s own → (v : ℕ) → v < length own → (get_or own v no_own).from ≤ (get_or own v no_own).to
 own_upward s own t v less = let is = (t.rows v (subst (λ u. v < u) t.count less)).count in omega (arith, is)
 

@@ -19,7 +19,7 @@ pub record Declaration : Type 0 where
   pub entity : List ℕ
   pub form : Form
 
--- an attribute as an entity writes it; `of` is the entity behind SELF, where it is declared again
+-- an attribute as an entity writes it; `of` is the entity after SELF, where it is declared again
 pub record Written : Type 0 where
   pub entity : List ℕ
   pub name : List ℕ
@@ -40,6 +40,7 @@ abbrev pub derived_in : Entity → List Written
 derived_in e = map (written_derived e.name) e.derived
 
 -- what entities write, in the order of the text
+-- The explicit attributes of each entity, then those of DERIVE.
 abbrev pub written : List Entity → List Written
 written [] = []
 written (e ∷ es) = explicit_in e ++ derived_in e ++ written es

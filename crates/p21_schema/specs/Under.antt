@@ -24,6 +24,7 @@ IsResolved entities types (resolved.Select v) (select ns) = map (target_name ent
 IsResolved entities types (resolved.Plain e) (plain x) = resolved_expr entities types e ≡ Some x
 IsResolved entities types _ _ = ⊥
 
+-- The same with an entity or a type in the place of each name.
 abbrev pub IsResolvedIn : Schema → Resolved → Underlying → Type 0
 IsResolvedIn s = IsResolved (map (λ e. e.name) s.entities) (map (λ t. t.name) s.types)
 

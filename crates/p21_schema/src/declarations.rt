@@ -152,7 +152,7 @@ fn add(
     Ok(())
 }
 
-/// The explicit declarations of an entity behind the others.
+/// The explicit declarations of an entity after the others.
 fn add_explicit(
     alloc: Global,
     known: &Known,
@@ -177,7 +177,7 @@ fn add_explicit(
     Ok(())
 }
 
-/// The declarations of an entity in DERIVE behind the others.
+/// The declarations of an entity in DERIVE after the others.
 fn add_derived(
     known: &Known,
     entity: usize,

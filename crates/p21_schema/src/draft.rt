@@ -1,4 +1,4 @@
-//! The row of an entity while it is made.
+//! The attributes of an entity, inherited ones first, while they are put together.
 
 ghost use Rattle.std.specs.Prelude.{◌≡◌, ◌<◌, ◌≤◌, ◌-◌, ◌++◌, ℕ, List, [], length, get_or, replicate, IfOk, OnOk};
 ghost use Rattle.p21_express.specs.WellFormed.{IsIn};
@@ -32,7 +32,7 @@ impl Draft {
         })
     }
 
-    /// An attribute behind the others, where it does not stand among them.
+    /// An attribute after the others, where it does not stand among them.
     fn keep(&mut self, attribute: AttrId) -> Result<(), AllocError>
         requires draft { IsDraft self.old }
         requires known { attribute.index < length self.old.marks.items }
@@ -45,7 +45,7 @@ impl Draft {
         Ok(())
     }
 
-    /// Each of these attributes behind the others, where it does not stand among them.
+    /// Each of these attributes after the others, where it does not stand among them.
     fn keep_all(&mut self, attributes: &[AttrId]) -> Result<(), AllocError>
         requires draft { IsDraft self.old }
         requires known { (a : AttrId) → IsIn attributes.now a → a.index < length self.old.marks.items }
@@ -57,7 +57,7 @@ impl Draft {
         Ok(())
     }
 
-    /// The own attributes of an entity behind the others.
+    /// The own attributes of an entity after the others.
     fn keep_own(&mut self, own: Own) -> Result<(), AllocError>
         requires draft { IsDraft self.old }
         requires own { own.from ≤ own.to }
@@ -70,7 +70,7 @@ impl Draft {
         Ok(())
     }
 
-    /// Each attribute of an entity's row behind the others, where it does not stand among them.
+    /// Each attribute of an entity's row after the others, where it does not stand among them.
     fn keep_row(&mut self, alloc: Global, rows: &[Row], entity: usize) -> Result<(), AllocError>
         requires draft { IsDraft self.old }
         requires rows { (all : List (List AttrId)) × (AreRowsOver all rows.now × (entity < length rows.now)) }

@@ -45,7 +45,7 @@ impl Names {
         self.key
     }
 
-    /// A further name behind the others.
+    /// A further name after the others.
     pub(crate) fn push(&mut self, alloc: Global, name: &[u8]) -> Result<(), AllocError>
         requires { ¬ (IsIn self.old name.now) }
         ensures { OnOk result (self.new ≡ self.old ++ name.now ∷ []) }

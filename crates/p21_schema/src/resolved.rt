@@ -38,7 +38,7 @@ pub enum ResolvedExpr {
     },
     List {
         bounds: Bounds,
-        /// Whether UNIQUE stands behind OF: no two elements may be equal.
+        /// Whether UNIQUE stands after OF: no two elements may be equal.
         unique: bool,
         item: Box<ResolvedExpr>,
     },

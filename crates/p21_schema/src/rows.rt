@@ -1,4 +1,4 @@
-//! The own attributes and the row of each entity.
+//! The attributes of each entity: its own, and all with inherited ones in the order of a record.
 
 ghost use Rattle.std.specs.Prelude.{◌≡◌, ◌<◌, ◌≤◌, ◌++◌, ℕ, List, [], Some, reverse, slice_get, replicate, length, get_or, map, take, IfOk, OnOk};
 ghost use Rattle.p21_express.specs.Schema.{Schema};

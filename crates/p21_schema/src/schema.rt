@@ -89,14 +89,22 @@ impl Schema {
     ghost use Rattle.p21_schema.specs.Rules.{with_rules};
     ghost use Rattle.p21_schema.specs.Select.{SelectReaches, ReachesA, ReachesType, ReachesEntity};
 
-    /// The table of declarations that fit together, under these rules. It is refused for want of memory alone. Names are hashed by a
+    /// The table of declarations that fit together, under these rules. It is refused for lack of memory alone. Names are hashed by a
     /// key that is always the same: whoever knows it can choose names that take long.
+    ///
+    /// Cost: O(w) for each supertype and each item of a SELECT that is named, where w = n / 64 for n declarations; n
+    /// * n / 8 bytes for entities, and for types with what they reach, requested at once. An entity with one
+    /// supertype takes its own attributes; one with several, the attributes of their rows in time, and 8 bytes for
+    /// each attribute that the row of the first supertype has not. A row of at most 32 attributes is kept whole. A
+    /// redeclaration takes one bit an entity, and a look at the names of the entities above.
     pub fn build(
         alloc: Global,
         declarations: Declarations,
         rules: Rules,
     ) -> Result<Schema, AllocError>
         requires { IsWellFormed (plain_schema declarations) }
+        // The schema is the declarations, under the rules. That it is refused for out of memory alone is known by
+        // review.
         ensures { IfOk result (λ schema. schema ≡ with_rules (plain_schema declarations) rules) }
     {
         Schema::build_with_key(alloc, declarations, rules, HashKey::default())
@@ -171,7 +179,7 @@ impl Schema {
         &self.declarations
     }
 
-    /// The name behind SCHEMA.
+    /// The name after SCHEMA.
     pub fn name(&self) -> &[u8]
         ensures { result.now ≡ self.now.name }
     {
@@ -186,6 +194,8 @@ impl Schema {
     }
 
     /// The key by which names are hashed. Nothing else hangs on it.
+    ///
+    /// That this is the key is known by review. No contract depends on it.
     pub fn hash_key(&self) -> HashKey {
         self.entity_names.key()
     }
@@ -236,7 +246,7 @@ impl Schema {
         }
     }
 
-    /// Whether ABSTRACT SUPERTYPE stands behind the entity's name.
+    /// Whether ABSTRACT SUPERTYPE stands after the entity's name.
     pub fn is_abstract(&self, entity: EntityId) -> bool
         requires { IsEntityOf self.now entity }
         ensures { result ≡ (entity_at self.now entity).is_abstract }
@@ -253,6 +263,8 @@ impl Schema {
     }
 
     /// Whether the first entity is the second, or has it as an ancestor.
+    ///
+    /// Cost: One bit is read.
     pub fn is_a(&self, entity: EntityId, other: EntityId) -> bool
         requires entity { IsEntityOf self.now entity }
         requires other { IsEntityOf self.now other }
@@ -270,10 +282,15 @@ impl Schema {
     }
 
     /// An attribute of the entity's row: those of its supertypes' rows in order, then its own, each at its first place.
+    ///
+    /// Cost: O(1) for a row of at most 32 attributes; otherwise the first supertypes, up to the one that brings the
+    /// attribute.
     pub fn row(&self, entity: EntityId, position: usize) -> AttrId
         requires entity { IsEntityOf self.now entity }
         requires position { (row : List Origin) × (IsRow self.now (entity_name self.now entity) row × (position < length row)) }
+        // It is an attribute of the schema.
         ensures known { IsAttributeOf self.now result }
+        // The attribute at this place of each row of the entity.
         ensures row { (row : List Origin) → IsRow self.now (entity_name self.now entity) row → slice_get row position ≡ Some (attribute_at self.now result) }
     {
         self.rows.attribute(entity.index, position)
@@ -292,7 +309,9 @@ impl Schema {
     pub fn own(&self, entity: EntityId, position: usize) -> AttrId
         requires entity { IsEntityOf self.now entity }
         requires position { position < length (own_attributes (entity_at self.now entity)) }
+        // It is an attribute of the schema.
         ensures known { IsAttributeOf self.now result }
+        // The attribute at this place.
         ensures own { slice_get (own_attributes (entity_at self.now entity)) position ≡ Some (attribute_at self.now result) }
     {
         let own = self.own[entity.index];
@@ -310,6 +329,8 @@ impl Schema {
     }
 
     /// Whether an ENUMERATION stands under the type, and the name is one of its items.
+    ///
+    /// Cost: The items of the ENUMERATION.
     pub fn has_item(&self, id: TypeId, name: &[u8]) -> bool
         requires { IsTypeOf self.now id }
         ensures { IsTrue result ↔ HasItem self.now (type_name self.now id) name.now }
@@ -332,6 +353,8 @@ impl Schema {
 
     /// The defined or enumeration type of this name that the SELECT reaches, or `None` where it reaches none. A SELECT
     /// reaches its items, and what the SELECTs among them reach; a type that is no SELECT reaches nothing.
+    ///
+    /// Cost: One bit is read.
     pub fn select_has(&self, select: TypeId, name: &[u8]) -> Option<TypeId>
         requires { IsTypeOf self.now select }
         ensures { MatchOption result (¬ (ReachesType self.now (type_name self.now select) name.now)) (λ t. IsTypeOf self.now t × ((type_name self.now t ≡ name.now) × ReachesType self.now (type_name self.now select) name.now)) }
@@ -345,6 +368,8 @@ impl Schema {
     }
 
     /// Whether the SELECT reaches this very entity.
+    ///
+    /// Cost: One bit is read.
     pub fn select_reaches(&self, select: TypeId, entity: EntityId) -> bool
         requires select { IsTypeOf self.now select }
         requires entity { IsEntityOf self.now entity }
@@ -354,6 +379,8 @@ impl Schema {
     }
 
     /// Whether the SELECT reaches the entity or an ancestor of it.
+    ///
+    /// Cost: O(n / 64) for n entities.
     pub fn select_admits(&self, select: TypeId, entity: EntityId) -> bool
         requires select { IsTypeOf self.now select }
         requires entity { IsEntityOf self.now entity }
@@ -365,6 +392,8 @@ impl Schema {
     }
 
     /// Whether the SELECT reaches an entity.
+    ///
+    /// Cost: O(n / 64) for n entities.
     pub fn select_has_entity(&self, select: TypeId) -> bool
         requires { IsTypeOf self.now select }
         ensures { IsTrue result ↔ ReachesEntity self.now (type_name self.now select) }

@@ -1,4 +1,4 @@
-//! What each SELECT reaches.
+//! Which entities and types each SELECT contains, at any depth.
 
 ghost use Rattle.std.specs.Prelude.{◌≡◌, ◌<◌, ℕ, List, [], length, map, IfOk};
 ghost use Rattle.p21_express.specs.Schema.{Schema};

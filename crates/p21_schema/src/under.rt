@@ -1,4 +1,4 @@
-//! What stands under each type.
+//! What each defined type is in the end: a SELECT, an ENUMERATION, or a type of values.
 
 ghost use Rattle.std.specs.Prelude.{◌≡◌, ◌<◌, ◌⊎◌, ◌↔◌, List, ℕ, [], Some, length, get_or, map, IfOk, IsTrue, MatchOption};
 ghost use Rattle.std.specs.List.{AllByRecursion};

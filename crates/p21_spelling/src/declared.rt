@@ -26,6 +26,8 @@ pub fn spell_names(
     text: &[u8],
     declarations: &Declarations,
 ) -> Result<Spellings, AllocError>
+    // As many names as are declared, in their order: of entities, of newly declared explicit attributes and of types.
+    // Each is the declared name but for the case of letters. That the case is that of the text is tested.
     ensures { IfOk result (AreSpelled (plain_schema declarations.now)) }
 {
     let mut entities = Vec::new(alloc);
@@ -62,7 +64,7 @@ fn type_spellings(
     Ok(spelled)
 }
 
-/// Adds how the text behind an entity's first semicolon spells the attributes that it newly declares, and answers the text behind them.
+/// Adds how the text after an entity's first semicolon spells the attributes that it newly declares, and answers the text after them.
 fn push_attributes<'t>(
     alloc: Global,
     spelled: &mut Vec<Vec<u8>>,
@@ -78,7 +80,7 @@ fn push_attributes<'t>(
     Ok(rest)
 }
 
-/// Adds the spelling of an attribute, where it is newly declared, and answers the text behind its comma or its declaration.
+/// Adds the spelling of an attribute, where it is newly declared, and answers the text after its comma or its declaration.
 fn push_attribute<'t>(
     alloc: Global,
     spelled: &mut Vec<Vec<u8>>,
@@ -118,7 +120,7 @@ fn push(
     Ok(())
 }
 
-/// The name behind the next such keyword that this name follows, as the text spells it, and the text behind it; nothing, and the text
+/// The name after the next such keyword that this name follows, as the text spells it, and the text after it; nothing, and the text
 /// itself, where there is none.
 fn declaration<'t>(text: &'t [u8], keyword: &[u8], name: &[u8]) -> (&'t [u8], &'t [u8]) {
     let mut rest = text;
@@ -134,7 +136,7 @@ fn declaration<'t>(text: &'t [u8], keyword: &[u8], name: &[u8]) -> (&'t [u8], &'
     (&[], text)
 }
 
-/// The next word and the text behind it; nothing at the end.
+/// The next word and the text after it; nothing at the end.
 fn word(text: &[u8]) -> (&[u8], &[u8]) {
     match next_word(text) {
         Some(found) => found,
@@ -142,7 +144,7 @@ fn word(text: &[u8]) -> (&[u8], &[u8]) {
     }
 }
 
-/// The text behind the next semicolon, which stands in no string and no remark.
+/// The text after the next semicolon, which stands in no string and no remark.
 fn behind_semicolon(text: &[u8]) -> &[u8] {
     let mut rest = text;
     while let Some((first, behind)) = next_word(rest) {

@@ -81,8 +81,9 @@ fn front_len(text: &[u8]) -> usize
     }
 }
 
-/// The next name, or byte that stands by itself, and the text behind it. White space, remarks, strings and digits are passed.
+/// The next name, or byte that stands by itself, and the text after it. White space, remarks, strings and digits are passed.
 pub fn next_word(text: &[u8]) -> Option<(&[u8], &[u8])>
+    // What is left after a word is shorter. Which word it is is tested.
     ensures { IfSome result (λ found. length found.1.now < length text.entry.now) }
 {
     let mut rest = text;

@@ -21,7 +21,7 @@ binary_all (b ∷ c ∷ s) h = (hex_by_range b (inl (h.0, omega arith)), h.2)
 not_quote : IsHexByte 34 → ⊥
 not_quote h = let ranges = range_of_hex 34 h.0 h.1 in omega arith
 
--- what a binary says of the bytes behind its first quote
+-- what a binary says of the bytes after its first quote
 binary_parts : (tail front behind : List ℕ) → 34 ∷ tail ≡ front ++ behind → Shape front behind → (s : List ℕ) × (tail ≡ s ++ (34 ∷ behind)) × IsBinary s × (length front ≡ 1 + length s + 1)
 binary_parts tail front behind g k =
     let u = only_binary 34 tail front behind g refl k in
@@ -41,7 +41,7 @@ binary_front tail n r h quote b = front_by (34 ∷ tail) (1 + n + 1) (token.bina
       let short : length u.0 ≤ n = run_longest IsHexByte tail n r u.0 (34 ∷ behind) u.1 (binary_all u.0 u.2) in
       omega (arith, u.3)
 
--- the digits are no binary's, or no quote stands behind them
+-- the digits are no binary's, or no quote stands after them
 pub binary_none : (tail : List ℕ) (n : ℕ) → IsRun IsHexByte tail n → (n < length tail → get_or tail n 0 ≡ 34 → IsBinary (take n tail) → ⊥) → Front (34 ∷ tail) 0 token.bad
 binary_none tail n r none = none_by (34 ∷ tail) (λ h. cc) none_here where
   none_here : (front behind : List ℕ) → 34 ∷ tail ≡ front ++ behind → Shape front behind → ⊥

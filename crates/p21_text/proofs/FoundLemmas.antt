@@ -180,7 +180,7 @@ begins_with (t ∷ tail) (m ∷ mark) h =
     let others : tail ≡ mark ++ drop (length mark) tail = begins_with tail mark parts.1 in
     cc
 
--- what the code finds at the front, as a row of the table with this behind it
+-- what the code finds at the front, as a row of the table with this after it
 abbrev pub IsFound : ℕ → List ℕ → List ℕ → Type 0
 IsFound part text behind = IsItem part (take (shape text) text) behind (part_after part text) (items_at part text)
 
@@ -249,7 +249,7 @@ found_byte part text behind e0 e1 e2 h =
     let some = not_nil (slice_index text 4) parts.1 in
     rw (test, take_five text some, e0, e1, e2) (Items.hex (two_hex text parts.0 parts.1))
 
--- what stands behind `\X2\` or `\X4\`, as the test on it says
+-- what stands after `\X2\` or `\X4\`, as the test on it says
 pub record IsRun (size : ℕ) (text : List ℕ) : Type 0 where
   pub solidus : slice_index text 3 ≡ 92
   pub some : 0 < digits_run text
@@ -337,7 +337,7 @@ found_hex part text behind e0 e1 h =
     (went (nat_eq (slice_index text 2) 50)))
     (went (nat_eq (slice_index text 2) 92))
 
--- the part behind a reverse solidus
+-- the part after a reverse solidus
 abbrev solidus_part : ℕ → List ℕ → ℕ
 solidus_part part text = cond (nat_eq (slice_index text 1) 80) (slice_index text 2 - 64) part
 
@@ -444,7 +444,7 @@ split_test : (a b : Bool) (m n : ℕ) → cond (a && b) m n ≡ cond a (cond b m
 split_test true b m n = refl
 split_test false b m n = refl
 
--- the part behind, by two tests or by one and then the other
+-- the part after it, by two tests or by one and then the other
 part_is : (b part : ℕ) (text : List ℕ) → part_by b part text ≡ cond (nat_eq b 92) (solidus_part part text) part
 part_is b part text = split_test (nat_eq b 92) (nat_eq (slice_index text 1) 80) (slice_index text 2 - 64) part
 

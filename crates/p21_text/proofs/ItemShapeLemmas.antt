@@ -47,14 +47,14 @@ groups_all n text values (Items.more {front = front} {rest = rest} {values = oth
     let more = groups_all n rest others g in
     (rw et (all_hex_append front rest first.0 more.0), rw et (omega (arith, length-append front rest, first.1, more.1)))
 
--- the shape of a run of r digits, with what stands behind it
+-- the shape of a run of r digits, with what stands after it
 abbrev run_shape : ℕ → ℕ → List ℕ → ℕ
 run_shape size r tail = cond (nat_lt 0 r && nat_eq (r % size) 0 && starts_with nat_eq tail closing) (8 + r) 0
 
 run_ok : (size r : ℕ) (behind : List ℕ) → 0 < r → r % size ≡ 0 → run_shape size r (closing ++ behind) ≡ 8 + r
 run_ok size r behind some whole = rw (lt-ltb 0 r some, whole) refl
 
--- the run that stands behind `\X2\` or `\X4\`
+-- the run that stands after `\X2\` or `\X4\`
 pub run_of : (d : ℕ) (groups behind : List ℕ) → AllHex groups → digits_run (92 ∷ 88 ∷ d ∷ 92 ∷ ((groups ++ closing) ++ behind)) ≡ length groups
 run_of d groups behind hex =
     ap (prefix_len hex_byte) (append_assoc groups closing behind) ∙ run_is groups (88 ∷ 48 ∷ 92 ∷ behind) 92 hex refl

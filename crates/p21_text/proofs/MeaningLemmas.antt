@@ -1,4 +1,4 @@
--- What the code's tests on a directive say of the digits behind it.
+-- What the code's tests on a directive say of the digits after it.
 use Rattle.std.proofs.Common.{◌≡◌, ◌≢◌, ℕ, ◌<◌, ⊎_elim, true, false, List, drop, slice_index, refl, arith, nat_eq}
 use Rattle.std.proofs.lemmas.Bool.Decides.{nat_tests}
 use Rattle.p21_text.specs.ItemShapes.{groups_shape, hex_shape, solidus_shape}
@@ -12,7 +12,7 @@ narrow_groups text h = record { hex = run_hex (drop 4 text); whole = rw (run_len
 wide_groups : (text : List ℕ) → 0 < groups_shape 8 text → AreGroups true (run_digits text)
 wide_groups text h = record { hex = run_hex (drop 4 text); whole = rw (run_len text) (run_found 8 text h).whole }
 
--- behind `\X` stands a run, if no `\` follows
+-- after `\X` stands a run, if no `\` follows
 pub run_groups_are : (text : List ℕ) → 0 < hex_shape text → slice_index text 2 ≢ 92 → AreGroups (nat_eq (slice_index text 2) 52) (run_digits text)
 run_groups_are text h other =
     let not_two : nat_eq (slice_index text 2) 92 ≡ false = grind (arith, nat_tests) in
@@ -32,7 +32,7 @@ run_groups_are text h other =
 pub run_items : (text : List ℕ) → slice_index text 2 ≢ 92 → hex_items text ≡ units (nat_eq (slice_index text 2) 52) (run_digits text)
 run_items text other = let not_two : nat_eq (slice_index text 2) 92 ≡ false = grind (arith, nat_tests) in rw not_two refl
 
--- behind a reverse solidus stands `X`, if none of the others does
+-- after a reverse solidus stands `X`, if none of the others does
 pub hex_left : (text : List ℕ) → 0 < solidus_shape text → slice_index text 1 ≢ 92 → slice_index text 1 ≢ 80 → slice_index text 1 ≢ 83 → 0 < hex_shape text
 hex_left text h not_doubled not_choice not_page =
     let a : nat_eq (slice_index text 1) 92 ≡ false = grind (arith, nat_tests) in

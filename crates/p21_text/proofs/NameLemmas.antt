@@ -24,7 +24,7 @@ decimal_grows : (high : ℕ) (ds : List ℕ) → high ≤ decimal_from high ds
 decimal_grows high [] = omega arith
 decimal_grows high (b ∷ ds) = let more = decimal_grows (10 * high + (b - 48)) ds in omega arith
 
--- what a name says of the bytes behind its `#`
+-- what a name says of the bytes after its `#`
 name_parts : (tail front behind : List ℕ) → 35 ∷ tail ≡ front ++ behind → Shape front behind → NameFront front behind
 name_parts tail front behind e s = only_name 35 tail front behind e refl s
 

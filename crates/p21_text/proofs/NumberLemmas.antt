@@ -58,7 +58,7 @@ by_signs a b c d e (signed x xs f p k) (plain l) stops = absurd (apart c d x xs 
 by_signs a b c d e (plain k) (signed y ys g q l) stops = absurd (apart a b y ys c d e (digits_first a k) g q)
 by_signs a b c d e (plain k) (plain l) stops = digits_longest a b c d e l stops
 
--- of two integers at one front, the one behind which no Digit stands is the longer
+-- of two integers at one front, the one after which no Digit stands is the longer
 int_front_longest : (a b c d : List ℕ) → a ++ b ≡ c ++ d → IsInt a → IsInt c → NotBefore IsDigit b → length c ≤ length a
 int_front_longest a b c d e i j stops = by_signs a b c d e (int_cases a i) (int_cases c j) stops
 
@@ -142,7 +142,7 @@ by_first : (text front behind : List ℕ) → FirstIs IsNumberByte text → text
 by_first [] front behind f e s = absurd f
 by_first (b ∷ tail) front behind f e s = only_number b tail front behind e f s
 
--- a real's integer, and its point and fraction behind it
+-- a real's integer, and its point and fraction after it
 real_parts : (text front behind : List ℕ) (r : IsReal front) → text ≡ front ++ behind → text ≡ r.whole ++ (46 ∷ ((r.fraction ++ r.exponent) ++ behind))
 real_parts text front behind r e =
     e ∙ ap (λ t. t ++ behind) r.spelled ∙ append_assoc r.whole (46 ∷ (r.fraction ++ r.exponent)) behind

@@ -103,7 +103,7 @@ more_longer text n k m u p fits (more front rest e v s) =
     let all : m ≡ length front + length rest = sym (length-take-le m text fits) ∙ ap length e ∙ length-append front rest in
     omega arith
 
--- one separator, and those of what is behind it
+-- one separator, and those of what is after it
 pub passes_more : (text : List ℕ) (n k : ℕ) → UnitIs text n → Passes (drop n text) k → Passes text (n + k)
 passes_more text n k u p = record {
   fits = (let f = p.fits in let some = u.fits in omega (arith, length-drop n text));
@@ -130,7 +130,7 @@ occurs_end body = record {
   reads = λ i below. get_or-append-add body mark i 0;
 }
 
--- `*/` stands at place k of what is behind the opening, and nowhere before
+-- `*/` stands at place k of what is after the opening, and nowhere before
 module _ (body : List ℕ) (k : ℕ) (found : OccursAt body mark k) (first : NoneBefore (OccursAt body mark) 0 (length body + 1) k) where
   ends : body ≡ take k body ++ (42 ∷ 47 ∷ drop (k + 2) body)
   ends =

@@ -6,7 +6,7 @@ use Rattle.std.proofs.lemmas.List.{take-append-drop, take_at, drop_at, length-ap
 pub cut : (text : List ℕ) (m : ℕ) → text ≡ take m text ++ drop m text
 cut text m = sym (take-append-drop m text)
 
--- a front is the first so many elements, and what is behind it the rest
+-- a front is the first so many elements, and what is after it the rest
 pub take_front : (text front behind : List ℕ) → text ≡ front ++ behind → take (length front) text ≡ front
 take_front text front behind e = rw e (take_at front behind (length front) refl)
 
@@ -16,7 +16,7 @@ drop_front text front behind e = rw e (drop_at front behind (length front) refl)
 pub front_fits : (text front behind : List ℕ) → text ≡ front ++ behind → length front ≤ length text
 front_fits text front behind e = rw e (rw length-append (omega arith))
 
--- two fronts of one length are one, and so is what is behind them
+-- two fronts of one length are one, and so is what is after them
 pub same_front : (a b c d : List ℕ) → a ++ b ≡ c ++ d → length a ≡ length c → (a ≡ c) × (b ≡ d)
 same_front [] b [] d e h = (refl, e)
 same_front [] b (y ∷ c) d e h = absurd (omega arith)

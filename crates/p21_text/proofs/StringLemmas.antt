@@ -27,7 +27,7 @@ bytes_of text h = λ k. let fits : Fits w8 (get_or text k 0) = h k in omega (ari
 pub bytes_drop : (n : ℕ) (text : List ℕ) → AreBytes text → AreBytes (drop n text)
 bytes_drop n text h = λ k. rw (get_or-drop n text k 0) (h (n + k))
 
--- an item of a body is one with an apostrophe behind the body
+-- an item of a body is one with an apostrophe after the body
 item_further : (part next : ℕ) (front rest more : List ℕ) (items : List Item) → IsItem part front rest next items → IsItem part front (rest ++ 39 ∷ more) next items
 item_further part next front rest more items (Items.plain p) = Items.plain p
 item_further part next front rest more items Items.apostrophe = Items.apostrophe
@@ -68,7 +68,7 @@ zero_or : (n : ℕ) → (n ≡ 0) ⊎ (0 < n)
 zero_or zero = inl refl
 zero_or (suc n) = inr (omega arith)
 
--- behind an item of one byte stands the rest of the text
+-- after an item of one byte stands the rest of the text
 pub one_same : (text : List ℕ) → shape text ≡ 1 → BeginsUtf8 (slice_index text 0 ∷ drop (shape text) text) → BeginsUtf8 text
 one_same [] one b = cc
 one_same (c ∷ text) one b = subst (λ n. BeginsUtf8 (c ∷ drop n (c ∷ text))) one b
@@ -132,7 +132,7 @@ at_drop text n m k e = rw e (sym (get_or-drop n text m 0))
 shape_doubled : (text : List ℕ) → slice_index text 0 ≡ 39 → slice_index text 1 ≡ 39 → shape text ≡ 2
 shape_doubled text q r = rw (q, r) refl
 
--- where a string closes stands an apostrophe, and no second one behind it
+-- where a string closes stands an apostrophe, and no second one after it
 pub closes_mark : (text : List ℕ) (n : ℕ) → Closes text n → slice_index text n ≡ 39
 closes_mark text n (Closing.here z q) = q
 closes_mark text n (Closing.later {n = m} some c e) = at_drop text (shape text) m n e ∙ closes_mark (drop (shape text) text) m c

@@ -1,5 +1,5 @@
 -- A character above 127 in UTF-8: its bytes are above 127, so it begins in a string's body exactly where it
--- begins in the text with the closing apostrophe behind the body.
+-- begins in the text with the closing apostrophe after the body.
 use Rattle.std.proofs.Common.{◌≡◌, ◌≢◌, ℕ, ◌≤◌, ⊎_elim, false, List, [], ◌∷◌, ◌++◌, length, take, drop, slice_index, get_or, Option, Some, None, refl, sym, ap, ◌∙◌, arith, length-append, append_assoc, le-ltb, lt-ltb}
 use Rattle.std.specs.Char.{encode_utf8}
 use Rattle.std.specs.List.{AllByRecursion}
@@ -62,7 +62,7 @@ utf8_first c front rest h =
 pub utf8_decoded : (c : ℕ) (front rest : List ℕ) → IsUtf8Of c front → decoded (front ++ rest) ≡ good c (length front)
 utf8_decoded c front rest h = rw (h.spelled) (decoded-encode c rest h.scalar)
 
--- a character begins in a body exactly where it begins with an apostrophe behind the body
+-- a character begins in a body exactly where it begins with an apostrophe after the body
 pub utf8_in_body : (body more : List ℕ) → BeginsUtf8 (body ++ 39 ∷ more) → BeginsUtf8 body
 utf8_in_body body more b =
     let high : AllHigh b.front = rw (b.character.spelled) (encode_high b.code b.character.above) in

@@ -80,7 +80,7 @@ utf32_is us is Items.none = refl
 utf32_is us is (Items.plain {u = u} {us = vs} {is = more} s h) = rw (alone_scalar u s, utf32_is vs more h) refl
 utf32_is us is (Items.other {u = u} {us = vs} {is = more} s h) = rw (alone_other u s, utf32_is vs more h) refl
 
--- the same items, and the same part behind them
+-- the same items, and the same part after them
 abbrev pub Means : ℕ → List ℕ → ℕ → List Item → Type 0
 Means part text next items = (items_at part text ≡ items) × (part_after part text ≡ next)
 

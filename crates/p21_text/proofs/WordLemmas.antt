@@ -19,7 +19,7 @@ name_first : (s : List ℕ) → IsName s → FirstIs IsUpper s
 name_first [] h = h
 name_first (b ∷ s) h = h.0
 
--- the run of letters and digits behind a first Upper is a name
+-- the run of letters and digits after a first Upper is a name
 pub name_of : (text : List ℕ) (n : ℕ) → FirstIs IsUpper text → IsRun IsNameByte text n → IsName (take n text)
 name_of [] n f r = absurd f
 name_of (b ∷ text) zero f r = absurd (r.stops (inl f))
@@ -36,7 +36,7 @@ iso_run text behind n e r = sym (run_exact IsNameByte text n r (73 ∷ 83 ∷ 79
 end_iso_run : (text behind : List ℕ) (n : ℕ) → text ≡ end_iso_word ++ behind → IsRun IsNameByte text n → n ≡ 3
 end_iso_run text behind n e r = sym (run_exact IsNameByte text n r (69 ∷ 78 ∷ 68 ∷ []) (45 ∷ 73 ∷ 83 ∷ 79 ∷ 45 ∷ 49 ∷ 48 ∷ 51 ∷ 48 ∷ 51 ∷ 45 ∷ 50 ∷ 49 ∷ behind) e (inl (inl (omega arith)), (inl (inl (omega arith)), (inl (inl (omega arith)), tt))) (λ h. omega arith))
 
--- the text goes on with a dash behind its name
+-- the text goes on with a dash after its name
 pub record Dash (text : List ℕ) (n : ℕ) : Type 0 where
   pub inside : n < length text
   pub dash : get_or text n 0 ≡ 45
@@ -57,7 +57,7 @@ module _ (text : List ℕ) (n : ℕ) (f : FirstIs IsUpper text) (r : IsRun IsNam
         by_kind front behind e (inr (inl h)) = absurd (no_iso behind (e ∙ ap (λ t. t ++ behind) h))
         by_kind front behind e (inr (inr h)) = absurd (no_end_iso behind (e ∙ ap (λ t. t ++ behind) h))
 
-  -- both words have a dash behind their first three letters
+  -- both words have a dash after their first three letters
   pub no_dash : (Dash text n → ⊥) → Front text n (token.keyword (take n text))
   no_dash none = keyword (λ behind e. none (iso_dash text behind n e r)) (λ behind e. none (end_iso_dash text behind n e r))
 
@@ -93,7 +93,7 @@ user_none text tail e none = rw e (none_by (33 ∷ tail) (λ h. cc) none_here) w
       let u = only_user 33 tail front behind g refl s in
       none (first_front IsUpper tail u.0 behind (tail_is 33 33 tail u.0 front behind g u.1) (name_first u.0 u.2))
 
--- what an enumeration says of the bytes behind its first point
+-- what an enumeration says of the bytes after its first point
 enumeration_parts : (tail front behind : List ℕ) → 46 ∷ tail ≡ front ++ behind → Shape front behind → (n : List ℕ) × (tail ≡ n ++ (46 ∷ behind)) × IsName n × (length front ≡ 1 + length n + 1)
 enumeration_parts tail front behind g s =
     let u = only_enumeration 46 tail front behind g refl s in

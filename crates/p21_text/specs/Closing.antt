@@ -1,4 +1,4 @@
--- Where a string closes, behind its first apostrophe: the items are passed one by one.
+-- Where a string closes, after its first apostrophe: the items are passed one by one.
 use Rattle.std.specs.Prelude.{◌≡◌, ◌≢◌, ℕ, ◌+◌, ◌<◌, List, drop, slice_index}
 use Rattle.p21_text.specs.ItemShapes.{shape}
 

@@ -5,6 +5,7 @@ use Rattle.p21_text.specs.Spelling.{Symbol, IsName, IsInt, IsReal, IsBinary}
 use Rattle.p21_text.specs.Spelling as token
 
 -- the text that a token carries is one of its kind: a keyword's is a name, a string's is a body with its items
+-- A binary carries its digits, and an instance name is below 2^64.
 abbrev pub IsContent : Symbol → Type 0
 IsContent (token.keyword s) = IsName s
 IsContent (token.user_keyword s) = (n : List ℕ) × (s ≡ 33 ∷ n) × IsName n

@@ -19,7 +19,7 @@ pub record IntIs (text : List ℕ) (n : ℕ) : Type 0 where
   pub is_int : IsInt (take n text)
   pub stops : NotBefore IsDigit (drop n text)
 
--- what may stand behind a real's point
+-- what may stand after a real's point
 pub record IsFraction (text : List ℕ) : Type 0 where
   pub digits : List ℕ
   pub exponent : List ℕ

@@ -16,7 +16,7 @@ hex_byte b = (nat_le 48 b && nat_le b 57) || (nat_le 65 b && nat_le b 70) || (na
 abbrev pub closing : List ℕ
 closing = 92 ∷ 88 ∷ 48 ∷ 92 ∷ []
 
--- the digits behind `\X2\` or `\X4\`
+-- the digits after `\X2\` or `\X4\`
 abbrev pub digits_run : List ℕ → ℕ
 digits_run text = prefix_len hex_byte (drop 4 text)
 

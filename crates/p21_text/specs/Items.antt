@@ -67,8 +67,9 @@ pub data IsUtf32 : List ℕ → List Item → Type 0 where
 abbrev pub IsPlain : ℕ → Type 0
 IsPlain b = (32 ≤ b) × (b ≤ 126) × (b ≢ 39) × (b ≢ 92)
 
--- One case of the table: the part of ISO 8859 before, the bytes written, the bytes behind them, the part
+-- One case of the table: the part of ISO 8859 before, the bytes written, the bytes after them, the part
 -- after, and the items. Parts count from 1; the letter of part p is the byte 64 + p.
+-- One case for each row of the table of string items of docs/FORMAT.md.
 pub data IsItem : ℕ → List ℕ → List ℕ → ℕ → List Item → Type 0 where
   plain : {part b : ℕ} {behind : List ℕ} → IsPlain b → IsItem part (b ∷ []) behind part (scalar b ∷ [])
   apostrophe : {part : ℕ} {behind : List ℕ} → IsItem part (39 ∷ 39 ∷ []) behind part (scalar 39 ∷ [])

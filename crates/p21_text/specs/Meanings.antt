@@ -24,7 +24,7 @@ pub record AreGroups (wide : Bool) (digits : List ℕ) : Type 0 where
   pub hex : AreHex digits
   pub whole : length digits % (if wide then 8 else 4) ≡ 0
 
--- these items, and this part behind them
+-- these items, and this part after them
 abbrev pub Means : Meaning → ℕ → List Item → ℕ → Type 0
 Means meaning.Nothing part items next = (items ≡ []) × (next ≡ part)
 Means (meaning.Part p) part items next = (items ≡ []) × (next ≡ p)
@@ -34,7 +34,7 @@ Means (meaning.Run digits wide) part items next = (items ≡ units wide digits.n
 abbrev pub IsMeaningOf : ℕ → List ℕ → Meaning → Type 0
 IsMeaningOf part text r = Means r part (items_at part text) (part_after part text)
 
--- the items that a row gives at once and by its digits, and the part behind it
+-- the items that a row gives at once and by its digits, and the part after it
 pub record Proceeds (p : Progress) (items : List Item) (next : ℕ) : Type 0 where
   pub items_are : items ≡ option_to_list (option_map item_of p.item) ++ units p.wide p.digits.now
   pub part_is : p.part ≡ next

@@ -4,7 +4,7 @@ use Rattle.std.specs.List.{AllByRecursion}
 use Rattle.p21_text.specs.Items.{IsHexDigit}
 use Rattle.p21_text.specs.Spelling.{IsUpper, IsDigit, NotBefore}
 
--- P holds of each of the first n bytes, and not of the byte behind them
+-- P holds of each of the first n bytes, and not of the byte after them
 pub record IsRun (P : ℕ → Type 0) (text : List ℕ) (n : ℕ) : Type 0 where
   pub fits : n ≤ length text
   pub each : AllByRecursion P (take n text)

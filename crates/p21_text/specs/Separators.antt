@@ -6,7 +6,7 @@ use Rattle.memchr.specs.Find.{OccursAt}
 abbrev pub IsWhite : ℕ → Type 0
 IsWhite b = ((9 ≤ b) × (b ≤ 13)) ⊎ (b ≡ 32)
 
--- `/*`, a body and `*/`; behind the `/*` the pair `*/` stands at the end alone
+-- `/*`, a body and `*/`; after the `/*` the pair `*/` stands at the end alone
 pub record IsComment (text : List ℕ) : Type 0 where
   pub body : List ℕ
   pub spelled : text ≡ 47 ∷ 42 ∷ (body ++ 42 ∷ 47 ∷ [])

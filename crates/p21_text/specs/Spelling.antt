@@ -57,7 +57,7 @@ IsUpper b = ((65 ≤ b) × (b ≤ 90)) ⊎ (b ≡ 95)
 abbrev pub IsDigit : ℕ → Type 0
 IsDigit b = (48 ≤ b) × (b ≤ 57)
 
--- an Upper, and Uppers and Digits behind it
+-- an Upper, and Uppers and Digits after it
 abbrev pub IsName : List ℕ → Type 0
 IsName [] = ⊥
 IsName (b ∷ rest) = IsUpper b × AllByRecursion (λ c. IsUpper c ⊎ IsDigit c) rest
@@ -94,7 +94,7 @@ pub record IsReal (text : List ℕ) : Type 0 where
   pub is_fraction : AllByRecursion IsDigit fraction
   pub is_exponent : IsExponent exponent
 
--- the value of digits to the base 10, behind those of the value `high`
+-- the value of digits to the base 10, after those of the value `high`
 abbrev pub decimal_from : ℕ → List ℕ → ℕ
 decimal_from high [] = high
 decimal_from high (b ∷ rest) = decimal_from (10 * high + (b - 48)) rest
@@ -114,12 +114,13 @@ abbrev pub bits_of : List ℕ → ℕ
 bits_of [] = 0
 bits_of (b ∷ rest) = 4 * length rest - (b - 48)
 
--- the byte behind is none of these
+-- the byte after is none of these
 abbrev pub NotBefore : (ℕ → Type 0) → List ℕ → Type 0
 NotBefore P [] = Unit {0}
 NotBefore P (b ∷ rest) = ¬ (P b)
 
 -- A text spells a token, where the text `behind` follows it.
+-- One line for each row of the token table of docs/FORMAT.md.
 abbrev pub Spells : List ℕ → List ℕ → Symbol → Type 0
 Spells text behind iso = text ≡ 73 ∷ 83 ∷ 79 ∷ 45 ∷ 49 ∷ 48 ∷ 51 ∷ 48 ∷ 51 ∷ 45 ∷ 50 ∷ 49 ∷ []
 Spells text behind end_iso = text ≡ 69 ∷ 78 ∷ 68 ∷ 45 ∷ 73 ∷ 83 ∷ 79 ∷ 45 ∷ 49 ∷ 48 ∷ 51 ∷ 48 ∷ 51 ∷ 45 ∷ 50 ∷ 49 ∷ []

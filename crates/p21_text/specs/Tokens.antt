@@ -26,13 +26,14 @@ pub data Front : List ℕ → ℕ → Symbol → Type 0 where
   ended : Front [] 0 end
   none : {text : List ℕ} → text ≢ [] → NoneBegins text → Front text 0 bad
 
--- a token, where it stands, and the place behind it
+-- a token, where it stands, and the place after it
 pub record Placed : Type 0 where
   pub start : ℕ
   pub after : ℕ
   pub token : Symbol
 
 -- The first token of a text from a place on.
+-- After the longest separators, the longest spelled prefix; End where nothing is left, Bad where no token begins.
 pub record First (text : List ℕ) (at : ℕ) (t : Placed) : Type 0 where
   pub gap : ℕ
   pub len : ℕ

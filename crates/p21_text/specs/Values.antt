@@ -8,7 +8,7 @@ use Rattle.p21_text.specs.ItemShapes.{plain_byte, shape, digits_run}
 abbrev pub hex_digit : ℕ → ℕ
 hex_digit b = if nat_lt b 58 then b - 48 else (if nat_lt b 97 then b - 55 else b - 87)
 
--- the value of digits to the base 16, behind those of the value `high`
+-- the value of digits to the base 16, after those of the value `high`
 abbrev pub hex_from : ℕ → List ℕ → ℕ
 hex_from high [] = high
 hex_from high (b ∷ rest) = hex_from (16 * high + hex_digit b) rest
@@ -43,7 +43,7 @@ utf16 (u ∷ v ∷ us) = if high_unit u && low_unit v then paired u v ∷ utf16 
 abbrev pub utf32 : List ℕ → List Item
 utf32 us = map alone us
 
--- the digits behind `\X2\` or `\X4\`
+-- the digits after `\X2\` or `\X4\`
 abbrev pub run_digits : List ℕ → List ℕ
 run_digits text = take (digits_run text) (drop 4 text)
 
@@ -71,15 +71,15 @@ special_items b part text =
 abbrev pub items_at : ℕ → List ℕ → List Item
 items_at part text = if plain_byte (slice_index text 0) then scalar (slice_index text 0) ∷ [] else special_items (slice_index text 0) part text
 
--- the part of ISO 8859 behind a reverse solidus
+-- the part of ISO 8859 after a reverse solidus
 abbrev pub solidus_part : ℕ → List ℕ → ℕ
 solidus_part part text = if slice_index text 1 == 80 then slice_index text 2 - 64 else part
 
--- the part behind a byte that is not plain
+-- the part after a byte that is not plain
 abbrev pub special_part : ℕ → ℕ → List ℕ → ℕ
 special_part b part text = if b == 92 then solidus_part part text else part
 
--- the part of ISO 8859 behind it
+-- the part of ISO 8859 after it
 abbrev pub part_after : ℕ → List ℕ → ℕ
 part_after part text = if slice_index text 0 == 92 && slice_index text 1 == 80 then slice_index text 2 - 64 else part
 

@@ -12,6 +12,7 @@ use std::alloc::{AllocError, Global};
 /// The items of a string, whose body `raw` is: what stands between the apostrophes of a string token.
 pub fn items(raw: &[u8]) -> StrItems<'_>
     requires { IsBody raw.now }
+    // The items that the iterator gives are all items of the string, in order.
     ensures { ItemsOf raw.entry.now (items_left result) }
 {
     StrItems::new(raw)

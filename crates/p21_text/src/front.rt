@@ -1,4 +1,4 @@
-//! The token that a text begins with.
+//! The token that a text begins with: its kind by its first byte.
 
 ghost use Rattle.std.specs.Prelude.{IfSome};
 ghost use Rattle.p21_text.specs.Spelling.{symbol};

@@ -34,7 +34,7 @@ pub(crate) fn name<'a>(tail: &[u8]) -> (Token<'a>, usize)
     }
 }
 
-/// A number with one more digit behind it.
+/// A number with one more digit after it.
 #[inline]
 fn with_digit(number: u64, digit: u8) -> Option<u64>
     requires { IsDigit digit }

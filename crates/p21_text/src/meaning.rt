@@ -1,4 +1,4 @@
-//! What the item at the front of a body means: a row of the table of string items.
+//! What an item of a string stands for, such as `\X\E9` or `\S\i`.
 
 ghost use Rattle.std.specs.Prelude.{◌≡◌, ◌<◌, ◌≤◌, [], ◌∷◌, true, slice_index, take, drop, unwrap_or};
 ghost use Rattle.std.specs.Prelude.{ℕ, List};
@@ -32,7 +32,7 @@ pub(crate) enum Meaning<'a> {
     Run(&'a [u8], bool),
 }
 
-/// What follows from a row: the part behind it, the item that it gives at once, and the digits of its groups.
+/// What follows from a row: the part after it, the item that it gives at once, and the digits of its groups.
 #[derive(Clone, Copy)]
 pub(crate) struct Progress<'a> {
     pub(crate) part: u8,
@@ -113,7 +113,7 @@ fn high_char(first: u8, text: &[u8]) -> char
     bstr::decode_utf8(text).0.unwrap_or(char::from(first))
 }
 
-/// The same behind a reverse solidus.
+/// The same after a reverse solidus.
 fn solidus_meaning(text: &[u8], part: u8) -> Meaning<'_>
     requires some { 0 < solidus_shape text.now }
     requires part { part ≤ 9 }
@@ -132,7 +132,7 @@ fn solidus_meaning(text: &[u8], part: u8) -> Meaning<'_>
     hex_meaning(text, part)
 }
 
-/// The character behind `\S\`.
+/// The character after `\S\`.
 fn page_item(byte: u8, part: u8) -> StrItem
     requires byte { byte ≤ 126 }
     requires part { part ≤ 9 }
@@ -158,7 +158,7 @@ fn hex_meaning(text: &[u8], part: u8) -> Meaning<'_>
     Meaning::Run(&text[4..4 + digits], third == b'4')
 }
 
-/// The value of the two digits behind `\X\`.
+/// The value of the two digits after `\X\`.
 fn two_digits(text: &[u8]) -> u8
     requires first { hex_byte (slice_index text.now 3) ≡ true }
     requires second { hex_byte (slice_index text.now 4) ≡ true }

@@ -17,13 +17,19 @@ use crate::token::Lexed;
 #[inline(always)]
 pub fn next_token(text: &[u8], at: usize) -> Lexed<'_>
     requires { at ≤ length text.now }
+    // The first token of the text from the place on: the longest separators are skipped, then comes the longest
+    // prefix that spells a token. Its start and end.
     ensures first { First text.now at (placed result) }
 
-    // What follows from `first`, for callers.
+    // It starts at the place or after it.
     ensures behind { at ≤ result.start }
+    // It does not end before its start.
     ensures ordered { result.start ≤ result.after }
+    // It ends in the text.
     ensures within { result.after ≤ length text.now }
+    // Each token but End and Bad ends after the place.
     ensures advances { ¬ (IsLast (symbol result.token)) → result.start < result.after }
+    // Its text is of its kind: that of a string is the body of one.
     ensures content { IsContent (symbol result.token) }
 {
     let rest = &text[at..];

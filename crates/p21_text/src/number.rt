@@ -26,7 +26,7 @@ pub(crate) fn number(text: &[u8]) -> (Token<'_>, usize)
     }
 }
 
-/// The length of the integer that a text begins with: a sign or none, and all the digits behind it.
+/// The length of the integer that a text begins with: a sign or none, and all the digits after it.
 #[inline]
 fn int_len(text: &[u8]) -> Option<usize>
     ensures { MatchOption result (NoFrontIs IsInt text.now) (λ n. IntIs text.now n) }
@@ -56,7 +56,7 @@ fn digits_len(text: &[u8]) -> Option<usize>
     if digits == 0 { None } else { Some(digits) }
 }
 
-/// The length of what may stand behind a real's point: digits, and an exponent where one follows.
+/// The length of what may stand after a real's point: digits, and an exponent where one follows.
 #[inline]
 fn fraction_len(text: &[u8]) -> usize
     ensures { LongestOf IsFraction text.now result }

@@ -8,6 +8,8 @@ ghost use Rattle.p21_text.specs.Gaps.{HasNoUnit, UnitIs};
 use memchr::memmem;
 
 /// How many bytes of white bytes and comments a text begins with, as many as there are. A comment that is not closed is none.
+///
+/// Cost: O(n) for n bytes of separators.
 #[inline]
 pub fn separators_len(text: &[u8]) -> usize
     ensures { Passes text.now result }

@@ -1,4 +1,4 @@
-//! How long the item at the front of a text is.
+//! How many bytes an item of a string takes.
 
 ghost use Rattle.std.specs.Prelude.{◌≡◌, ◌+◌, ◌<◌, ◌≤◌, length, slice_index};
 ghost use Rattle.p21_text.specs.ItemShapes.{byte_shape, choice_shape, control_byte, digits_run, groups_shape, hex_byte, hex_shape, high_shape, page_shape, plain_byte, shape, solidus_shape, special_shape};
@@ -58,7 +58,7 @@ fn special_len(first: u8, text: &[u8]) -> usize
     if is_control(first) { 1 } else { 0 }
 }
 
-/// The same behind a reverse solidus.
+/// The same after a reverse solidus.
 fn solidus_len(text: &[u8]) -> usize
     ensures { result ≡ solidus_shape text.now }
 {
@@ -144,7 +144,7 @@ fn groups_len(size: usize, text: &[u8]) -> usize
     }
 }
 
-/// The number of digits behind `\X2\` or `\X4\`.
+/// The number of digits after `\X2\` or `\X4\`.
 pub(crate) fn digits_len(text: &[u8]) -> usize
     requires { 4 ≤ length text.now }
     ensures run { result ≡ digits_run text.now }

@@ -48,7 +48,7 @@ pub enum Token<'a> {
 pub struct Lexed<'a> {
     /// The place of the token's first byte, in bytes from the text's first byte.
     pub start: usize,
-    /// The place behind the token's last byte; `start` where the token is `End` or `Bad`.
+    /// The place after the token's last byte; `start` where the token is `End` or `Bad`.
     pub after: usize,
     /// The token.
     pub token: Token<'a>,

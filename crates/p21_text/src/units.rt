@@ -1,4 +1,4 @@
-//! The characters of groups of four or eight digits.
+//! Characters of `\X2\` and `\X4\`: groups of four or eight hexadecimal digits.
 
 ghost use Rattle.std.specs.Prelude.{◌≡◌, ◌≤◌, ◌<◌, ◌^◌, ◌∷◌, ℕ, true, length, take, drop, slice_index};
 ghost use Rattle.p21_text.specs.Meanings.{AreGroups, AreHex, item_of};
@@ -68,7 +68,7 @@ fn lone(unit: u32) -> StrItem
     StrItem::Scalar(char::from_u32(unit).unwrap_or('\u{FFFD}'))
 }
 
-/// The character of a high surrogate and the low one behind it.
+/// The character of a high surrogate and the low one after it.
 fn pair(high: u32, low: u32) -> StrItem
     requires high { high_unit high ≡ true }
     requires low { low_unit low ≡ true }

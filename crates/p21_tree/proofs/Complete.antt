@@ -11,7 +11,7 @@ use Rattle.p21_tree.specs.Machine.{Stack, Mode, State, Answer, base, list, typed
 abbrev pub state : Mode → Stack → ℕ → State
 state mode stack room = record { mode = mode; stack = stack; room = room }
 
--- a parameter is wanted: at the head of a list, or behind a comma
+-- a parameter is wanted: at the head of a list, or after a comma
 abbrev pub wanted : Bool → Mode
 wanted true = first
 wanted false = want

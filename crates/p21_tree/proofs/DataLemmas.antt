@@ -46,14 +46,14 @@ keyword_goes k h = elim h [ ]
 pub name_goes : (n : ℕ) → ¬ (IsLast (token.name n))
 name_goes n h = elim h [ ]
 
--- behind one token that was wanted
+-- after one token that was wanted
 pub after_terminal : (w : Symbol) (Q : ℕ → List Placed → Type 0) (l : ℕ) (s : Source) (at : ℕ) (t : Placed) (f : Fault) → ¬ (IsLast w) → First s.text.now at t → t.token ≡ w → Fails Q l s t.after f → Fails (Then (Terminal w) Q) l s at f
 after_terminal w Q l s at t f g n e h = fails_after (Is w) Q l s at t f n (not_last t.token w e g) e h
 
 pub chain_terminal : (w : Symbol) (s : Source) (at : ℕ) (t : Placed) → ¬ (IsLast w) → First s.text.now at t → t.token ≡ w → Chain s at (shift s.base t ∷ []) t.after
 chain_terminal w s at t g n e = chain_one s at t n (not_last t.token w e g)
 
--- an instance behind its name
+-- an instance after its name
 
 module _ (s : Source) (at : ℕ) (equals : Placed) (first : First s.text.now at equals) (is_equals : equals.token ≡ token.equals) where
   pub fails_form : (f : Fault) → Fails Form 64 s equals.after f → Fails EqualsOn 64 s at f

@@ -159,7 +159,7 @@ instances_verdict ts =
 pub entities_verdict : (ts : List Placed) → Verdict Entities 64 ts
 entities_verdict ts = then_verdict EntityRecords (Terminal token.semi) 64 ts (some_terminal token.semi 64) (once_keyed EntityKey) (grows_keyed EntityKey) (goes_keyed EntityKey entity_goes) (keyed_verdict EntityKey (token.keyword []) 63 ts (([], grammar.standard), λ e. cc) entity_goes is_entity) (λ front rest e p. terminal_verdict token.semi 64 rest is_semi)
 
--- behind a token that the grammar names
+-- after a token that the grammar names
 pub terminal_then : (s : Symbol) (Q : Language) (ts : List Placed) → ((m : ℕ) → 64 ≤ m → (us : List Placed) × Q m us) → ¬ (IsLast s) → Decided (Is s) → ((us : List Placed) → Verdict Q 64 us) → Verdict (Then (Terminal s) Q) 64 ts
 terminal_then s Q ts i h d v = then_verdict (Terminal s) Q 64 ts i (once_terminal s) (grows_terminal s) (goes_terminal s h) (terminal_verdict s 64 ts d) (λ front rest e p. v rest)
 

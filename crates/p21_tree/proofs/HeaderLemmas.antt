@@ -26,7 +26,7 @@ use Rattle.p21_tree.proofs.ProgressLemmas.{chain_one, chain_then, fails_behind, 
 use Rattle.p21_tree.proofs.RecordLemmas.{key_not_last}
 use Rattle.p21_tree.proofs.DataLemmas.{semi_goes, iso_goes, keyword_goes, after_terminal, chain_terminal}
 
--- a header entity behind its keyword
+-- a header entity after its keyword
 
 pub once_arguments : Once Arguments
 once_arguments = once_then (Terminal token.lparen) Closed (once_terminal token.lparen) once_closed
@@ -175,7 +175,7 @@ module _ (s : Source) (iso semi header last : Placed) (n1 : First s.text.now 0 i
     are = record { iso = shift s.base iso; s1 = shift s.base semi; header = shift s.base header; s2 = shift s.base last; parts = refl; is_iso = e1; is_s1 = e2; is_header = e3; is_s2 = e4; place = refl };
   }
 
--- what stands behind them
+-- what stands after them
 
 module _ (s : Source) (at : ℕ) (semi data_ last : Placed) (n1 : First s.text.now at semi) (e1 : semi.token ≡ token.semi) where
   pub start_data : (f : Fault) → Fails (Terminal (token.keyword data_word)) 64 s semi.after f → Fails EndsecOn 64 s at f

@@ -41,7 +41,7 @@ none_semi (t ∷ ts) h = (All-head (λ x. x.token ≢ token.semi) t ts h, none_s
 pub semi_cons : (t u : Placed) (a pre x : List Placed) (s : Placed) (rest : List Placed) → t ≡ u → (m : List Placed) × (pre ≡ a ++ m) × (x ≡ m ++ s ∷ rest) → (m : List Placed) × (u ∷ pre ≡ (t ∷ a) ++ m) × (x ≡ m ++ s ∷ rest)
 semi_cons t u a pre x s rest e h = (h.0, ap (λ z. z ∷ pre) (sym e) ∙ ap (λ z. t ∷ z) h.1, h.2)
 
--- a semicolon stands behind what has none
+-- a semicolon stands after what has none
 pub semi_behind : (a x pre : List Placed) (s : Placed) (rest : List Placed) → NoneOf Semi a → s.token ≡ token.semi → a ++ x ≡ pre ++ s ∷ rest → (m : List Placed) × (pre ≡ a ++ m) × (x ≡ m ++ s ∷ rest)
 semi_behind [] x pre s rest n e f = (pre, refl, f)
 semi_behind (t ∷ a) x [] s rest n e f = absurd (n.0 (let g : t ≡ s = cc in ap (λ z. z.token) g ∙ e))
@@ -87,7 +87,7 @@ has_one_semi ts i h =
     begins _ i (sentence.complex {name} {ts = us} n e o c s hn he ho h hc hs) [] semi f = absurd (cc)
     begins _ i (sentence.complex {name} {ts = us} n e o c s hn he ho h hc hs) (t ∷ inner) semi f = (name, (let same : n ≡ t = cc in ap (λ x. x.token) (sym same) ∙ hn))
 
--- what stands behind a semicolon of an instance
+-- what stands after a semicolon of an instance
 pub nothing_behind : (l : ℕ) (ts a : List Placed) (s : Placed) (rest : List Placed) → Instances l ts → ts ≡ a ++ s ∷ rest → s.token ≡ token.semi → rest ≡ []
 nothing_behind l ts a s rest h e p =
     let i : Ending ts = ending l ts h in
@@ -153,7 +153,7 @@ no_semi body last f n e (reads front rest p h) = absurd (no_instance 64 (body ++
 no_semi body last f n e (leaves b t r k p s) = leaves_there (body ++ last ∷ []) (body ++ last ∷ []) [] f b t r k (sym (append-nil (body ++ last ∷ []))) p s
 no_semi body last f n e (begins h i) = absurd ((none_right IsLast body (last ∷ []) h).0 e)
 
--- What the tokens behind a preface are.
+-- What the tokens after a preface are.
 
 -- the fault there, and the instances before it
 pub record BodyStops (ts : List Placed) (is : List Instance) (kind : Kind) (at : ℕ) : Type 0 where
@@ -183,7 +183,7 @@ pub bad_no_tail : (body : List Placed) (last : Placed) → BeginsWithName body �
 bad_no_tail body last (inl h) e = name_no_tail body (last ∷ []) h
 bad_no_tail body last (inr h) e = subst (λ x. NoTail (x ++ last ∷ [])) (sym h) (λ f. let g : token.bad ≡ token.keyword endsec_word = sym e ∙ f in cc)
 
--- what leaves the instances leaves what stands behind a preface
+-- what leaves the instances leaves what stands after a preface
 pub leaves_body : (b : List Placed) (t : Placed) (r : List Placed) (k : Kind) → NoTail (b ++ t ∷ r) → Stuck Instances 64 b t k → Stuck Bodies 64 b t k
 leaves_body [] t r k n s =
     stuck_many Instances Tails 64 [] t k (stuck_same (Either (Then Instances Bodies) Tails) (Either Tails (Then Instances Bodies)) 64 [] t k (swap_into (Then Instances Bodies) Tails) (swap_into Tails (Then Instances Bodies))
@@ -236,7 +236,7 @@ tail_stops ts f i n (leaves b t r k e s) =
     }
 tail_stops ts f i n (begins g h) = absurd (no_go ts i g)
 
--- behind an instance
+-- after an instance
 
 pub body_more : (q rest : List Placed) (i : Instance) (o : Outcome) → IsInstance deepest q i → IsBodyOutcome rest o → IsBodyOutcome (q ++ rest) (behind i o)
 body_more q rest i (read is) h b = record { body = q ++ b.body; rest = b.rest; parts = ap (λ x. q ++ x) b.parts ∙ sym (append_assoc q b.body b.rest); are_instances = sentence.more q h b.are_instances; is_tail = b.is_tail }
@@ -291,7 +291,7 @@ in_order (parts.piece {ps} {tail} {rest} body semi end b n s e j) =
 in_order (parts.cut body end b n e) = gives_cut [] (end ∷ []) (body ++ end ∷ []) body end refl (name_no_tail body (end ∷ []) b) (none_semi body n) (not_semi end.token token.end e (λ f. cc)) (subst IsLast (sym e) text.at_end)
 in_order (parts.bad {ps} {tail} body last b n e) = gives_cut ps tail (body ++ last ∷ []) body last refl (bad_no_tail body last b e) (none_semi body n) (not_semi last.token token.bad e (λ f. cc)) (subst IsLast (sym e) text.at_bad)
 
--- behind the preface
+-- after the preface
 pub file_outcome : (ts rest : List Placed) (o : Opening) (found : Outcome) → IsPreface deepest ts o → IsBodyOutcome rest found → IsOutcome (ts ++ rest) o found
 file_outcome ts rest o (read is) h b = record { opening = ts; body = b.body; tail = b.rest; parts = ap (λ x. ts ++ x) b.parts; is_opening = h; are_instances = b.are_instances; is_tail = b.is_tail }
 file_outcome ts rest o (stopped is kind at) h b =

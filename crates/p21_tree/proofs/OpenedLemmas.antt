@@ -74,7 +74,7 @@ pub none_refused : (fs : List Frame) (ps : List Param) (room : ℕ) → (length 
 none_refused fs [] room h = absurd (h refl)
 none_refused fs (p ∷ ps) room h = refuses_all base fs refuses_base (plain p) (plain_all ps) room
 
--- a comma stands behind a parameter
+-- a comma stands after a parameter
 abbrev pub TakesComma : (Trees → Stack) → Type 0
 TakesComma around = (current : Trees) (t : Tree) (room : ℕ) → is_typed (around current) ≡ false → go (record { mode = want; stack = around (trees_append current t); room = room }) ≡ by_mode (after t) (around current) room comma
 
@@ -87,7 +87,7 @@ pub comma_taken : (fs : List Frame) (ps qs : List Param) (p : Param) (room : ℕ
 comma_taken fs ps qs p room h e =
     ap (λ z. go (record { mode = want; stack = opened_all base fs z; room = room })) (ap plain_all e ∙ plain_append ps p) ∙ takes_comma base fs (λ current t r i. refl) (plain_all ps) (plain p) room h
 
--- a parenthesis is closed behind a parameter
+-- a parenthesis is closed after a parameter
 
 pub closed_base : (stack : Stack) (ps qs : List Param) (p : Param) (room : ℕ) → stack ≡ base (plain_all ps) → qs ≡ ps ++ p ∷ [] → closed (plain_all qs) ≡ by_mode (after (plain p)) stack room close_
 closed_base stack ps qs p room e f =

@@ -54,7 +54,7 @@ fails_first P Q l s at f q h = fails_map P (Then P Q) l l s at f (λ b t k. stuc
 pub fails_second : (P Q : Language) (l : ℕ) (s : Source) (at mid : ℕ) (a : List Placed) (f : Fault) → Once P → Grows P → Chain s at a mid → P l a → Fails Q l s mid f → Fails (Then P Q) l s at f
 fails_second P Q l s at mid a f one grows c p h = fails_behind Q (Then P Q) l l s at mid a f c (λ b t k. stuck_second P Q l a b t k one grows p) h
 
--- behind one token
+-- after one token
 pub fails_after : (T : Symbol → Type 0) (Q : Language) (l : ℕ) (s : Source) (at : ℕ) (t : Placed) (f : Fault) → First s.text.now at t → ¬ (IsLast t.token) → T t.token → Fails Q l s t.after f → Fails (Then (Just T) Q) l s at f
 fails_after T Q l s at t f n last fits h = fails_second (Just T) Q l s at t.after (shift s.base t ∷ []) f (once_just T) (grows_just T) (chain_one s at t n last) (record { token = shift s.base t; alone = refl; fits = fits }) h
 

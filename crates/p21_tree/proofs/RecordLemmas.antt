@@ -55,7 +55,7 @@ pub is_open : (t : Token) → symbol t ≡ token.lparen → t ≡ variants.LPare
 is_open variants.LParen e = refl
 is_open _ e = absurd (cc)
 
--- a record behind its keyword
+-- a record after its keyword
 
 pub keyed_arguments : (s : Source) (at end left : ℕ) (k : List ℕ) (found : Trees) → Covers (λ ts. IsArguments left ts found) s at end → Covers (IsKeyed left k (record { keyword = k; params = found })) s at end
 keyed_arguments s at end left k found c = record {
@@ -121,7 +121,7 @@ covers_closed_records s at place l t rs c n e = record {
   are = record { body = c.tokens; close = shift s.base t; parts = refl; is_close = e; are_records = c.are };
 }
 
--- the faults behind the records so far are faults of all
+-- the faults after the records so far are faults of all
 pub faults_start : (s : Source) (at mid l : ℕ) (e : Entry) (f : Fault) → Covers (λ ts. IsRecord l (symbols ts) e) s at mid → Fails MoreRecords l s mid f → Fails SomeRecords l s at f
 faults_start s at mid l e f c h = fails_second Records MoreRecords l s at mid c.tokens f (once_keyed KeyToken) (grows_keyed KeyToken) c.chain (record_into l c.tokens e c.are) h
 

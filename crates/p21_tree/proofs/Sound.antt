@@ -13,7 +13,7 @@ abbrev pub WithCommas : ℕ → List Symbol → Trees → Type 0
 WithCommas left ts nil = ts ≡ []
 WithCommas left ts (cons t rest) = (p others : List Symbol) × (ts ≡ p ++ token.comma ∷ others) × IsParam left p t × WithCommas left others rest
 
--- The tokens up to where a parameter may begin: `left` more parentheses could be opened behind the first one,
+-- The tokens up to where a parameter may begin: `left` more parentheses could be opened after the first one,
 -- `room` more now.
 abbrev pub Inside : ℕ → Stack → ℕ → List Symbol → Type 0
 Inside left (base before) room ts = (room ≡ left) × WithCommas left ts before
@@ -152,7 +152,7 @@ mode_reads left (after t) (typed k below) room c s ts h i = behind_reads left k 
 pub step_reads : (left : ℕ) (s : State) (t : Symbol) (ts : List Symbol) → Reads left s ts → StepReads left (step s t) (ts ++ t ∷ [])
 step_reads left s t ts i = mode_reads left s.mode s.stack s.room (class_of t) t ts (class_says t) i
 
--- what an answer says of the tokens `ts`, behind the tokens `before`
+-- what an answer says of the tokens `ts`, after the tokens `before`
 abbrev pub AnswerReads : ℕ → Answer → List Symbol → List Symbol → Type 0
 AnswerReads left (going s) before ts = Reads left s (before ++ ts)
 AnswerReads left (ended found rest) before ts = (used : List Symbol) × (ts ≡ used ++ rest) × IsClosed left (before ++ used) found

@@ -12,7 +12,7 @@ use Rattle.p21_tree.proofs.ProgressLemmas.{shifted_append}
 abbrev pub OneFirst : Type 0
 OneFirst = (text : List ℕ) (at : ℕ) → HasOneFirstAtMost text at
 
--- what stands behind the first tokens of a list
+-- what stands after the first tokens of a list
 pub behind_front : OneFirst → {bytes : List ℕ} {at place : ℕ} {before : List Placed} → TokensUpTo bytes at before place → (t : Placed) → First bytes place t → (ts : List Placed) → Tokens bytes at ts → (behind : List Placed) × (ts ≡ before ++ t ∷ behind)
 behind_front one {bytes} (text.none {at}) t n _ (text.last {t = u} f l) = ([], ap (λ x. x ∷ []) (one bytes at u t f n))
 behind_front one {bytes} (text.none {at}) t n _ (text.more {t = u} {ts = us} f l r) = (us, ap (λ x. x ∷ us) (one bytes at u t f n))

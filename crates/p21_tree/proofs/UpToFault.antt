@@ -58,7 +58,7 @@ no_tail [] t h (inl n) = λ e. names_apart t.token n e
 no_tail [] t h (inr b) = λ e. let f : token.bad ≡ token.keyword endsec_word = sym b ∙ e in cc
 no_tail (x ∷ front) t h n = λ e. names_apart x.token (starts_instances 64 (x ∷ (front ++ h.rest)) h.sentence) e
 
--- behind whole instances, and behind the preface
+-- after whole instances, and after the preface
 
 behind_instances : (body front : List Placed) (is : List Instance) (t : Placed) (k : Kind) → IsInstances deepest body is → Stuck Bodies 64 front t k → Stuck Bodies 64 (body ++ front) t k
 behind_instances body front is t k sentence.none s = s

@@ -15,8 +15,10 @@ BeginsWithName (t ∷ ts) = (n : ℕ) × (t.token ≡ token.name n)
 abbrev pub HasNoSemi : List Placed → Type 0
 HasNoSemi ts = All (λ t. t.token ≢ token.semi) ts
 
--- The tokens of a file from behind its preface on, up to its first Bad, are those of its pieces in turn, without
+-- The tokens of a file from after its preface on, up to its first Bad, are those of its pieces in turn, without
 -- their Ends, and of its tail.
+-- A piece begins with a name and has its one semicolon before its End, or goes up to the End or the first Bad of the
+-- file. The tail begins with no name.
 pub data Joined : List (List Placed) → List Placed → List Placed → Type 0 where
   -- the tail begins with no name
   tail : {tail : List Placed} → IsTokenList tail → ¬ (BeginsWithName tail) → Joined [] tail tail
@@ -24,7 +26,7 @@ pub data Joined : List (List Placed) → List Placed → List Placed → Type 0 
   piece : {ps : List (List Placed)} {tail rest : List Placed} (body : List Placed) (semi end : Placed) → BeginsWithName body → HasNoSemi body → semi.token ≡ token.semi → end.token ≡ token.end → Joined ps tail rest → Joined ((body ++ semi ∷ end ∷ []) ∷ ps) tail (body ++ semi ∷ rest)
   -- one without a semicolon goes up to the End of the file, which is the tail
   cut : (body : List Placed) (end : Placed) → BeginsWithName body → HasNoSemi body → end.token ≡ token.end → Joined ((body ++ end ∷ []) ∷ []) (end ∷ []) (body ++ end ∷ [])
-  -- or up to the first Bad, which may be its first token; what stands behind it is of no account
+  -- or up to the first Bad, which may be its first token; what stands after it is of no account
   bad : {ps : List (List Placed)} {tail : List Placed} (body : List Placed) (last : Placed) → BeginsWithName body ⊎ (body ≡ []) → HasNoSemi body → last.token ≡ token.bad → Joined ((body ++ last ∷ []) ∷ ps) tail (body ++ last ∷ [])
 
 -- all instances, or a fault and the instances before it
@@ -57,7 +59,7 @@ pub record StopsBehind (ts : List Placed) (o : Opening) (is : List Instance) (ki
   pub kind_is : fault.kind ≡ kind
   pub place_is : fault.at ≡ at
 
--- the tokens of a file with this preface are the file of these instances, or have this fault behind them
+-- the tokens of a file with this preface are the file of these instances, or have this fault after them
 abbrev pub IsOutcome : List Placed → Opening → Outcome → Type 0
 IsOutcome ts o (read is) = IsFile deepest ts (record { opening = o; instances = is })
 IsOutcome ts o (stopped is kind at) = StopsBehind ts o is kind at
@@ -70,7 +72,7 @@ BeginsNoPreface ts = (front rest : List Placed) → ts ≡ front ++ rest → ¬ 
 abbrev pub PrefaceOrFault : Type 0
 PrefaceOrFault = (ts : List Placed) → IsTokenList ts → ((front : List Placed) × (rest : List Placed) × (ts ≡ front ++ rest) × prefaces deepest front) ⊎ ((f : FaultOf files ts) × IsFault prefaces f.before f.token f.kind f.at × BeginsNoPreface ts)
 
--- behind the preface, reading the parts of a file in order gives the tree or the fault of the file
+-- after the preface, reading the parts of a file in order gives the tree or the fault of the file
 abbrev pub PartsGiveFile : Type 0
 PartsGiveFile = (ts rest : List Placed) (o : Opening) (ps : List (List Placed)) (tail : List Placed) (found : Outcome) → IsPreface deepest ts o → Joined ps tail rest → ReadsInOrder ps tail found → IsOutcome (ts ++ rest) o found
 
@@ -84,11 +86,11 @@ pub record StopsAt (opening body front : List Placed) (t : Placed) (kind : Kind)
   pub is_fault : IsFault files (opening ++ (body ++ front)) t kind at
   pub no_more : (a b : List Placed) (i : Instance) → front ≡ a ++ b → ¬ (IsInstance deepest a i)
 
--- behind a preface and whole instances, the fault of a piece that stands before its semicolon is the file's
+-- after a preface and whole instances, the fault of a piece that stands before its semicolon is the file's
 abbrev pub PieceFaultIsOfFile : Type 0
 PieceFaultIsOfFile = (opening body front : List Placed) (o : Opening) (is : List Instance) (t : Placed) (kind : Kind) (at : ℕ) → IsPreface deepest opening o → IsInstances deepest body is → HasNoSemi front → BeginsWithName (front ++ t ∷ []) ⊎ (t.token ≡ token.bad) → IsFault pieces front t kind at → StopsAt opening body front t kind at
 
--- behind a preface and whole instances, the fault of a tail is the file's
+-- after a preface and whole instances, the fault of a tail is the file's
 abbrev pub TailFaultIsOfFile : Type 0
 TailFaultIsOfFile = (opening body front : List Placed) (o : Opening) (is : List Instance) (t : Placed) (kind : Kind) (at : ℕ) → IsPreface deepest opening o → IsInstances deepest body is → All (λ u. ¬ (IsLast u.token)) front → ¬ (BeginsWithName (front ++ t ∷ [])) → IsFault tails front t kind at → StopsAt opening body front t kind at
 
@@ -96,7 +98,7 @@ TailFaultIsOfFile = (opening body front : List Placed) (o : Opening) (is : List 
 abbrev pub PieceIsInstance : Type 0
 PieceIsInstance = (front : List Placed) (end : Placed) (i : Instance) → IsPiece deepest (front ++ end ∷ []) i → IsInstance deepest front i × ¬ (HasNoSemi front)
 
--- an End behind the first semicolon is no fault of a piece
+-- an End after the first semicolon is no fault of a piece
 abbrev pub NoFaultBehindSemi : Type 0
 NoFaultBehindSemi = (body : List Placed) (semi end : Placed) (kind : Kind) (at : ℕ) → HasNoSemi body → semi.token ≡ token.semi → end.token ≡ token.end → ¬ (IsFault pieces (body ++ semi ∷ []) end kind at)
 

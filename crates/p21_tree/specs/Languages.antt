@@ -15,7 +15,7 @@ pub record Just (T : Symbol → Type 0) (limit : ℕ) (ts : List Placed) : Type 
   pub alone : ts ≡ token ∷ []
   pub fits : T token.token
 
--- a sentence of one language, and behind it one of another
+-- a sentence of one language, and after it one of another
 pub record Then (P Q : ℕ → List Placed → Type 0) (limit : ℕ) (ts : List Placed) : Type 0 where
   pub front : List Placed
   pub back : List Placed
@@ -33,7 +33,7 @@ pub record Within (P : ℕ → List Placed → Type 0) (limit : ℕ) (ts : List 
   pub limit_is : limit ≡ suc left
   pub inside : P left ts
 
--- any number of sentences of one language, and behind them one of another
+-- any number of sentences of one language, and after them one of another
 pub data Many (P Q : ℕ → List Placed → Type 0) (limit : ℕ) : List Placed → Type 0 where
   stop : {ts : List Placed} → Q limit ts → Many P Q limit ts
   again : {ts : List Placed} (front back : List Placed) → ts ≡ front ++ back → P limit front → Many P Q limit back → Many P Q limit ts

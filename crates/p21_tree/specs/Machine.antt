@@ -36,7 +36,7 @@ class_of token.end = other
 class_of token.bad = other
 
 -- What stands open, the innermost first: a list, with the parameters before its last comma, or a
--- parenthesis behind a KEY. The outermost is the list of a record.
+-- parenthesis after a KEY. The outermost is the list of a record.
 pub data Stack : Type 0 where
   base : Trees → Stack
   list : Trees → Stack → Stack
@@ -117,6 +117,6 @@ unfoldable pub run : List Symbol → State → Answer
 run [] s = going s
 run (t ∷ ts) s = next s t ts (step s t) (run ts)
 
--- behind the parenthesis of a record, where `left` more may be opened
+-- after the parenthesis of a record, where `left` more may be opened
 abbrev pub start : ℕ → State
 start left = record { mode = first; stack = base nil; room = left }

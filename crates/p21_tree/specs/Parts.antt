@@ -49,7 +49,7 @@ pub record IsArguments (left : ℕ) (ts : List Placed) (found : Trees) : Type 0 
 abbrev pub Keyed : (Symbol → Type 0) → ℕ → List Placed → Type 0
 Keyed K = Within (Then (Just K) Arguments)
 
--- such tokens behind a keyword make a record
+-- such tokens after a keyword make a record
 abbrev pub IsKeyed : ℕ → List ℕ → Entry → List Placed → Type 0
 IsKeyed left k e ts = (t : Placed) → IsKey t.token k → IsRecord (suc left) (symbols (t ∷ ts)) e
 
@@ -105,7 +105,7 @@ EqualsOn = Then (Terminal token.equals) FormOn
 abbrev pub Instances : ℕ → List Placed → Type 0
 Instances = Then (Just NameToken) EqualsOn
 
--- such tokens, behind a name at a place, make an instance
+-- such tokens, after a name at a place, make an instance
 abbrev pub IsBehindName : ℕ → ℕ → Instance → List Placed → Type 0
 IsBehindName name at i ts = (n : Placed) → n.token ≡ token.name name → n.start ≡ at → IsInstance deepest (n ∷ ts) i
 
@@ -117,11 +117,11 @@ EntityRecords = Keyed EntityKey
 abbrev pub Entities : ℕ → List Placed → Type 0
 Entities = Then EntityRecords (Terminal token.semi)
 
--- the rest of a header entity behind its keyword, where its own parenthesis is not counted
+-- the rest of a header entity after its keyword, where its own parenthesis is not counted
 abbrev pub EntityRest : ℕ → List Placed → Type 0
 EntityRest = Then Arguments (Terminal token.semi)
 
--- such tokens behind a keyword make a header entity
+-- such tokens after a keyword make a header entity
 pub record IsBehindKey (k : List ℕ) (e : Entry) (ts : List Placed) : Type 0 where
   pub rest : List Placed
   pub semi : Placed
@@ -129,7 +129,7 @@ pub record IsBehindKey (k : List ℕ) (e : Entry) (ts : List Placed) : Type 0 wh
   pub is_semi : semi.token ≡ token.semi
   pub makes : (t : Placed) → IsKey t.token k → IsRecord deepest (symbols (t ∷ rest)) e
 
--- the tokens are header entities and the ENDSEC behind them
+-- the tokens are header entities and the ENDSEC after them
 pub record IsHeaderBody (ts : List Placed) (es : List Entry) : Type 0 where
   pub body : List Placed
   pub close : Placed
@@ -209,7 +209,7 @@ TailOn = Then (Terminal token.semi) EndIsos
 abbrev pub Tails : ℕ → List Placed → Type 0
 Tails = Then (Terminal (token.keyword endsec_word)) TailOn
 
--- such tokens behind ENDSEC make a tail
+-- such tokens after ENDSEC make a tail
 abbrev pub IsBehindEndsec : List Placed → Type 0
 IsBehindEndsec ts = (e : Placed) → e.token ≡ token.keyword endsec_word → IsTail (e ∷ ts)
 

@@ -1,4 +1,4 @@
--- How far the code has come in a source: the tokens behind it, with their places in the file.
+-- How far the code has come in a source: the tokens after it, with their places in the file.
 use Rattle.std.specs.Prelude.{◌≡◌, ℕ, ◌+◌, List}
 use Rattle.p21_text.specs.Tokens.{Placed, First, Tokens, TokensUpTo}
 use Rattle.p21_tree.specs.declared.source.Source.{Source}

@@ -67,7 +67,7 @@ pub record HasPieceFault (piece : Piece) (fault : Fault) : Type 0 where
   pub is_fault : IsFault pieces (shifted piece.at before) (shift piece.at token) kind fault.at
   pub kind_is : fault.kind ≡ fault_kind kind
 
--- A fault of the file that stands in its preface: no first tokens of the file, however it goes on behind the
+-- A fault of the file that stands in its preface: no first tokens of the file, however it goes on after the
 -- fault, are a preface.
 pub record HasPrefaceFault (text : List ℕ) (fault : Fault) : Type 0 where
   pub before : List Placed

@@ -17,7 +17,7 @@ use crate::terminals::Terminal;
 use crate::tokens::{expect, refused, token};
 use std::alloc::Global;
 
-/// Reads parameters and the parenthesis that closes them, and gives them with the place behind it. At most `left`
+/// Reads parameters and the parenthesis that closes them, and gives them with the place after it. At most `left`
 /// more parentheses may be open at once.
 fn parameters<'a>(
     alloc: Global,
@@ -54,7 +54,7 @@ fn parameters<'a>(
     }
 }
 
-/// Reads the parameters of a record in their parentheses, and gives them with the place behind them. Inside, at most
+/// Reads the parameters of a record in their parentheses, and gives them with the place after them. Inside, at most
 /// `left` more parentheses may be open at once.
 pub fn arguments<'a>(
     alloc: Global,

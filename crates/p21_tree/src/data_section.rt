@@ -19,7 +19,7 @@ use crate::tokens::{expect, is, refused, token};
 use p21_text::{Lexed, Token};
 use std::alloc::Global;
 
-/// Reads an instance whose name stands before a place, and gives it with the place behind it.
+/// Reads an instance whose name stands before a place, and gives it with the place after it.
 #[inline(always)]
 pub fn instance<'a>(
     alloc: Global,
@@ -54,7 +54,7 @@ pub fn instance<'a>(
     Ok((instance, semi.after))
 }
 
-/// Reads the rest of the file behind the `ENDSEC` of the data section.
+/// Reads the rest of the file after the `ENDSEC` of the data section.
 pub fn behind_endsec(source: Source<'_>, at: usize) -> Result<(), Fault>
     requires { at ≤ length source.text.now }
     ensures ok { OnOk result (Finishes IsBehindEndsec source.entry at) }
@@ -82,7 +82,7 @@ fn close<'a>(source: Source<'a>, at: usize, lexed: Lexed<'a>) -> Result<(), Faul
     }
 }
 
-/// Reads instances and the rest of the file behind them.
+/// Reads instances and the rest of the file after them.
 pub fn instances<'a>(
     alloc: Global,
     nest: &mut Nest<'a>,

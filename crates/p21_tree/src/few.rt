@@ -1,4 +1,4 @@
-//! Lists that are short: the records of an instance, and the parameters of a record.
+//! Lists that need no allocation while they are short.
 
 ghost use Rattle.std.specs.Prelude.{◌≡◌, ◌∷◌, [], length, IfOk};
 ghost use Rattle.p21_tree.specs.Few.{elements_in};

@@ -20,7 +20,7 @@ use crate::tokens::{expect, is, refused, token};
 use p21_text::first_has_content;
 use std::alloc::Global;
 
-/// Reads a header entity behind its keyword, and gives it with the place behind it.
+/// Reads a header entity after its keyword, and gives it with the place after it.
 fn entity<'a>(
     alloc: Global,
     nest: &mut Nest<'a>,
@@ -40,7 +40,7 @@ fn entity<'a>(
     Ok((HeaderEntity { keyword, params }, semi.after))
 }
 
-/// Reads the header entities and the `ENDSEC` behind them, and gives them with the place behind it.
+/// Reads the header entities and the `ENDSEC` after them, and gives them with the place after it.
 fn entities<'a>(
     alloc: Global,
     nest: &mut Nest<'a>,
@@ -70,7 +70,7 @@ fn entities<'a>(
     }
 }
 
-/// Reads what stands before the header entities, and gives the place of `HEADER` in the file and the place behind.
+/// Reads what stands before the header entities, and gives the place of `HEADER` in the file and the place after it.
 fn opening(source: Source<'_>) -> Result<(u64, usize), Fault>
     ensures ok { IfOk result (λ r. Covers (λ ts. IsOpening ts r.0) source.entry 0 r.1) }
     ensures within { IfOk result (λ r. r.1 ≤ length source.entry.text.now) }
@@ -83,7 +83,7 @@ fn opening(source: Source<'_>) -> Result<(u64, usize), Fault>
     Ok((source.base + header.start as u64, last.after))
 }
 
-/// Reads what stands between the header's `ENDSEC` and the first instance, and gives the place behind.
+/// Reads what stands between the header's `ENDSEC` and the first instance, and gives the place after it.
 fn data_start(source: Source<'_>, at: usize) -> Result<usize, Fault>
     requires { at ≤ length source.text.now }
     ensures ok { IfOk result (λ r. Covers (λ ts. IsDataStart ts (source.entry.base + r)) source.entry at r) }
@@ -96,7 +96,7 @@ fn data_start(source: Source<'_>, at: usize) -> Result<usize, Fault>
     Ok(last.after)
 }
 
-/// Reads the preface, and gives it with the place behind it.
+/// Reads the preface, and gives it with the place after it.
 pub fn preface<'a>(
     alloc: Global,
     nest: &mut Nest<'a>,

@@ -23,6 +23,6 @@ pub struct Preface<'a> {
     pub header_at: u64,
     /// The header entities in their order.
     pub entities: Vec<HeaderEntity<'a>>,
-    /// The place behind `DATA;`, in bytes from the file's first byte.
+    /// The place after `DATA;`, in bytes from the file's first byte.
     pub data_at: u64,
 }

@@ -30,7 +30,9 @@ impl<'a> InstanceReader<'a> {
 
     /// Reads a part of a file that is to be one instance. What was read before it, also with an error, is of no account.
     ///
-    /// Places are counted in the file. An error is the part's first grammar fault, or want of memory.
+    /// Places are counted in the file. An error is the part's first grammar fault, or lack of memory.
+    ///
+    /// The result is that of `read_piece`, whatever was read before. That memory is used again is known by review.
     pub fn read(&mut self, piece: Piece<'a>) -> Result<RawInstance<'a>, TreeError>
         ensures ok { IfOk result (λ r. IsPieceText piece.entry (plain_instance r)) }
         ensures fault { IfErr result (λ e. OnGrammar e (HasPieceFault piece.entry)) }

@@ -8,6 +8,8 @@ use p21_text::first_is_unique;
 
 /// A list of tokens that ends with the end of the text, or where no token begins, is a file or has a fault; the same
 /// of prefaces, pieces and tails.
+///
+/// Of a list that ends with End or Bad and has neither elsewhere.
 pub fn one_answer()
     ensures of_files { HasAnswer files }
     ensures of_prefaces { HasAnswer prefaces }
@@ -31,6 +33,9 @@ pub fn one_tree()
 
 /// No preface is a proper beginning of another; the same of files, instances, pieces and tails. So a list of tokens
 /// begins with one at most.
+///
+/// No preface is a proper prefix of another preface; the same of instances, pieces, tails and files, each kind by
+/// itself.
 pub fn one_beginning()
     ensures of_files { NoneBeginsAnother files }
     ensures of_prefaces { NoneBeginsAnother prefaces }
@@ -42,16 +47,25 @@ pub fn one_beginning()
 /// Reading the preface of a file, its pieces and its tail in order gives the tree of the file, or its fault with the
 /// instances that stand whole before it.
 pub fn parts_in_order()
+    // The tokens of a file begin with a preface; or they do not, and have a fault that is that of the preface and of
+    // the file.
     ensures of_preface { PrefaceOrFault }
+    // After a preface, reading the pieces and the tail in order gives the tree of the file, or its fault with the
+    // instances that are whole before it.
     ensures behind_preface { PartsGiveFile }
 {}
 
-/// Reading the parts of a file in order up to the first fault gives the fault of the file, whatever stands behind it.
+/// Reading the parts of a file in order up to the first fault gives the fault of the file, whatever stands after it.
 pub fn parts_up_to_fault()
+    // The fault of a preface that is not whole before it is the fault of the file, whatever follows it.
     ensures of_prefaces { PrefaceFaultIsOfFile }
+    // The same of the fault of a piece before its semicolon, after a preface and whole instances.
     ensures of_pieces { PieceFaultIsOfFile }
+    // The same of the fault of the tail.
     ensures of_tails { TailFaultIsOfFile }
+    // Tokens that are a piece are, without their End, an instance, and have a semicolon.
     ensures whole { PieceIsInstance }
+    // An End right after the first semicolon is no fault of a piece.
     ensures behind { NoFaultBehindSemi }
 {}
 

@@ -1,4 +1,4 @@
-//! What stands open while parameters are read.
+//! The lists and typed values that are open while parameters are read.
 
 ghost use Rattle.std.specs.Prelude.{◌≡◌, [], ℕ, ◌+◌, ◌≤◌};
 ghost use Rattle.smallvec.specs.SmallVec.{small_vec_len};
@@ -24,11 +24,11 @@ impl MadeWith<Global> for Frame<'_> {
     }
 }
 
-/// What stands open behind the parenthesis of a record. One nest is used for record after record, so that its vectors
+/// What stands open after the parenthesis of a record. One nest is used for record after record, so that its vectors
 /// are grown once.
 #[derive(Drop)]
 pub struct Nest<'a> {
-    /// The parameters of the innermost open list, without one behind its last comma.
+    /// The parameters of the innermost open list, without one after its last comma.
     pub current: Vec<Param<'a>>,
     /// The open parentheses inside the record's, the outermost first.
     pub frames: SmallVec<Frame<'a>, 4>,
@@ -74,9 +74,9 @@ pub enum Mode<'a> {
     First,
     /// A parameter.
     Want,
-    /// The parenthesis behind a keyword.
+    /// The parenthesis after a keyword.
     Key(&'a [u8]),
-    /// What stands behind this parameter.
+    /// What stands after this parameter.
     After(Param<'a>),
 }
 
@@ -85,7 +85,7 @@ pub enum Mode<'a> {
 pub enum Step<'a> {
     /// It was taken.
     Go(Mode<'a>),
-    /// It closed the record's parenthesis, behind these parameters.
+    /// It closed the record's parenthesis, after these parameters.
     Closed(Few<Param<'a>>),
     /// It fits at no limit of parentheses, or is a keyword at this one.
     Refused,

@@ -22,7 +22,7 @@ use crate::tokens::{refused, token};
 use p21_text::{Token, first_has_content};
 use std::alloc::Global;
 
-/// Reads the parameters behind a keyword, and gives the record with the place behind it. Inside, at most `left` more
+/// Reads the parameters after a keyword, and gives the record with the place after it. Inside, at most `left` more
 /// parentheses may be open at once.
 fn keyed<'a>(
     alloc: Global,
@@ -44,7 +44,7 @@ fn keyed<'a>(
     Ok((Record { keyword, params }, after))
 }
 
-/// Reads a record of a complex instance, and gives it with the place behind it.
+/// Reads a record of a complex instance, and gives it with the place after it.
 fn record<'a>(
     alloc: Global,
     nest: &mut Nest<'a>,
@@ -65,7 +65,7 @@ fn record<'a>(
 }
 
 /// Reads the records of a complex instance and the parenthesis that closes them, and gives them with the place
-/// behind it.
+/// after it.
 fn records<'a>(
     alloc: Global,
     nest: &mut Nest<'a>,
@@ -97,18 +97,18 @@ fn records<'a>(
     }
 }
 
-/// What stands behind the equals terminal of an instance.
+/// What stands after the equals terminal of an instance.
 #[derive(Drop)]
 pub struct InstanceBody<'a> {
     /// Whether it is several records in parentheses.
     pub complex: bool,
     /// The records.
     pub records: Few<Record<'a>>,
-    /// The place behind them.
+    /// The place after them.
     pub after: usize,
 }
 
-/// Reads what stands behind the equals terminal of an instance, up to its semicolon.
+/// Reads what stands after the equals terminal of an instance, up to its semicolon.
 pub fn form<'a>(
     alloc: Global,
     nest: &mut Nest<'a>,

@@ -1,4 +1,4 @@
-//! How a token changes what stands open among parameters.
+//! What each token does to the lists and typed values that are open.
 
 ghost use Rattle.std.specs.Prelude.{◌≡◌, [], ◌∷◌, ◌++◌, IfOk};
 ghost use Rattle.p21_text.specs.Spelling.{symbol};
@@ -117,7 +117,7 @@ fn in_typed(nest: &Nest<'_>) -> bool
     }
 }
 
-/// A comma stands behind a parameter.
+/// A comma stands after a parameter.
 fn separate<'a>(nest: &mut Nest<'a>, param: Param<'a>) -> Result<Step<'a>, AllocError>
     ensures { IfOk result (λ r. step_of nest.new r ≡ by_mode (after (plain param.entry)) (stack_of nest.old) nest.old.room comma) }
 {
@@ -158,7 +158,7 @@ fn closed<'a>(
     Ok(Few::from_vec(exactly(alloc, before, last)?))
 }
 
-/// A parenthesis is closed behind a parameter.
+/// A parenthesis is closed after a parameter.
 fn close<'a>(alloc: Global, nest: &mut Nest<'a>, param: Param<'a>) -> Result<Step<'a>, AllocError>
     ensures { IfOk result (λ r. step_of nest.new r ≡ by_mode (after (plain param.entry)) (stack_of nest.old) nest.old.room close_) }
 {

@@ -1,4 +1,4 @@
-//! The tokens that the grammar names.
+//! The tokens that the grammar names, such as `ENDSEC` or `;`.
 
 ghost use Rattle.std.specs.Prelude.{◌≡◌};
 ghost use Rattle.p21_text.specs.Spelling.{symbol};

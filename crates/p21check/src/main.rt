@@ -1,7 +1,7 @@
 //! `p21check SCHEMA FILE`: checks a STEP file against an EXPRESS schema.
 #![tactic(auto)]
 
-use p21_report::{program_with_progress, unreadable_words};
+use p21_report::{Screen, program_with_progress, unreadable_words};
 use std::env;
 use std::io::IsTerminal;
 use std::process::ExitCode;
@@ -22,6 +22,6 @@ fn main(rt: HostRuntime) -> ExitCode {
         &mut rt.stdout(),
         &mut rt.stderr(),
         rt.stderr(),
-        rt.stderr().is_terminal(),
+        Screen::new(&rt, rt.stderr().is_terminal()),
     ))
 }

@@ -1,12 +1,7 @@
 //! `p21export SCHEMA FILE --json OUT`, or `--sqlite OUT`: checks a STEP file against an EXPRESS schema, and writes its model as JSON or as a database.
 #![tactic(auto)]
 
-mod beside;
-mod database;
-mod program;
-mod words;
-
-use program::{Around, program, unreadable_words};
+use p21_exporter::{Around, Screen, program, unreadable_words};
 use std::env;
 use std::io::IsTerminal;
 use std::process::ExitCode;
@@ -23,7 +18,7 @@ fn main(rt: HostRuntime) -> ExitCode {
         input: &mut rt.stdin(),
         output: &mut rt.stdout(),
         errors: &mut rt.stderr(),
-        is_terminal: rt.stderr().is_terminal(),
+        screen: Screen::new(&rt, rt.stderr().is_terminal()),
     };
     ExitCode::from(program(&rt, &rt, rt.alloc(), words.as_slice(), around, rt.stderr()))
 }

@@ -7,7 +7,7 @@ use Rattle.p21_refs.specs.AllReferenceFaults.{AreReferenceFaults}
 use Rattle.p21_checker.specs.Again.{AreTexts}
 use Rattle.p21_checker.proofs.again.reference_faults.Given as goal
 
--- the pieces that are left are the texts of the instances that are left, and the faults of these stand behind those that were found
+-- the pieces that are left are the texts of the instances that are left, and the faults of these stand after those that were found
 abbrev pub invariant-loop-is_faulty : goal.invariant-loop-is_faulty
 invariant-loop-is_faulty g l =
     let all = plain_instances (outlined_instances l.outline) in

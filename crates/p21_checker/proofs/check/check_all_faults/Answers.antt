@@ -1,56 +1,23 @@
-use Rattle.p21_tree.specs.Views.{plain_preface}
-use Rattle.p21_checker.specs.Lists as dealing
-use Rattle.p21_checker.specs.Lists.{pieces_in}
-use Rattle.p21_reader.specs.PiecesOf.{behind_preface}
-use Rattle.p21_checker.specs.Answers as answers
-use Rattle.p21_checker.specs.Checked.{values_of}
-use Rattle.p21_checker.proofs.ListLemmas.{judged_all, pieces_dealt}
-use Rattle.p21_checker.proofs.CheckLemmas.{stopped_answer, stopped_pieces, stopped_returned}
+use Rattle.std.proofs.Common.{ap, sym, subst, ◌∙◌}
+use Rattle.std.specs.Prelude.{IfOk}
+use Rattle.p21_express.specs.Schema.{Schema}
+use Rattle.p21_checker.specs.Answers.{AllReturned}
+use Rattle.p21_checker.specs.Checked.{IsStated, StatesTexts}
+use Rattle.p21_checker.specs.declared.checking.Locally.{Locally}
+use Rattle.p21_checker.proofs.ListLemmas.{stated_texts}
 use Rattle.p21_checker.proofs.check.check_all_faults.Goals as goal
 
-pub returns-in-Err-clause-pieces : goal.returns-in-Err-clause-pieces
-returns-in-Err-clause-pieces g c = stopped_pieces c.args.schema.now c.args.file.now c.args.lanes _ c.stopped.result c.in-Err.ensures.fault c.stopped.ensures
-
-pub returns-in-Err-clause-returned : goal.returns-in-Err-clause-returned
-returns-in-Err-clause-returned g c = stopped_returned c.args.schema.now c.args.file.now c.args.lanes _ c.stopped.result c.in-Err.ensures.fault c.stopped.ensures
-
-pub returns-in-Err-clause-answer : goal.returns-in-Err-clause-answer
-returns-in-Err-clause-answer g c = stopped_answer c.args.schema.now c.args.file.now _ c.stopped.result c.in-Err.ensures.fault c.stopped.ensures
-
-pub conclude-requires-clause-ends : goal.conclude-requires-clause-ends
-conclude-requires-clause-ends g c κs within = c.new-pieces.ensures.within (pieces_in c.in_ok-run.ensures.0) c.in_ok-run.run'.tail c.in_ok-run.ensures.2
-
-pub conclude-requires-clause-gathered : goal.conclude-requires-clause-gathered
-conclude-requires-clause-gathered g c κs within =
-    let all = c.in_ok-run.ensures in
-    (all.0, all.1, all.4, all.3.values, c.new-pieces.ensures.of_file (pieces_in all.0) c.in_ok-run.run'.tail all.2)
-
-pub returns-clause-pieces : goal.returns-clause-pieces
-returns-clause-pieces g c =
-    let all = c.in_ok-run.ensures in
-    let cut = c.new-pieces.ensures.of_file (pieces_in all.0) c.in_ok-run.run'.tail all.2 in
-    record {
-      lists = all.0;
-      of_file = behind_preface c.in-Ok.ensures.begins c.in-Ok.ensures.header cut;
-      as_dealt = dealing.all c.in-Ok.ensures.begins c.in-Ok.ensures.header (pieces_dealt c.args.schema.now c.args.lanes all.0 all.1 _ _ _ all.3);
-    }
+pub check_by-requires-clause-texts : goal.check_by-requires-clause-texts
+check_by-requires-clause-texts g c κs within =
+    let same = ap (λ (judge : Locally). judge.schema.now) (c.deref.ensures ∙ c.new-judge.ensures) in
+    subst (λ (t : Schema). StatesTexts (IsStated t) c.args.schema.now) (sym same) (stated_texts c.args.schema.now)
 
 pub returns-clause-returned : goal.returns-clause-returned
 returns-clause-returned g c =
-    let all = c.in_ok-run.ensures in
-    let cut = c.new-pieces.ensures.of_file (pieces_in all.0) c.in_ok-run.run'.tail all.2 in
-    answers.results all.0 all.1 c.in-Ok.ensures.begins c.in-Ok.ensures.header cut all.3 (c.in_ok-answer.ensures all.0 all.1 all.4 all.3.values cut)
+    let same = ap (λ (judge : Locally). judge.schema.now) (c.deref.ensures ∙ c.new-judge.ensures) in
+    subst (λ (t : Schema). IfOk c.check_by.result (AllReturned (IsStated t) c.args.schema.now c.args.file.now c.args.lanes)) same c.check_by.ensures.returned
 
 pub returns-clause-answer : goal.returns-clause-answer
 returns-clause-answer g c =
-    let s = c.args.schema.now in
-    let file = c.args.file.now in
-    let all = c.in_ok-run.ensures in
-    let tail = c.in_ok-run.run'.tail in
-    let cut = c.new-pieces.ensures.of_file (pieces_in all.0) tail all.2 in
-    let answer = c.in_ok-answer.ensures all.0 all.1 all.4 all.3.values cut in
-    record {
-      full = answer.full;
-      is_reading = c.values_give_all_faults.ensures s file (plain_preface c.in-Ok.preface) (pieces_in all.0) tail (values_of all.1) answer.full c.in-Ok.ensures.begins c.in-Ok.ensures.header cut (judged_all s all.0 all.1 all.3.values) answer.is_answer;
-      told = answer.told;
-    }
+    let same = ap (λ (judge : Locally). judge.schema.now) (c.deref.ensures ∙ c.new-judge.ensures) in
+    c.check_by.ensures.answer (λ list checked said. subst (λ (t : Schema). IsStated t list checked) same said)

@@ -1,3 +1,4 @@
+use Rattle.p21_checker.specs.Checked.{IsStated}
 use Rattle.p21_checker.proofs.CheckLemmas.{first_answer, first_returned, has_faults}
 use Rattle.p21_checker.proofs.check.check_lanes.Goals as goal
 
@@ -7,7 +8,7 @@ first_of-requires g c =
     has_faults c.args.schema.now c.args.file.now c.in_ok-all.all.answer told.full told.is_reading told.told
 
 pub returns-clause-returned : goal.returns-clause-returned
-returns-clause-returned g c = first_returned c.args.schema.now c.args.file.now c.args.lanes c.in_ok-all.all.answer c.first_of.result _ _ _ c.first_of.ensures c.in_ok-all.ensures.returned
+returns-clause-returned g c = first_returned (IsStated c.args.schema.now) c.args.schema.now c.args.file.now c.args.lanes c.in_ok-all.all.answer c.first_of.result _ _ _ c.first_of.ensures c.in_ok-all.ensures.returned
 
 pub returns-clause-answer : goal.returns-clause-answer
 returns-clause-answer g c =

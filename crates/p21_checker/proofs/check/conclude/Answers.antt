@@ -8,7 +8,7 @@ use Rattle.p21_reader.specs.AllByValues as by
 use Rattle.p21_checker.specs.Checked.{values_of}
 use Rattle.p21_checker.specs.Lists.{pieces_in}
 use Rattle.p21_checker.proofs.AgainLemmas.{texts_of}
-use Rattle.p21_checker.proofs.ListLemmas.{judged_all, kept_all}
+use Rattle.p21_checker.proofs.ListLemmas.{kept_all, texts_all}
 use Rattle.p21_checker.proofs.check.conclude.Goals as goal
 
 pub returns-in-Err : goal.returns-in-Err
@@ -28,7 +28,7 @@ reference_faults-requires-clause-texts g c κs within =
     let s = c.args.schema.now in
     let given = c.requires.gathered in
     let found = rw c.in-Ok.is at (c.in_ok-outline.ensures given.1 given.2) in
-    texts_of s c.args.file.now c.args.at c.args.tail (pieces_in given.0) (values_of given.1) (plain_instances (outlined_instances c.in-Ok.outline)) (judged_all s given.0 given.1 given.3) found.0 given.4
+    texts_of c.args.file.now c.args.at c.args.tail (pieces_in given.0) (values_of given.1) (plain_instances (outlined_instances c.in-Ok.outline)) (texts_all s given.0 given.1 given.3) found.0 given.4
 
 pub returns-then-not-is_empty : goal.returns-then-not-is_empty
 returns-then-not-is_empty g c = λ lists outs h stated cut.

@@ -3,7 +3,7 @@ use Rattle.std.specs.Vec.Iter.{into_iter_items, into_iter_len}
 use Rattle.p21_crew.specs.Landing.{AreLanded}
 use Rattle.p21_crew.proofs.landing.land_all.Given as goal
 
--- the lanes that are landed, and behind them those that are left
+-- the lanes that are landed, and after them those that are left
 abbrev pub invariant-loop-flight : goal.invariant-loop-flight
 invariant-loop-flight g l =
     (landed : List _) × (landed ++ into_iter_items l.left ≡ l.fn.flights.items)

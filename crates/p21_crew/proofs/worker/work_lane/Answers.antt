@@ -1,4 +1,4 @@
--- A piece is read and its result put behind the others, or what was put there is sent.
+-- A piece is read and its result put after the others, or what was put there is sent.
 use Rattle.std.proofs.Common.{ap, ◌∙◌}
 use Rattle.p21_lanes.specs.History.{items_of, has_end}
 use Rattle.p21_lanes.specs.LaneOut.{taken}

@@ -2,7 +2,7 @@ use Rattle.std.proofs.Common.{◌+◌, ◌-◌, ◌≤◌, length, drop}
 use Rattle.p21_cut.specs.Pieces.{PartsAre}
 use Rattle.p21_cut.proofs.parts.piece_end.Given as goal
 
--- parts stand from behind the `#` up to here
+-- parts stand from after the `#` up to here
 abbrev pub invariant-loop-len : goal.invariant-loop-len
 invariant-loop-len l = record {
   behind : l.initial.start + 1 ≤ l.at;

@@ -1,5 +1,5 @@
 use Rattle.std.specs.String.{string_bytes}
-use Rattle.p21_explain.specs.Printed.{IsPrinted}
+use Rattle.p21_printed.specs.Printed.{IsPrinted}
 use Rattle.p21_explain.proofs.groups.printed.Given as goal
 
 abbrev pub invariant-loop-group : goal.invariant-loop-group

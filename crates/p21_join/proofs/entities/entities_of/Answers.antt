@@ -9,7 +9,7 @@ use Rattle.p21_check.specs.EntityOf.{AreSimpleEntities, IsSimpleEntity}
 use Rattle.p21_join.specs.Model.{instances_of, plain_instances}
 use Rattle.p21_join.proofs.entities.entities_of.Goals as goal
 
--- one more behind the others
+-- one more after the others
 entities_more : (s : Schema) (is : List Instance) (es : List (Option EntityId)) (i : Instance) (e : Option EntityId) → AreSimpleEntities s is es → IsSimpleEntity s i e → AreSimpleEntities s (is ++ i ∷ []) (es ++ e ∷ [])
 entities_more s [] [] i e h own = (own, tt)
 entities_more s [] (f ∷ es) i e h own = absurd h

@@ -4,7 +4,7 @@ use Rattle.p21_outline.specs.declared.columns.Row.{Row}
 use Rattle.p21_outline.specs.Rows.{row_behind}
 use Rattle.p21_outline.proofs.columns.push_rows.Given as goal
 
--- the rows that are moved, and behind them those that are left
+-- the rows that are moved, and after them those that are left
 abbrev pub invariant-loop-row : goal.invariant-loop-row
 invariant-loop-row l =
     (moved : List Row) × (moved ++ into_iter_items l.left ≡ l.fn.more.items)

@@ -3,7 +3,7 @@ use Rattle.std.specs.Prelude.{codes, decimal}
 use Rattle.p21_render.specs.FaultLine.{detail_of, name_of, number_of}
 use Rattle.p21_render.proofs.fault_text.push_fault.Goals as goal
 
--- eight texts behind another
+-- eight texts after another
 all_behind : (old a b c d e f g h u v w x y z t new : List ℕ) → u ≡ old ++ a → v ≡ u ++ b → w ≡ v ++ c → x ≡ w ++ d → y ≡ x ++ e → z ≡ y ++ f → t ≡ z ++ g → new ≡ t ++ h → new ≡ old ++ (a ++ (b ++ (c ++ (d ++ (e ++ (f ++ (g ++ h)))))))
 all_behind old a b c d e f g h u v w x y z t new p q r s k l m n = rw (n, m, l, k, s, r, q, p) (simp append_assoc)
 

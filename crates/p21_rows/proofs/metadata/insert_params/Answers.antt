@@ -5,4 +5,4 @@ pub loop-position-init : goal.loop-position-init
 loop-position-init g c = about_none (g.D.Rows.taken c.args.rows.now)
 
 pub loop-position-preserved : goal.loop-position-preserved
-loop-position-preserved g c = about_then (g.D.Rows.taken c.args.rows.now) (g.D.Rows.taken c.loop-position.rows) (g.D.Rows.taken c.insert_value.new.rows) c.loop-position.invariant c.in_ok-insert_value.ensures
+loop-position-preserved g c = about_then (g.D.Rows.taken c.args.rows.now) (g.D.Rows.taken c.loop-position.rows) (g.D.Rows.taken c.insert_value.new.rows) c.loop-position.invariant c.in_ok-insert_value.ensures.taken

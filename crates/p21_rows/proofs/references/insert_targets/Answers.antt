@@ -9,7 +9,7 @@ loop-position-init g c = referred_none c.args.source c.args.column.now (g.D.Rows
 pub loop-position-preserved : goal.loop-position-preserved
 loop-position-preserved g c =
     referred_more c.args.source c.args.column.now (g.D.Rows.taken c.args.rows.now) (g.D.Rows.taken c.loop-position.rows) (g.D.Rows.taken c.insert.new.self) c.args.targets.now c.loop-position.position _ (record { table = References; cells = c.in_ok-cells.cells.items })
-    c.loop-position-test.true refl c.in_ok-cells.ensures c.in_ok-insert.ensures c.loop-position.invariant
+    c.loop-position-test.true refl c.in_ok-cells.ensures c.in_ok-insert.ensures.taken c.loop-position.invariant
 
-pub returns : goal.returns
-returns g c = referred_all c.args.source c.args.column.now (g.D.Rows.taken c.args.rows.now) (g.D.Rows.taken c.loop-position.rows) c.args.targets.now c.loop-position.position c.loop-position-test.false c.loop-position.invariant
+pub returns-clause-taken : goal.returns-clause-taken
+returns-clause-taken g c = referred_all c.args.source c.args.column.now (g.D.Rows.taken c.args.rows.now) (g.D.Rows.taken c.loop-position.rows) c.args.targets.now c.loop-position.position c.loop-position-test.false c.loop-position.invariant

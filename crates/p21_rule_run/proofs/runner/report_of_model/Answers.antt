@@ -1,12 +1,12 @@
-use Rattle.std.proofs.Common.{◌∙◌, List, ap, map, sym, subst}
+use Rattle.std.proofs.Common.{◌∙◌, List, ap, sym, subst}
 use Rattle.p21_join.specs.Model.{instances_of, plain_instances}
 use Rattle.p21_render.specs.ReadingText.{IsModelText}
 use Rattle.p21_tree.specs.declared.instances.RawInstance.{RawInstance}
 use Rattle.p21_rule_run.specs.FaultLine.{rule_fault_lines}
 use Rattle.p21_rule_run.specs.RuleFault.{AreRuleFaults}
-use Rattle.p21_rule_run.specs.Ruled.{labels_of, names_of, told, IsOfModel}
+use Rattle.p21_rule_run.specs.Ruled.{told, IsOfModel}
 use Rattle.p21_rule_run.specs.Ruled as ruled
-use Rattle.p21_rule_run.specs.declared.runner.Report.{Report}
+use Rattle.p21_run.specs.declared.check.Answer.{Answer}
 use Rattle.p21_rule_run.proofs.RunLemmas.{on_both, is_none, is_some, of_kept}
 use Rattle.p21_rule_run.proofs.runner.report_of_model.Goals as goal
 
@@ -29,8 +29,6 @@ returns g c =
     let faults = c.as_slice-faults.result.now in
     let found = subst (AreRuleFaults s rules is) (sym c.as_slice-faults.ensures.value) c.in_ok-found.ensures in
     let some = is_some faults c.is_empty.result c.is_empty.ensures c.if-is_empty.false in
-    let lines =
-    c.in_ok-text.ensures ∙ ap (λ ls. rule_fault_lines (map (λ label. label.items) ls) (map (λ name. name.items) c.deref-2.result.now) c.told-reported.result.now) c.deref.ensures.value
-    ∙ ap (λ ns. rule_fault_lines (labels_of rules) (map (λ name. name.items) ns) c.told-reported.result.now) c.deref-2.ensures.value ∙ ap (rule_fault_lines (labels_of rules) (names_of rules)) c.told-reported.ensures in
+    let lines = c.in_ok-text.ensures ∙ ap (rule_fault_lines s rules) c.told-reported.ensures in
     let made = ruled.broken found some lines in
-    subst (λ (r : Report). IsOfModel c.args.all s rules is r.outcome r.text.items) (sym c.faulty.ensures) made
+    subst (λ (r : Answer). IsOfModel c.args.all s rules is r.outcome r.text.items) (sym c.faulty.ensures) made

@@ -1,15 +1,8 @@
-use Rattle.std.proofs.Common.{◌<◌, ℕ, refl, subst}
+use Rattle.p21_rule_text.specs.Resolve.{IsAttribute}
 use Rattle.p21_rule_text.proofs.resolve.explicit.Goals as goal
 
-pub returns-in-Some : goal.returns-in-Some
-returns-in-Some c =
-    let h = c.in-Some.ensures in (
-      record {
-        owner = c.in-Some.found.0;
-        is_owner = h.0;
-        known = h.1.1.0;
-        attribute = h.1.1.1;
-        first = λ o is less. c.loop-place.invariant o is (subst (λ (u : ℕ). o.index < u) h.1.0 less);
-      },
-      refl,
-    )
+pub returns-then-is_derived_above : goal.returns-then-is_derived_above
+returns-then-is_derived_above c = IsAttribute.is_derived c.if-is_derived_above.ensures
+
+pub returns-else-is_derived_above : goal.returns-else-is_derived_above
+returns-else-is_derived_above c = IsAttribute.not_derived c.if-is_derived_above.ensures

@@ -9,7 +9,7 @@ use Rattle.std.proofs.lemmas.Result.{err_from_is_err_and}
 use Rattle.p21_rule_text.proofs.RefusalLemmas.{err_along, in_left, in_right, on_along}
 use Rattle.p21_rule_text.proofs.statements.push_entity.Goals as goal
 
--- the clauses of INVERSE of an entity, and behind them those of UNIQUE
+-- the clauses of INVERSE of an entity, and after them those of UNIQUE
 both : {E : Type 0} (s : Schema) (es : List EntityClauses) (n : List ℕ) (is js : List InverseClause) (us vs : List UniqueClause) (old mid new : Rules) (r : Result (Unit {0}) E) → is ≡ js → us ≡ vs
     → ((cs : List Clause) → AreStated s es cs old → AreStated s es (cs ++ map (inverse n) is) mid) → OnOk r ((cs : List Clause) → AreStated s es cs mid → AreStated s es (cs ++ numbered n 1 us) new)
     → OnOk r ((cs : List Clause) → AreStated s es cs old → AreStated s es (cs ++ (map (inverse n) js ++ numbered n 1 vs)) new)

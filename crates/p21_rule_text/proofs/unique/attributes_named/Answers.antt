@@ -32,7 +32,7 @@ loop-name-preserved c =
     subst (AllZip (IsMeant s es c.args.entity) (plain_namings (take (c.loop-name.name-index + 1) c.args.names.now))) (sym ids) names
 
 pub returns-in-Nothing-clause-refused : goal.returns-in-Nothing-clause-refused
-returns-in-Nothing-clause-refused c = on_any c.unknown.result _ (
+returns-in-Nothing-clause-refused c = on_any c.unknown_attribute.result _ (
   _,
   record {
     front = plain_namings (take c.loop-name.name-index c.args.names.now);

@@ -17,8 +17,8 @@ push_value-returns-in_ok-push_integer-in-Int t c = λ x k. integer_pushed c.args
 pub push_value-returns-in-Real : goal.push_value-returns-in-Real
 push_value-returns-in-Real t c = λ x k. on_ok c.push_real.result (λ done. real_pushed c.args.schema.now x _ c.in-Real.text.now _ _ done (plain_real _ c.in-Real.is)) c.push_real.ensures
 
-pub push_value-returns-in_ok-push_items-in-Str : goal.push_value-returns-in_ok-push_items-in-Str
-push_value-returns-in_ok-push_items-in-Str t c = λ x k. text_pushed c.args.schema.now x _ c.in-Str.body.now _ _ _ _ (plain_str _ c.in-Str.is) c.items.ensures c.in_ok-push-in-Str.ensures.items c.in_ok-push_items-in-Str.ensures
+pub push_value-returns-in_ok-push_text-in-Str : goal.push_value-returns-in_ok-push_text-in-Str
+push_value-returns-in_ok-push_text-in-Str t c = λ x k. text_pushed c.args.schema.now x _ c.in-Str.body.now _ _ (plain_str _ c.in-Str.is) c.in_ok-push_text-in-Str.ensures
 
 pub push_value-returns-in_ok-push_bytes-in-Enumeration : goal.push_value-returns-in_ok-push_bytes-in-Enumeration
 push_value-returns-in_ok-push_bytes-in-Enumeration t c = λ x k. item_pushed c.args.schema.now x _ c.in-Enumeration.name.now _ _ _ (plain_enumeration _ c.in-Enumeration.is) c.in_ok-push-in-Enumeration.ensures.items c.in_ok-push_bytes-in-Enumeration.ensures
@@ -67,7 +67,7 @@ push_list-returns-then-elements t c = λ x k.
 
 pub push_list-returns : goal.push_list-returns
 push_list-returns t c = λ x k.
-    on_ok c.push_unordered.result (λ done. list_pushed c.args.schema.now x c.fits.ensures c.args.elements _ c.if-elements.false k _ _ _ _ done c.in_ok-push.ensures.items)
+    on_ok c.push_unordered.result (λ done. list_pushed c.args.schema.now x c.fits.ensures c.args.elements _ c.if-elements.false k _ _ _ _ done c.in_ok-push-2.ensures.items)
     (c.push_unordered.ensures k.element (c.elements_of-inner.ensures k.element k.item))
 
 pub push_ordered-push_value-requires : goal.push_ordered-push_value-requires

@@ -6,7 +6,7 @@ use Rattle.p21_rules.proofs.PushLemmas.{AreCoded, AreUnderway}
 use Rattle.p21_rules.proofs.Sizes.{tree_size, trees_size}
 use Rattle.p21_rules.proofs.value.+values.Given as goal
 
--- behind the values of the elements so far those of the others make the values of all
+-- after the values of the elements so far those of the others make the values of all
 abbrev pub invariant-push_ordered-loop-param : goal.invariant-push_ordered-loop-param
 invariant-push_ordered-loop-param l = (e : Expr) → AreElements l.schema e l.elements → AreUnderway l.schema e l.params l.param-index l.initial.code.items l.code.items
 

@@ -2,7 +2,7 @@ use Rattle.std.proofs.Common.{ℕ, ◌+◌, ◌-◌, ◌≤◌, length, drop}
 use Rattle.p21_text.specs.Tokens.{Passes}
 use Rattle.p21_text.proofs.separators.separators_len.Given as goal
 
--- what the rest of the text passes, the text passes behind what was passed so far
+-- what the rest of the text passes, the text passes after what was passed so far
 abbrev pub invariant-loop-len : goal.invariant-loop-len
 invariant-loop-len l = record {
   within : l.at ≤ length l.text;

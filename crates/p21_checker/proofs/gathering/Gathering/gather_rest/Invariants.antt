@@ -7,7 +7,7 @@ use Rattle.p21_checker.specs.Checked.{value_of}
 use Rattle.p21_checker.specs.Gathering.{HasGathered}
 use Rattle.p21_checker.proofs.gathering.Gathering.gather_rest.Given as goal
 
--- some values are gathered, behind which those that are left make up all
+-- some values are gathered, after which those that are left make up all
 abbrev pub invariant-loop-one : goal.invariant-loop-one
 invariant-loop-one l =
     (vs : List Value) (ls : List OutlineList) → BeginWithFault l.fn.rest.items → HasGathered l.fn.self vs ls

@@ -1,4 +1,4 @@
-use Rattle.std.proofs.Common.{◌≡◌, List, ℕ, codes, refl, subst}
+use Rattle.std.proofs.Common.{◌≡◌, [], List, ℕ, codes, refl, subst}
 use Rattle.std.proofs.lemmas.Result.{on_ok_weaker}
 use Rattle.json.specs.Token as json
 use Rattle.p21_express.specs.Schema.{Schema}
@@ -28,7 +28,7 @@ returns c =
     let called : entity_name s e ≡ k = subst (λ (y : Schema). entity_name y e ≡ k) q c.known-entity.ensures.1 in
     let spelled : IsSpelled c.entity.result.now k = subst (λ (n : List ℕ). IsSpelled c.entity.result.now n) called c.entity.ensures in
     let of = subst (λ (y : Schema). AreAttributesOf y c.args.instance.now.complex e os.0) q os.1.0 in
-    let members = subst (λ (ps : List Param). Adds s c.begin_object.new.self c.members.new.self.out (members_parts i os.0 (plain_all ps))) c.as_slice.ensures (c.in_ok-members.ensures os.0 of os.1.1) in
+    let members = subst (λ (ps : List Param). Adds s c.begin_object.new.self c.members.new.self.out (members_parts i [] os.0 (plain_all ps))) c.as_slice.ensures (c.in_ok-members.ensures os.0 of os.1.1) in
     let one = adds_ok s (label (codes "type")) c.in_ok-key.ensures refl in
     let two = adds_ok s (name k) c.in_ok-string.ensures (c.entity.result.now, spelled, refl) in
     let three = adds_ok s (label (codes "attributes")) c.in_ok-key-2.ensures refl in

@@ -18,4 +18,6 @@ invariant_of-result c =
       types = are_texts c.in_ok-types.types.items c.args.spelled.now.types.items (map (λ (t : Defined). t.name) s.types)
           (c.in_ok-types.ensures ∙ ap (λ vs. map (λ v. text_of v.items) vs) c.deref-3.ensures.value) (c.requires.types ∙ lower_names (λ (t : Defined). t.name) s.types);
       logical = c.in_ok-logical.ensures;
+      declared = c.in_ok-declared.ensures;
+      taken = c.in_ok-taken.ensures;
     }

@@ -1,2 +1,0 @@
-pub mod LineEndLemmas
-pub mod PrintedLemmas

@@ -1,5 +1,0 @@
-use Rattle.p21_explain.specs.Printed.{nothing}
-use Rattle.p21_explain.proofs.shown.new_text.Goals as goal
-
-pub returns : goal.returns
-returns c = nothing c.new.ensures.bytes

@@ -1,6 +1,0 @@
-use Rattle.std.specs.String.{string_bytes}
-use Rattle.p21_explain.specs.Printed.{IsPrinted}
-use Rattle.p21_explain.proofs.shown.push_blanks.Given as goal
-
-abbrev pub invariant-loop : goal.invariant-loop
-invariant-loop l = IsPrinted (string_bytes l.text)

@@ -1,6 +1,0 @@
-use Rattle.std.proofs.Common.{inl, refl}
-use Rattle.p21_explain.proofs.PrintedLemmas.{pushed, on_ok}
-use Rattle.p21_explain.proofs.shown.push_line_end.Goals as goal
-
-pub returns : goal.returns
-returns c = on_ok c.push.result (pushed _ _ _ _ c.requires (inl refl) c.push.ensures.bytes)

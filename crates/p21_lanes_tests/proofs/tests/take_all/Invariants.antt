@@ -1,5 +1,0 @@
-use Rattle.p21_lanes.specs.LaneOut.{SameOut}
-use Rattle.p21_lanes_tests.proofs.tests.take_all.Given as goal
-
-abbrev pub invariant-loop : goal.invariant-loop
-invariant-loop g l = SameOut l.initial.lane_out l.lane_out

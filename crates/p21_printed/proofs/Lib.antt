@@ -1,0 +1,4 @@
+pub mod LineEndLemmas
+pub mod PaintedLemmas
+pub mod PlaceLemmas
+pub mod PrintedLemmas

@@ -1,0 +1,3 @@
+pub mod Painted
+pub mod Places
+pub mod Printed

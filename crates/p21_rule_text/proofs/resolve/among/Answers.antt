@@ -1,0 +1,19 @@
+use Rattle.std.proofs.Common.{inr}
+use Rattle.p21_rule_text.specs.Resolve.{IsAmong}
+use Rattle.p21_rule_text.proofs.ResolveLemmas.{neither}
+use Rattle.p21_rule_text.proofs.resolve.among.Goals as goal
+
+pub returns-in-Some : goal.returns-in-Some
+returns-in-Some c = IsAmong.own c.in-Some.ensures c.explicit.ensures
+
+pub returns-then-declares_other : goal.returns-then-declares_other
+returns-then-declares_other c = IsAmong.new c.in_default.ensures (inr c.if-declares_other.ensures)
+
+pub returns-in-Some-again : goal.returns-in-Some-again
+returns-in-Some-again c = IsAmong.again (neither c.in_default.ensures c.if-declares_other.ensures) c.in-Some-again.ensures c.explicit-in-Some-again.ensures
+
+pub returns-then-derives : goal.returns-then-derives
+returns-then-derives c = IsAmong.again_derived (neither c.in_default.ensures c.if-declares_other.ensures) c.in_default-again.ensures c.if-derives.ensures
+
+pub returns-else-derives : goal.returns-else-derives
+returns-else-derives c = IsAmong.nothing (neither c.in_default.ensures c.if-declares_other.ensures) c.in_default-again.ensures c.if-derives.ensures

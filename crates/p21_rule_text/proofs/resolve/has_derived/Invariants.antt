@@ -1,8 +1,0 @@
-use Rattle.std.proofs.Common.{◌≡◌, IfSome, drop}
-use Rattle.p21_express.specs.Plain.{plain_derived}
-use Rattle.p21_rule_text.specs.Resolve.{Redeclares}
-use Rattle.p21_rule_text.proofs.ResolveLemmas.{OfOne}
-use Rattle.p21_rule_text.proofs.resolve.has_derived.Given as goal
-
-abbrev pub invariant-loop-attribute : goal.invariant-loop-attribute
-invariant-loop-attribute l = let One = OfOne plain_derived (λ d. IfSome l.again (Redeclares l.schema d) × (d.name ≡ l.name)) in One l.declared.derived.items → One (drop l.attribute-index l.declared.derived.items)

@@ -1,8 +1,0 @@
-use Rattle.std.proofs.Common.{subst}
-use Rattle.std.specs.Prelude.{IfOk}
-use Rattle.p21_run.specs.Due.{IsReport}
-use Rattle.p21_run.proofs.runner.report_against.Goals as goal
-
-pub returns-clause-due : goal.returns-clause-due
-returns-clause-due g c file f =
-    subst (λ s. IfOk c.report_of_source.result (λ report. IsReport c.args.by.now.all s file report.outcome report.text.items)) c.in_ok-schema.ensures (c.report_of_source.ensures.due file f)
