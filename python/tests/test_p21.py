@@ -235,9 +235,10 @@ class Package(unittest.TestCase):
             for _ in range(300):
                 read()
         finally:
-            # A signal that has come may be handled only now.
+            # A signal that has come, or is on its way, may be handled only now.
             armed.clear()
             signal.setitimer(signal.ITIMER_REAL, 0)
+            time.sleep(0.05)
             signal.signal(signal.SIGALRM, before)
 
     def test_fork(self):
