@@ -202,9 +202,7 @@ class Rules:
                 names, declared = statement.split(':', 1)
                 for name in names.split(','):
                     if match := re.match(r'\s*SELF\s*\\\s*(%s)\s*\.\s*(%s)' % (NAME, NAME), name):
-                        if section == 'INVERSE':
-                            self.others[entity].add(match[2])
-                        else:
+                        if section != 'INVERSE':
                             self.again[entity].append((*match.groups(), None if section else re.sub(r'^\s*OPTIONAL\b', '', declared).strip()))
                     elif section:
                         self.others[entity].add(name.strip())

@@ -13,8 +13,8 @@ use Rattle.p21_express.specs.Keywords.{decl_word_of}
 use Rattle.p21_express.specs.Reader.{◌>>=◌, Fails, words_of, name_at, word_at, symbol_at, behind_stop, up_to, ends_at, if_name, many_at, again_at, naming_at, next_naming}
 use Rattle.p21_rule_text.specs.Bounds.{in_brackets_at, if_brackets_at, collection_at, bounds_at}
 use Rattle.p21_rule_text.specs.Clauses.{has_label, label_at, if_label_at, names_at, unique_at, attribute_of_at, attribute_at, inverse_at}
-use Rattle.p21_rule_text.specs.Entities.{EntityClauses, behind_attributes, behind_derive, behind_statements, inverses_at, if_inverses_at, uniques_at, if_uniques_at, entity_end, entity_at, skipped_at, one_entity_at, declaration_by, declaration_at, ended}
-use Rattle.p21_rule_text.proofs.LengthLemmas.{Leaves, Shrinks, leaves_none, leaves_some, then, either, name_leaves, word_leaves, symbol_leaves, up_to_leaves, ends_leaves, if_name_leaves, many_leaves}
+use Rattle.p21_rule_text.specs.Entities.{EntityClauses, behind_attributes, behind_derive, behind_statements, inverses_at, if_inverses_at, uniques_at, if_uniques_at, entity_end, entity_at, skipped_at, type_at, type_end, one_entity_at, declaration_by, declaration_at, ended}
+use Rattle.p21_rule_text.proofs.LengthLemmas.{behind_leaves, Leaves, Shrinks, leaves_none, leaves_some, then, either, name_leaves, word_leaves, symbol_leaves, up_to_leaves, ends_leaves, if_name_leaves, many_leaves}
 
 -- ---- names
 
@@ -146,9 +146,17 @@ skipped_leaves : (again : Option (List ℕ)) (last : List ℕ) (n : ℕ) (ws : L
 unfolding skipped_at
 skipped_leaves again last n ws h = then (ends_at again last 0 ws) _ (ends_leaves again last n 0 ws h) (λ end he. then (symbol_at 59 end) _ (symbol_leaves 59 n end (omega arith)) (λ r hr. leaves_some _ hr))
 
+type_end_leaves : (n : ℕ) (ws : List Word) → length ws < n → Leaves (λ r. r) n (type_end ws)
+unfolding type_end
+type_end_leaves n ws h = either (begins_name (codes "WHERE") ws) _ _ (ends_leaves None (codes "END_TYPE") n 0 ws h) (word_leaves (codes "END_TYPE") n ws (omega arith))
+
+type_leaves : (n : ℕ) (ws : List Word) → length ws < n → Leaves (λ x. x.1) n (type_at ws)
+unfolding type_at
+type_leaves n ws h = then (behind_stop 59 0 ws) _ (behind_leaves 59 n 0 ws (omega arith)) (λ rules hr. then (type_end rules) _ (type_end_leaves n rules hr) (λ end he. then (symbol_at 59 end) _ (symbol_leaves 59 n end (omega arith)) (λ r hs. leaves_some _ hs)))
+
 declared_leaves : (w : DeclWord) (n : ℕ) (ws : List Word) → length ws < n → Leaves (λ x. x.1) n (declaration_by w ws)
 declared_leaves decls.Entity n ws h = one_entity_leaves n ws h
-declared_leaves decls.Type n ws h = skipped_leaves None (codes "END_TYPE") n ws h
+declared_leaves decls.Type n ws h = type_leaves n ws h
 declared_leaves decls.Function n ws h = skipped_leaves (Some (codes "FUNCTION")) (codes "END_FUNCTION") n ws h
 declared_leaves decls.Procedure n ws h = skipped_leaves (Some (codes "PROCEDURE")) (codes "END_PROCEDURE") n ws h
 declared_leaves decls.Rule n ws h = skipped_leaves None (codes "END_RULE") n ws h

@@ -6,6 +6,7 @@ pub mod ResolveLemmas
 pub mod DeclarationLemmas
 pub mod FormLemmas
 pub mod LabelLemmas
+pub mod EntityNameLemmas
 pub mod StatementLemmas
 pub mod TellingLemmas
 pub mod InverseLemmas

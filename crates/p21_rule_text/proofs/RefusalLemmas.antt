@@ -2,7 +2,7 @@
 use Rattle.std.proofs.Common.{◌≡◌, ◌≢◌, ◌<◌, ◌+◌, ℕ, zero, suc, Bool, true, false, List, [], ◌∷◌, ◌++◌, map, length, get_or, refl, sym, ap, subst, ◌∙◌, Option, Some, None, Result, Ok, Err, inl, inr, IsTrue, arith}
 use Rattle.std.specs.Prelude.{IfErr}
 use Rattle.std.specs.Char.{to_ascii_uppercase}
-use Rattle.std.specs.List.{AllByRecursion, AllZip, flat_map}
+use Rattle.std.specs.List.{AllZip, flat_map}
 use Rattle.std.proofs.lemmas.List.Concat.{flat_map-cons}
 use Rattle.p21_express.specs.Lexer.{HasNoWords}
 use Rattle.p21_express.specs.Misfit.{IsRefusedAs}
@@ -22,7 +22,7 @@ use Rattle.p21_schema.specs.declared.ids.AttrId.{AttrId}
 use Rattle.p21_schema.specs.declared.ids.EntityId.{EntityId}
 use Rattle.p21_rule_text.specs.Clauses.{InverseClause, UniqueClause}
 use Rattle.p21_rule_text.specs.Entities.{AreClauses, EntityClauses, entities_at, if_whole}
-use Rattle.p21_rule_text.specs.Rules.{AreStated, HasNoRules, HasUnstated, HaveDistinctLabels}
+use Rattle.p21_rule_text.specs.Rules.{AreOfEntities, AreStated, HasNoRules, HasUnstated}
 use Rattle.p21_rule_text.specs.Resolve.{IsMeant}
 use Rattle.p21_rule_text.specs.Statements.{AreExplicit, Clause, IsDeclarable, IsFirst, IsNamed, IsUncounted, IsUnstated, States, any_count, clauses_of, derived_elsewhere, inverse, inverse_passed, inverse_rule, no_numbers, numbered, other, unique, unique_passed, unique_rule}
 use Rattle.p21_rule_text.specs.declared.bounds.Bounds.{Bounds}
@@ -206,11 +206,11 @@ unruled s text upper b words es one u w read none rules are =
     let t = paired (States s es) (flat_map clauses_of es) stated.statements none.0 stated.states none.1.0 in
     none.1.1 t.0 t.1
 
--- nor has a text with two rules of one label
-pub repeated : (s : Schema) (text upper : List ℕ) (b : Bool) (words : List Word) (es : List EntityClauses) → ((text : List ℕ) (vs ws : List Word) → AreWords text vs → AreWords text ws → vs ≡ ws) → upper ≡ map to_ascii_uppercase text → (IsTrue b → UpperWords upper words) → if_whole b (entities_at words) ≡ Some es → ¬ (AllByRecursion (λ e. HaveDistinctLabels e.unique) es) → HasNoRules s text
-repeated s text upper b words es one u w read not rules are =
+-- nor has a text with other entities than the schema
+pub others : (s : Schema) (text upper : List ℕ) (b : Bool) (words : List Word) (es : List EntityClauses) → ((text : List ℕ) (vs ws : List Word) → AreWords text vs → AreWords text ws → vs ≡ ws) → upper ≡ map to_ascii_uppercase text → (IsTrue b → UpperWords upper words) → if_whole b (entities_at words) ≡ Some es → ¬ (AreOfEntities s.entities es) → HasNoRules s text
+others s text upper b words es one u w read not rules are =
     let e = clauses_once text b words es one (subst (λ v. IsTrue b → UpperWords v words) u w) read are.clauses are.are_clauses in
-    not (subst (AllByRecursion (λ e. HaveDistinctLabels e.unique)) e are.distinct)
+    not (subst (AreOfEntities s.entities) e are.entities)
 
 unread_by : (s : Schema) (text : List ℕ) (b : Bool) (words : List Word) → ((text : List ℕ) (vs ws : List Word) → AreWords text vs → AreWords text ws → vs ≡ ws) → (IsTrue b → UpperWords (map to_ascii_uppercase text) words) → (b ≡ false → HasNoWords (map to_ascii_uppercase text)) → if_whole b (entities_at words) ≡ None → HasNoRules s text
 unread_by s text true words one w n none rules are =

@@ -208,27 +208,27 @@ module _ (s : Schema) (one : OneEntity s) (one_attribute : OneAttribute s) where
     among_once o known n f g (IsAmong.own {a = a} h x) (IsAmong.own {a = b} k y) = attribute_once a b f g (own_once o n a b h k) x y
     among_once o known n f _ (IsAmong.own {a = a} h x) (IsAmong.new none d) = absurd (none (own_declares o known n a h))
     among_once o known n f g (IsAmong.own {a = a} h x) (IsAmong.again none k y) = absurd (none (inl (own_declares o known n a h)))
-    among_once o known n f _ (IsAmong.own {a = a} h x) (IsAmong.again_derived none m d) = absurd (none (inl (own_declares o known n a h)))
+    among_once o known n f _ (IsAmong.own {a = a} h x) (IsAmong.again_other none m d) = absurd (none (inl (own_declares o known n a h)))
     among_once o known n f _ (IsAmong.own {a = a} h x) (IsAmong.nothing none m d) = absurd (none (inl (own_declares o known n a h)))
     among_once o known n _ g (IsAmong.new none d) (IsAmong.own {a = b} k y) = absurd (none (own_declares o known n b k))
     among_once o known n _ _ (IsAmong.new none d) (IsAmong.new m c) = refl
     among_once o known n _ g (IsAmong.new none d) (IsAmong.again m k y) = absurd (m d)
-    among_once o known n _ _ (IsAmong.new none d) (IsAmong.again_derived m k c) = refl
+    among_once o known n _ _ (IsAmong.new none d) (IsAmong.again_other m k c) = refl
     among_once o known n _ _ (IsAmong.new none d) (IsAmong.nothing m k c) = absurd (m d)
     among_once o known n f g (IsAmong.again none h x) (IsAmong.own {a = b} k y) = absurd (none (inl (own_declares o known n b k)))
     among_once o known n f _ (IsAmong.again none h x) (IsAmong.new m c) = absurd (none c)
     among_once o known n f g (IsAmong.again {a = a} none h x) (IsAmong.again {a = b} m k y) = attribute_once a b f g (again_once o n a b h k) x y
-    among_once o known n f _ (IsAmong.again {a = a} none h x) (IsAmong.again_derived m k c) = absurd (k a h)
+    among_once o known n f _ (IsAmong.again {a = a} none h x) (IsAmong.again_other m k c) = absurd (k a h)
     among_once o known n f _ (IsAmong.again {a = a} none h x) (IsAmong.nothing m k c) = absurd (k a h)
-    among_once o known n _ g (IsAmong.again_derived none m d) (IsAmong.own {a = b} k y) = absurd (none (inl (own_declares o known n b k)))
-    among_once o known n _ _ (IsAmong.again_derived none m d) (IsAmong.new k c) = refl
-    among_once o known n _ g (IsAmong.again_derived none m d) (IsAmong.again {a = b} l k y) = absurd (m b k)
-    among_once o known n _ _ (IsAmong.again_derived none m d) (IsAmong.again_derived l k c) = refl
-    among_once o known n _ _ (IsAmong.again_derived none m d) (IsAmong.nothing l k c) = absurd (c d)
+    among_once o known n _ g (IsAmong.again_other none m d) (IsAmong.own {a = b} k y) = absurd (none (inl (own_declares o known n b k)))
+    among_once o known n _ _ (IsAmong.again_other none m d) (IsAmong.new k c) = refl
+    among_once o known n _ g (IsAmong.again_other none m d) (IsAmong.again {a = b} l k y) = absurd (m b k)
+    among_once o known n _ _ (IsAmong.again_other none m d) (IsAmong.again_other l k c) = refl
+    among_once o known n _ _ (IsAmong.again_other none m d) (IsAmong.nothing l k c) = absurd (c d)
     among_once o known n _ g (IsAmong.nothing none m d) (IsAmong.own {a = b} k y) = absurd (none (inl (own_declares o known n b k)))
     among_once o known n _ _ (IsAmong.nothing none m d) (IsAmong.new k c) = absurd (none c)
     among_once o known n _ g (IsAmong.nothing none m d) (IsAmong.again {a = b} l k y) = absurd (m b k)
-    among_once o known n _ _ (IsAmong.nothing none m d) (IsAmong.again_derived l k c) = absurd (d c)
+    among_once o known n _ _ (IsAmong.nothing none m d) (IsAmong.again_other l k c) = absurd (d c)
     among_once o known n _ _ (IsAmong.nothing none m d) (IsAmong.nothing l k c) = refl
 
     declarer_known : (of : Option (List ℕ)) (n : List ℕ) (o : EntityId) → IsDeclarer s es e of n o → IsEntityOf s o
@@ -263,7 +263,7 @@ module _ (s : Schema) (one : OneEntity s) (one_attribute : OneAttribute s) where
     among_name o n a f (IsAmong.own {a = b} h x) q = attribute_name a b n f x (ap (λ (u : Origin). u.name) h.1) q
     among_name o n a _ (IsAmong.new none d) q = absurd cc
     among_name o n a f (IsAmong.again {a = b} none h x) q = attribute_name a b n f x (ap (λ (u : Origin). u.name) h.own.1) q
-    among_name o n a _ (IsAmong.again_derived none m d) q = absurd cc
+    among_name o n a _ (IsAmong.again_other none m d) q = absurd cc
     among_name o n a _ (IsAmong.nothing none m d) q = absurd cc
 
     -- the attribute that a name is has this name

@@ -53,7 +53,7 @@ among_of : (s : Schema) (es : List EntityClauses) (e o : EntityId) (n : List ℕ
 among_of s es e o n f (IsAmong.own {a = a} h x) = attribute_of s e a f h.0 x
 among_of s es e o n _ (IsAmong.new none d) = tt
 among_of s es e o n f (IsAmong.again {a = a} none h x) = attribute_of s e a f h.own.0 x
-among_of s es e o n _ (IsAmong.again_derived none m d) = tt
+among_of s es e o n _ (IsAmong.again_other none m d) = tt
 among_of s es e o n _ (IsAmong.nothing none m d) = tt
 
 found_of : (s : Schema) (es : List EntityClauses) (e : EntityId) (x : Naming) (f : Found) → IsMeant s es e x f → IsOfSchema s f

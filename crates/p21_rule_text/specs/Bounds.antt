@@ -49,7 +49,7 @@ collection_at is_bag ws = do
   Some (b.0, rest)
 
 -- [ ( SET | BAG ) [ bounds ] OF ]: without them exactly one
--- Any number without brackets, otherwise two numbers, the second perhaps `?`.
+-- After SET or BAG without brackets any number; in brackets two numbers, the second perhaps `?`, or none where they are others.
 unfoldable pub bounds_at : List Word → Option (Option Bounds × List Word)
 bounds_at ws =
     if (if_name (codes "SET") ws).0 then collection_at false (if_name (codes "SET") ws).1

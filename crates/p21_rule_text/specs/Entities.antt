@@ -6,7 +6,7 @@ use Rattle.p21_express.specs.Word.{Word, begins_name}
 use Rattle.p21_express.specs.Words.{AreWords}
 use Rattle.p21_express.specs.Grammar.{begins_rules, ends_attributes}
 use Rattle.p21_express.specs.Keywords.{decl_word_of}
-use Rattle.p21_express.specs.Reader.{◌>>=◌, ends_at, if_name, many_at, name_at, symbol_at, up_to, word_at}
+use Rattle.p21_express.specs.Reader.{◌>>=◌, behind_stop, ends_at, if_name, many_at, name_at, symbol_at, up_to, word_at}
 use Rattle.p21_rule_text.specs.Clauses.{InverseClause, UniqueClause, inverse_at, plain_inverse, plain_unique, unique_at}
 use Rattle.p21_rule_text.specs.declared.entities.EntityClauses as source
 
@@ -77,6 +77,20 @@ entity_at ws = do
   rest ← symbol_at 59 end
   Some (record { name = n.0; inverse = is.0; unique = us.0 }, rest)
 
+-- ---- types
+
+-- [ WHERE tokens ] END_TYPE
+unfoldable pub type_end : List Word → Option (List Word)
+type_end ws = if begins_name (codes "WHERE") ws then ends_at None (codes "END_TYPE") 0 ws else word_at (codes "END_TYPE") ws
+
+-- a type after the word TYPE, in which there are no entities: name '=' type ';' [ WHERE tokens ] END_TYPE ';'
+unfoldable pub type_at : List Word → Option (List EntityClauses × List Word)
+type_at ws = do
+  rules ← behind_stop 59 0 ws
+  end ← type_end rules
+  rest ← symbol_at 59 end
+  Some ([], rest)
+
 -- ---- the schema
 
 -- the words after what is skipped
@@ -94,7 +108,7 @@ one_entity_at ws = do
 -- a declaration after its first word: the entity, or none
 abbrev pub declaration_by : DeclWord → List Word → Option (List EntityClauses × List Word)
 declaration_by decls.Entity ws = one_entity_at ws
-declaration_by decls.Type ws = skipped_at None (codes "END_TYPE") ws
+declaration_by decls.Type ws = type_at ws
 declaration_by decls.Function ws = skipped_at (Some (codes "FUNCTION")) (codes "END_FUNCTION") ws
 declaration_by decls.Procedure ws = skipped_at (Some (codes "PROCEDURE")) (codes "END_PROCEDURE") ws
 declaration_by decls.Rule ws = skipped_at None (codes "END_RULE") ws
@@ -138,7 +152,7 @@ abbrev pub if_whole : Bool → Option (List EntityClauses) → Option (List Enti
 if_whole true es = es
 if_whole false es = None
 
--- The clauses of a text's entities are what its words are.
+-- The clauses of the entities of a text, as its words have them.
 -- Of each entity, in the order of the text, those of INVERSE and then those of UNIQUE. Other declarations, and what
 -- follows WHERE, are skipped.
 pub record AreClauses (text : List ℕ) (es : List EntityClauses) : Type 0 where

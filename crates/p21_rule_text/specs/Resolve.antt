@@ -42,9 +42,17 @@ no_clauses = record { name = []; inverse = []; unique = [] }
 abbrev pub clauses_at : List EntityClauses → EntityId → EntityClauses
 clauses_at es o = get_or es o.index no_clauses
 
--- it declares an INVERSE attribute of this name
+-- it newly declares an INVERSE attribute of this name
 abbrev pub DeclaresInverse : List EntityClauses → EntityId → List ℕ → Type 0
-DeclaresInverse es o n = (i : InverseClause) × (IsIn (clauses_at es o).inverse i × (i.name.name ≡ n))
+DeclaresInverse es o n = (i : InverseClause) × (IsIn (clauses_at es o).inverse i × ((i.name.of ≡ None) × (i.name.name ≡ n)))
+
+-- it declares an INVERSE attribute of this name, newly or again
+abbrev pub HasInverse : List EntityClauses → EntityId → List ℕ → Type 0
+HasInverse es o n = (i : InverseClause) × (IsIn (clauses_at es o).inverse i × (i.name.name ≡ n))
+
+-- it declares one in DERIVE or INVERSE, newly or again
+abbrev pub HasOther : Schema → List EntityClauses → EntityId → List ℕ → Type 0
+HasOther s es o n = HasDerived s o n ⊎ HasInverse es o n
 
 -- it newly declares an attribute of this name
 abbrev pub DeclaresNew : Schema → List EntityClauses → EntityId → List ℕ → Type 0
@@ -56,7 +64,7 @@ pub record IsInverseOfAncestor (s : Schema) (es : List EntityClauses) (e : Entit
   pub known : IsEntityOf s owner
   pub name : entity_name s owner ≡ of
   pub ancestor : IsAncestor s (entity_name s e) (entity_name s owner)
-  pub inverse : DeclaresInverse es owner n
+  pub inverse : HasInverse es owner n
 
 -- the explicit attribute that an entity newly declares by this name
 abbrev pub IsOwn : Schema → EntityId → List ℕ → AttrId → Type 0
@@ -113,13 +121,13 @@ pub data IsAttribute (s : Schema) (e : EntityId) (a : AttrId) : Found → Type 0
   is_derived : IsDerivedAbove s e (attribute_at s a) → IsAttribute s e a found.Other
 
 -- What a name is among the attributes that an entity declares: an explicit one that it newly declares, or else one that it newly declares in DERIVE or
--- INVERSE, or else an explicit one that it declares again, or else one that it declares again in DERIVE.
+-- INVERSE, or else an explicit one that it declares again, or else one that it declares again in DERIVE or INVERSE.
 pub data IsAmong (s : Schema) (es : List EntityClauses) (e o : EntityId) (n : List ℕ) : Found → Type 0 where
   own : {a : AttrId} {f : Found} → IsOwn s o n a → IsAttribute s e a f → IsAmong s es e o n f
   new : ¬ (DeclaresExplicit s o n) → DeclaresNew s es o n → IsAmong s es e o n found.Other
   again : {a : AttrId} {f : Found} → ¬ (DeclaresNew s es o n) → IsAgain s o n a → IsAttribute s e a f → IsAmong s es e o n f
-  again_derived : ¬ (DeclaresNew s es o n) → ((a : AttrId) → ¬ (IsAgain s o n a)) → HasDerived s o n → IsAmong s es e o n found.Other
-  nothing : ¬ (DeclaresNew s es o n) → ((a : AttrId) → ¬ (IsAgain s o n a)) → ¬ (HasDerived s o n) → IsAmong s es e o n found.Nothing
+  again_other : ¬ (DeclaresNew s es o n) → ((a : AttrId) → ¬ (IsAgain s o n a)) → HasOther s es o n → IsAmong s es e o n found.Other
+  nothing : ¬ (DeclaresNew s es o n) → ((a : AttrId) → ¬ (IsAgain s o n a)) → ¬ (HasOther s es o n) → IsAmong s es e o n found.Nothing
 
 -- the entity or an ancestor, below another one, newly declares the name
 pub record IsLower (s : Schema) (es : List EntityClauses) (e : EntityId) (n : List ℕ) (o other : EntityId) : Type 0 where
@@ -150,7 +158,7 @@ IsDeclarer s es e (Some of) n o = IsOwnerNamed s e of o
 
 -- What a name is in the clauses of an entity.
 -- Among what the owner declares: the explicit attribute that it newly declares; or one of DERIVE or INVERSE; or an
--- explicit one that it redeclares; or one that it redeclares in DERIVE; or nothing. The owner is the entity after
+-- explicit one that it redeclares; or one that it redeclares in DERIVE or INVERSE; or nothing. The owner is the entity after
 -- SELF; otherwise the first in the text of the entity and its ancestors that newly declare the name and below which
 -- none does.
 pub data IsMeant (s : Schema) (es : List EntityClauses) (e : EntityId) (x : Naming) : Found → Type 0 where

@@ -1,8 +1,8 @@
 -- The rules of a schema's text.
-use Rattle.std.specs.Prelude.{◌≡◌, ℕ, List, [], ◌∷◌, Some, Vec, take, slice_get}
+use Rattle.std.specs.Prelude.{◌≡◌, ℕ, List, [], ◌∷◌, Some, Vec, map, take, slice_get}
 use Rattle.std.specs.List.{AllByRecursion, AllZip, flat_map}
 use Rattle.std.specs.declared.alloc.Global.{Global}
-use Rattle.p21_express.specs.Schema.{Schema}
+use Rattle.p21_express.specs.Schema.{Entity, Schema}
 use Rattle.p21_express.specs.WellFormed.{IsIn}
 use Rattle.p21_rules.specs.declared.rule.InverseRule.{InverseRule}
 use Rattle.p21_rules.specs.declared.rule.UniqueRule.{UniqueRule}
@@ -62,10 +62,15 @@ HasLabel cs n = (c : UniqueClause) × (IsIn cs c × (c.label ≡ Some n))
 abbrev pub HaveDistinctLabels : List UniqueClause → Type 0
 HaveDistinctLabels cs = (k : ℕ) (c : UniqueClause) (n : List ℕ) → slice_get cs k ≡ Some c → c.label ≡ Some n → ¬ (HasLabel (take k cs) n)
 
--- The rules of a text, against the schema that it declares, are what the clauses of its entities state. No entity has two rules of one label.
+-- the clauses are those of these entities, in their order
+abbrev pub AreOfEntities : List Entity → List EntityClauses → Type 0
+AreOfEntities ds es = map (λ e. e.name) es ≡ map (λ d. d.name) ds
+
+-- The rules of a text, against a schema of the same entities, are what the clauses of its entities state. No entity has two rules of one label.
 pub record AreRules (s : Schema) (text : List ℕ) (rules : Rules) : Type 0 where
   pub clauses : List EntityClauses
   pub are_clauses : AreClauses text clauses
+  pub entities : AreOfEntities s.entities clauses
   pub distinct : AllByRecursion (λ e. HaveDistinctLabels e.unique) clauses
   pub stated : AreStated s clauses (flat_map clauses_of clauses) rules
 
@@ -74,7 +79,7 @@ abbrev pub HasUnstated : Schema → List EntityClauses → List Clause → Type 
 HasUnstated s es cs = (c : Clause) × (IsIn cs c × IsUnstated s es c)
 
 -- no rules are those of the text
--- Its words are no entities by the grammar, an entity has two rules with one label, or a clause names what is no such
+-- Its words are no entities by the grammar, or not those of the schema, an entity has two rules with one label, or a clause names what is no such
 -- entity or attribute.
 abbrev pub HasNoRules : Schema → List ℕ → Type 0
 HasNoRules s text = (rules : Rules) → ¬ (AreRules s text rules)

@@ -80,7 +80,7 @@ pub record IsUniquePassed (s : Schema) (es : List EntityClauses) (e : List ℕ) 
   pub attribute : IsFirst s es p.entity c.names found.Other p.attribute.items
   pub subtype : p.subtype.items ≡ []
 
--- In the instances of an entity below its own that derives one of its attributes it is skipped too.
+-- In the instances of an entity, below its own or beside it, that derives one of its attributes it is skipped too.
 pub record IsUniquePassedElsewhere (s : Schema) (r : UniqueRule) (n : List ℕ) (a : AttrId) (o : EntityId) (p : PassedOver) : Type 0 where
   pub kind : p.kind ≡ kind.Unique
   pub entity : p.entity ≡ r.entity
@@ -114,13 +114,13 @@ pub record IsInverseRule (s : Schema) (es : List EntityClauses) (e : List ℕ) (
   pub source : IsNamed s c.source r.source
   pub attribute : IsMeant s es r.source c.attribute (found.Explicit r.attribute)
 
--- Such bounds are looked at where not every count is within them, and no entity below the other one derives the attribute.
+-- Such bounds are looked at where not every count is within them, and no entity but the other one and its ancestors derives the attribute.
 pub record IsCounted (s : Schema) (r : InverseRule) : Type 0 where
   pub bounds : bounds_of_rule r ≢ any r.is_bag
   pub derivers : AreDerivers s r.source (attribute_at s r.attribute) []
 
--- Why bounds are skipped: they are no numbers; the attribute is a derived or inverse one; or of the entities below the other one that derive it this is the
--- first.
+-- Why bounds are skipped: they are no numbers; the attribute is a derived or inverse one; or of the entities, but the other one and its ancestors,
+-- that derive it this is the first.
 pub data IsUncounted (s : Schema) (source : EntityId) (n : List ℕ) : Option Bounds → Found → (attribute subtype : List ℕ) → Type 0 where
   no_numbers : {f : Found} → f ≢ found.Nothing → IsUncounted s source n None f [] []
   other : {b : Bounds} → IsUncounted s source n (Some b) found.Other n []

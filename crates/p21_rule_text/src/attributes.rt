@@ -6,10 +6,11 @@ ghost use Rattle.p21_express.specs.Plain.{plain_derived, plain_entity};
 ghost use Rattle.p21_express.specs.Schema.{Derived};
 ghost use Rattle.p21_express.specs.WellFormed.{IsIn, new_explicit};
 ghost use Rattle.p21_schema.specs.Place.{IsEntityOf, entity_at};
-ghost use Rattle.p21_rule_text.specs.Clauses.{InverseClause};
+ghost use Rattle.p21_rule_text.specs.Clauses.{InverseClause, plain_inverse};
 ghost use Rattle.p21_rule_text.specs.Entities.{plain_clauses};
-ghost use Rattle.p21_rule_text.specs.Resolve.{DeclaresDerived, DeclaresExplicit, DeclaresInverse, DeclaresNew, HasDerived, IsOwn};
+ghost use Rattle.p21_rule_text.specs.Resolve.{DeclaresDerived, DeclaresExplicit, DeclaresInverse, DeclaresNew, HasDerived, HasInverse, HasOther, IsOwn};
 
+use crate::clauses::InverseClause as Inverse;
 use crate::entities::EntityClauses;
 use p21_express::{DeriveDecl, EntityDecl};
 use p21_schema::{AttrId, EntityId, Schema};
@@ -45,7 +46,7 @@ pub(crate) fn declares_new(
     }
 }
 
-/// Whether it newly declares one in DERIVE, or an INVERSE attribute.
+/// Whether it newly declares one in DERIVE or INVERSE.
 pub(crate) fn declares_other(
     schema: &Schema,
     clauses: &[EntityClauses],
@@ -55,7 +56,20 @@ pub(crate) fn declares_other(
     requires { IsEntityOf schema.now entity }
     ensures { let is = DeclaresDerived schema.now entity name.now ⊎ DeclaresInverse (map plain_clauses clauses.now) entity name.now in MatchBool result is (¬ is) }
 {
-    newly_derives(schema, entity, name) || has_inverse(clauses, entity, name)
+    newly_derives(schema, entity, name) || newly_inverse(clauses, entity, name)
+}
+
+/// Whether it declares one in DERIVE or INVERSE, newly or again.
+pub(crate) fn has_other(
+    schema: &Schema,
+    clauses: &[EntityClauses],
+    entity: EntityId,
+    name: &[u8],
+) -> bool
+    requires { IsEntityOf schema.now entity }
+    ensures { let is = HasOther schema.now (map plain_clauses clauses.now) entity name.now in MatchBool result is (¬ is) }
+{
+    derives(schema, entity, name) || has_inverse(clauses, entity, name)
 }
 
 /// The explicit attribute of this name that an entity newly declares.
@@ -114,7 +128,7 @@ fn is_new(attribute: &DeriveDecl, name: &[u8]) -> bool
 }
 
 /// Whether an entity declares an attribute of this name in DERIVE, newly or again.
-pub(crate) fn derives(schema: &Schema, entity: EntityId, name: &[u8]) -> bool
+fn derives(schema: &Schema, entity: EntityId, name: &[u8]) -> bool
     requires { IsEntityOf schema.now entity }
     ensures { let is = HasDerived schema.now entity name.now in MatchBool result is (¬ is) }
 {
@@ -133,9 +147,43 @@ fn derives_in(declared: &EntityDecl, name: &[u8]) -> bool
     false
 }
 
-/// Whether the clauses of an entity declare an INVERSE attribute of this name.
-pub(crate) fn has_inverse(clauses: &[EntityClauses], entity: EntityId, name: &[u8]) -> bool
+/// Whether the clauses of an entity newly declare an INVERSE attribute of this name.
+fn newly_inverse(clauses: &[EntityClauses], entity: EntityId, name: &[u8]) -> bool
     ensures { let is = DeclaresInverse (map plain_clauses clauses.now) entity name.now in MatchBool result is (¬ is) }
+{
+    let place = entity.place();
+    if place < clauses.len() {
+        newly_inverse_in(&clauses[place], name)
+    } else {
+        false
+    }
+}
+
+/// Whether these do.
+fn newly_inverse_in(clauses: &EntityClauses, name: &[u8]) -> bool
+    ensures { let is = (i : InverseClause) × (IsIn (plain_clauses clauses.now).inverse i × ((i.name.of ≡ None) × (i.name.name ≡ name.now))) in MatchBool result is (¬ is) }
+{
+    for inverse in &clauses.inverse {
+        if is_new_inverse(inverse, name) {
+            return true;
+        }
+    }
+    false
+}
+
+/// Whether an INVERSE attribute is new, and has this name.
+fn is_new_inverse(inverse: &Inverse, name: &[u8]) -> bool
+    ensures { let i = plain_inverse inverse.now in let is = (i.name.of ≡ None) × (i.name.name ≡ name.now) in MatchBool result is (¬ is) }
+{
+    match inverse.name.of {
+        Some(_) => false,
+        None => inverse.name.name == name,
+    }
+}
+
+/// Whether the clauses of an entity declare an INVERSE attribute of this name, newly or again.
+pub(crate) fn has_inverse(clauses: &[EntityClauses], entity: EntityId, name: &[u8]) -> bool
+    ensures { let is = HasInverse (map plain_clauses clauses.now) entity name.now in MatchBool result is (¬ is) }
 {
     let place = entity.place();
     if place < clauses.len() {

@@ -4,7 +4,7 @@ ghost use Rattle.std.specs.Prelude.{◌≡◌, ◌++◌, OnOk, map};
 ghost use Rattle.p21_express.specs.Grammar.{begins_rules, ends_attributes};
 ghost use Rattle.p21_express.specs.Reader.{words_of, again_of, Gives, many_at};
 ghost use Rattle.p21_rule_text.specs.Clauses.{inverse_at, plain_inverse, plain_unique, unique_at};
-ghost use Rattle.p21_rule_text.specs.Entities.{behind_attributes, behind_statements, declaration_at, none_or_one, declarations_at, entities_at, entity_at, entity_end, if_inverses_at, if_uniques_at, inverses_at, plain_clauses, skipped_at, uniques_at};
+ghost use Rattle.p21_rule_text.specs.Entities.{behind_attributes, behind_statements, declaration_at, none_or_one, declarations_at, entities_at, entity_at, entity_end, if_inverses_at, if_uniques_at, inverses_at, plain_clauses, skipped_at, type_at, type_end, uniques_at};
 
 use crate::clauses::{InverseClause, UniqueClause, inverse, unique};
 use p21_express::{
@@ -188,6 +188,28 @@ fn entity<'t, 'a>(
     Ok((clauses, rest))
 }
 
+/// The words after WHERE and its rules, if they are there, and END_TYPE.
+#[tactic(auto, unfolding(crate::specs::Entities::type_end))]
+fn type_end<'t, 'a>(words: &'t [Word<'a>]) -> Result<&'t [Word<'a>], Refusal>
+    ensures { Gives (λ x. words_of x.now) result (type_end (words_of words.now)) }
+{
+    if begins_name(words, b"WHERE") {
+        return behind(words, None, b"END_TYPE");
+    }
+    keyword(words, b"END_TYPE")
+}
+
+/// The words after a type, after the word TYPE; there are no entities in it.
+#[tactic(auto, unfolding(crate::specs::Entities::type_at))]
+fn skipped_type<'t, 'a>(
+    words: &'t [Word<'a>],
+) -> Result<(Option<EntityClauses<'a>>, &'t [Word<'a>]), Refusal>
+    ensures { Gives (λ x. (none_or_one x.0, words_of x.1.now)) result (type_at (words_of words.now)) }
+{
+    let rest = symbol(type_end(behind_stop(words, b';')?)?, b';')?;
+    Ok((None, rest))
+}
+
 /// The words after a declaration that is skipped, after its first word; there are no entities in it.
 #[tactic(auto, unfolding(crate::specs::Entities::skipped_at))]
 fn skipped<'t, 'a>(
@@ -215,7 +237,7 @@ fn declaration<'t, 'a>(
             let (clauses, rest) = entity(alloc, rest)?;
             Ok((Some(clauses), rest))
         }
-        DeclWord::Type => skipped(rest, None, b"END_TYPE"),
+        DeclWord::Type => skipped_type(rest),
         DeclWord::Function => skipped(rest, Some(b"FUNCTION"), b"END_FUNCTION"),
         DeclWord::Procedure => skipped(rest, Some(b"PROCEDURE"), b"END_PROCEDURE"),
         DeclWord::Rule => skipped(rest, None, b"END_RULE"),

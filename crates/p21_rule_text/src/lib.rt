@@ -5,6 +5,7 @@ mod attributes;
 mod bounds;
 mod clauses;
 mod entities;
+mod entity_names;
 mod inverse;
 mod labels;
 mod redeclared;

@@ -11,7 +11,7 @@ ghost use Rattle.p21_rule_text.specs.Entities.{EntityClauses as PlainClauses, pl
 ghost use Rattle.p21_rule_text.specs.declared.resolve.Found.{Found};
 ghost use Rattle.p21_rule_text.specs.Resolve.{DeclaresNew, IsAmong, IsDeclarer, IsInverseOfAncestor, IsAttribute, IsFirstLowest, IsLower, IsLowest, IsMeant, IsOwner, IsOwnerNamed};
 
-use crate::attributes::{count, declares_new, declares_other, derives, has_inverse, own};
+use crate::attributes::{count, declares_new, declares_other, has_inverse, has_other, own};
 use crate::entities::EntityClauses;
 use crate::redeclared::{again, is_below, is_derived_above, is_owner};
 use p21_express::AttrName;
@@ -80,7 +80,7 @@ fn among(
     if let Some(attribute) = again(schema, owner, name) {
         return explicit(schema, entity, attribute);
     }
-    if derives(schema, owner, name) {
+    if has_other(schema, clauses, owner, name) {
         Found::Other
     } else {
         Found::Nothing

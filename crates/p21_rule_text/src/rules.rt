@@ -9,6 +9,7 @@ ghost use Rattle.p21_rule_text.specs.Entities.{entities_at, if_whole, plain_clau
 ghost use Rattle.p21_rule_text.specs.Rules.{AreListed, AreRules, HasNoRules};
 
 use crate::entities::{EntityClauses, entities};
+use crate::entity_names::other_entity;
 use crate::labels::repeated_label;
 use crate::statements::{Known, PassedOver, Statement, push_statements};
 use p21_express::{
@@ -70,7 +71,8 @@ impl Rules {
 /// The rules of the text from which a schema was read.
 ///
 /// A rule UNIQUE or an INVERSE attribute that is not of the grammar is refused as `Syntax` at its first word that does not fit, and `RENAMED` after the name
-/// of an INVERSE attribute with SELF as `NotSupported`. Then the second of two rules UNIQUE of one label in an entity is refused as `Repeated`, and then the
+/// of an INVERSE attribute with SELF as `NotSupported`. Then the text of another schema is refused as `UnknownName` at the first entity that is not
+/// the schema's at its place, or at its end. Then the second of two rules UNIQUE of one label in an entity is refused as `Repeated`, and then the
 /// name of what is no such entity or attribute as `UnknownName`. `Memory` says that there was no memory left.
 ///
 /// No clause says where in the text begins what is not checked (`PassedOver::at`): tested.
@@ -99,6 +101,9 @@ pub fn read_rules(alloc: Global, text: &[u8], schema: &Schema) -> Result<Rules, 
                 clauses: &clauses,
                 places: &scanned.places,
             };
+            if let Some(other) = other_entity(schema, &clauses) {
+                return Err(SchemaError::UnknownName(place_at(&scanned.places, other)));
+            }
             if let Some(label) = repeated_label(&clauses) {
                 return Err(SchemaError::Repeated(place_at(&scanned.places, label)));
             }

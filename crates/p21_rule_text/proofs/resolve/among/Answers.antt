@@ -12,8 +12,8 @@ returns-then-declares_other c = IsAmong.new c.in_default.ensures (inr c.if-decla
 pub returns-in-Some-again : goal.returns-in-Some-again
 returns-in-Some-again c = IsAmong.again (neither c.in_default.ensures c.if-declares_other.ensures) c.in-Some-again.ensures c.explicit-in-Some-again.ensures
 
-pub returns-then-derives : goal.returns-then-derives
-returns-then-derives c = IsAmong.again_derived (neither c.in_default.ensures c.if-declares_other.ensures) c.in_default-again.ensures c.if-derives.ensures
+pub returns-then-has_other : goal.returns-then-has_other
+returns-then-has_other c = IsAmong.again_other (neither c.in_default.ensures c.if-declares_other.ensures) c.in_default-again.ensures c.if-has_other.ensures
 
-pub returns-else-derives : goal.returns-else-derives
-returns-else-derives c = IsAmong.nothing (neither c.in_default.ensures c.if-declares_other.ensures) c.in_default-again.ensures c.if-derives.ensures
+pub returns-else-has_other : goal.returns-else-has_other
+returns-else-has_other c = IsAmong.nothing (neither c.in_default.ensures c.if-declares_other.ensures) c.in_default-again.ensures c.if-has_other.ensures

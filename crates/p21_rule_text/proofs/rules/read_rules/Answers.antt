@@ -2,7 +2,7 @@ use Rattle.std.proofs.Common.{[], map, length, ◌∙◌}
 use Rattle.std.proofs.lemmas.Result.{err_from_is_err_and}
 use Rattle.p21_express.specs.Reader.{words_of}
 use Rattle.p21_rule_text.specs.Entities.{plain_clauses}
-use Rattle.p21_rule_text.proofs.RefusalLemmas.{on_along, repeated, unread, unruled}
+use Rattle.p21_rule_text.proofs.RefusalLemmas.{on_along, others, unread, unruled}
 use Rattle.p21_rule_text.proofs.SchemaLemmas.{inverse_rules, unique_rules}
 use Rattle.p21_rule_text.proofs.rules.read_rules.Goals as goal
 
@@ -31,5 +31,5 @@ returns-clause-refused c =
 pub returns-in-Some-clause-refused : goal.returns-in-Some-clause-refused
 returns-in-Some-clause-refused c =
     let upper = c.deref.ensures.value ∙ c.in_ok-upper.ensures in
-    let twice = rw c.deref-in-Ok-3.ensures.value at c.in-Some.ensures in
-    repeated c.args.schema.now c.args.text.now c.deref.result.now c.in_ok-scanned.scanned.is_whole (words_of c.in_ok-scanned.scanned.words.items) (map plain_clauses c.in-Ok.clauses.items) c.one_word_list.ensures upper c.in_ok-scanned.ensures.whole c.in-Ok.ensures twice
+    let other = rw c.deref-in-Ok-3.ensures.value at c.in-Some.ensures in
+    others c.args.schema.now c.args.text.now c.deref.result.now c.in_ok-scanned.scanned.is_whole (words_of c.in_ok-scanned.scanned.words.items) (map plain_clauses c.in-Ok.clauses.items) c.one_word_list.ensures upper c.in_ok-scanned.ensures.whole c.in-Ok.ensures other
