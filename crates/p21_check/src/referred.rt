@@ -179,7 +179,7 @@ fn push_by_each(
 }
 
 /// Adds the references in a parameter that are asked for.
-fn push_asked<'s>(
+pub(crate) fn push_asked<'s>(
     schema: &'s Schema,
     wanted: Wanted<'s>,
     param: &Param<'_>,
