@@ -41,7 +41,3 @@ pub mod ListsLemmas
 pub mod DistinctLemmas
 pub mod MarkLemmas
 pub mod ReferredLemmas
-pub mod PassedLemmas
-pub mod ShapeLemmas
-pub mod WalkRecordLemmas
-pub mod WalkPieceLemmas

@@ -20,7 +20,3 @@ pub mod Lists
 pub mod Asked
 pub mod EntityOf
 pub mod Referred
-pub mod Passed
-pub mod Shape
-pub mod WalkRecord
-pub mod WalkPiece

@@ -179,7 +179,7 @@ fn push_by_each(
 }
 
 /// Adds the references in a parameter that are asked for.
-pub(crate) fn push_asked<'s>(
+fn push_asked<'s>(
     schema: &'s Schema,
     wanted: Wanted<'s>,
     param: &Param<'_>,

@@ -8,4 +8,3 @@ pub mod PartLemmas
 pub mod FaultLemmas
 pub mod KeptLemmas
 pub mod NamelessLemmas
-pub mod WalkedLemmas

@@ -5,11 +5,11 @@ ghost use Rattle.p21_schema.specs.Ancestry.{entity_id};
 ghost use Rattle.p21_schema.specs.Place.{IsEntityOf};
 ghost use Rattle.p21_outline.specs.Rows.{IsWithin, AreWithin-prop, row_behind};
 
-use crate::let_go::LetGo;
 use p21_check::Reference;
 use p21_schema::{EntityId, Schema};
 use p21_tree::RawInstance;
 use std::alloc::{AllocError, Global};
+use std::snapshot::Snapshot;
 
 /// What is kept of an instance, where its references and what is whole stand in other columns. A file has millions, so it takes 12 bytes.
 #[derive(Drop)]
@@ -18,7 +18,7 @@ pub(crate) struct Row<'a> {
     /// Where its references end, which begin where those of the row before end.
     pub(crate) end: u32,
     /// The instance, where it was let go.
-    pub(crate) gone: LetGo<RawInstance<'a>>,
+    pub(crate) gone: Snapshot<RawInstance<'a>>,
 }
 
 const _: () = prove!(size_of::<Row<'static>>() == 12);
@@ -46,7 +46,7 @@ pub(crate) struct Columns<'a> {
 }
 
 impl<'a> Columns<'a> {
-    ghost use Rattle.std.specs.Prelude.{◌<◌, ◌≤◌, ◌^◌, [], get_or, slice_range};
+    ghost use Rattle.std.specs.Prelude.{◌<◌, ◌≤◌, [], get_or, slice_range};
     ghost use Rattle.p21_outline.specs.Rows.{HaveReferences, RefersAt};
     ghost use Rattle.p21_outline.specs.declared.columns.Row.{Row};
     ghost use Rattle.p21_express.specs.Schema.{Schema};
@@ -86,10 +86,9 @@ impl<'a> Columns<'a> {
         written: u64,
         entity: EntityId,
         references: &[Reference],
-        gone: LetGo<RawInstance<'a>>,
+        gone: Snapshot<RawInstance<'a>>,
     ) -> Result<(), AllocError>
         ensures ok { OnOk result (AppendsSimple self.old written entity references.now gone.entry.value self.new) }
-        ensures small { written < 2 ^ 64 }
         ensures err { OnErr result (IsAsItWas self.old self.new) }
     {
         let entity = short(entity.place())?;
@@ -117,7 +116,7 @@ impl<'a> Columns<'a> {
         let place = short(self.wholes.len())?;
         let end = short(self.references.len())?;
         self.rows.reserve(1)?;
-        let gone = LetGo::of(&whole);
+        let gone = Snapshot::of(&whole);
         self.wholes.push(whole)?;
         self.written = self.written.saturating_add(written);
         self.rows.push_reserved(Row {

@@ -20,5 +20,3 @@ mod tables;
 mod text_tests;
 #[cfg(test)]
 mod tree_tests;
-#[cfg(test)]
-mod walk_tests;

@@ -1,3 +1,0 @@
-pub mod Literals
-pub mod Ends
-pub mod Meaning
