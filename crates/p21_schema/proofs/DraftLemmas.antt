@@ -1,5 +1,5 @@
 -- A row that is made.
-use Rattle.std.proofs.Common.{◌≡◌, ℕ, zero, suc, ◌+◌, ◌-◌, ◌<◌, ◌≤◌, Bool, true, false, nat_eq, ◌||◌, List, [], ◌∷◌, ◌++◌, length, get_or, set, take, refl, sym, ap, ◌∙◌, subst, ⊎_elim, arith, inl, inr, add-zero, append_assoc}
+use Rattle.std.proofs.Common.{◌≡◌, ℕ, zero, suc, ◌+◌, ◌-◌, ◌<◌, ◌≤◌, Option, Bool, true, false, nat_eq, ◌||◌, List, [], ◌∷◌, ◌++◌, length, get_or, set, take, refl, sym, ap, ◌∙◌, subst, ⊎_elim, arith, inl, inr, add-zero, append_assoc}
 use Rattle.std.specs.List.{list_any}
 use Rattle.std.proofs.lemmas.Bool.{cases_Bool, cases_eq, false≢true, eqb-true, eq-eqb, ne_eqb}
 use Rattle.std.proofs.lemmas.List.{length-set, get_or-set_same, get_or-set_other, take_more, append-nil}
@@ -153,3 +153,19 @@ begins_with_first all (x ∷ xs) own d e h =
     let more = joined (row_of all) xs ++ own in
     let g = grows (row_of all x) more in
     (g.0, ap (λ (u : List AttrId). all_kept [] u) (append_assoc (row_of all x) (joined (row_of all) xs) own) ∙ all_kept_append [] (row_of all x) more ∙ ap (λ (u : List AttrId). all_kept u more) (all_new [] (row_of all x) (d x)) ∙ g.1 ∙ ap (λ (k : ℕ). row_of all k ++ g.0) same)
+
+-- ---- a row that goes on from another
+
+-- the row of one entity, and attributes after it
+pub goes_on : (all : List (List AttrId)) (e : ℕ) (own : List AttrId) → AreDistinct (row_of all e) → all_kept (row_of all e) own ≡ all_kept [] (joined (row_of all) (e ∷ []) ++ own)
+goes_on all e own d =
+    ap (λ (u : List AttrId). all_kept u own) (sym (all_new [] (row_of all e) d)) ∙ sym (all_kept_append [] (row_of all e) own) ∙ ap (λ (u : List AttrId). all_kept [] (u ++ own)) (sym (append-nil (row_of all e)))
+
+-- what is made is made under the number that it has, whatever it is of
+pub made_of : (size number : ℕ) (row : List AttrId) (d : Draft) (of : Option ℕ) → IsMade size number row d → IsMade size d.number row (record { ids = d.ids; marks = d.marks; number = d.number; of = of })
+made_of size number row d of h = record {
+  marks = subst (λ (n : ℕ). AreMarks d.marks.items n row) (sym h.numbered) h.marks;
+  ids = h.ids;
+  numbered = refl;
+  count = h.count;
+}

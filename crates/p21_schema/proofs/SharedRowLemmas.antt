@@ -11,7 +11,9 @@ use Rattle.p21_graph.specs.MemberLaws.{in_front, not_before, last_in, front_in, 
 use Rattle.p21_schema.specs.Ancestry.{AreSupertypesNamed}
 use Rattle.p21_schema.specs.declared.rows.Own.{Own}
 use Rattle.p21_schema.specs.declared.ids.AttrId.{AttrId}
+use Rattle.p21_schema.specs.declared.draft.Draft.{Draft}
 use Rattle.p21_schema.specs.declared.rows.Row.{Row}
+use Rattle.p21_schema.specs.Draft.{IsWholeRow}
 use Rattle.p21_schema.specs.RowTable.{no_own, IsOwnTable, IsRowAt, BeginsWithFirst, all_kept, ids_from, joined, row_of, from_of, rest_of, IsBegun, IsBeginning, IsRowOver, AreRowsOver, AreWithin, IsSamePosition}
 use Rattle.p21_schema.proofs.AncestryLemmas.{all_names, distinct_entities}
 use Rattle.p21_schema.proofs.RowLemmas.{row_at, attributes_distinct, all_alike}
@@ -159,3 +161,12 @@ module _ (graph : List (List ℕ)) (own : List Own) (order : List ℕ) (i : ℕ)
             (λ (ne : (v ≡ next) → ⊥). rw (get_or-set_other all next v ids [] ne) (before v (⊎_elim (λ (f : IsIn (take i order) v). f) (λ (e : next ≡ v). absurd (ne (sym e))) (front_more order i 0 v less m))))
             (cases_eq v next);
       }
+
+  -- and a draft that was made for it is its whole row
+  pub one_whole : (ids : List AttrId) (row : Row) (made : ids ≡ all_kept [] (joined (row_of h.all) (get_or graph next []) ++ ids_from next_own.from (next_own.to - next_own.from))) (this : IsRowOver h.all rows ids row) (d : Draft) → d.ids.items ≡ ids → d.of ≡ Some next → IsWholeRow (one_done ids row made this).all d
+  unfolding one_done
+  one_whole ids row made this d is of e at =
+      let both : Some next ≡ Some e = sym of ∙ at in
+      let same : next ≡ e = cc in
+      let below : next < length h.all = subst (λ u. next < u) (sym h.over.count) next_below in
+      (is ∙ sym (get_or-set_same h.all next ids [] below) ∙ ap (λ (u : ℕ). row_of (set h.all next ids) u) same, (one_done ids row made this).distinct e)

@@ -1,10 +1,10 @@
 -- A row that is made, with marks for the attributes that stand in it.
-use Rattle.std.specs.Prelude.{◌≡◌, ◌<◌, ◌≤◌, ℕ, nat_eq, List, length, get_or}
+use Rattle.std.specs.Prelude.{◌≡◌, ◌<◌, ◌≤◌, ℕ, nat_eq, List, Some, length, get_or}
 use Rattle.std.specs.List.{list_any}
-use Rattle.p21_express.specs.WellFormed.{IsIn}
+use Rattle.p21_express.specs.WellFormed.{IsIn, AreDistinct}
 use Rattle.p21_schema.specs.declared.draft.Draft.{Draft}
 use Rattle.p21_schema.specs.declared.ids.AttrId.{AttrId}
-use Rattle.p21_schema.specs.RowTable.{same_id}
+use Rattle.p21_schema.specs.RowTable.{same_id, row_of}
 
 -- an attribute has the number of the row as its mark where it stands in the row, and no mark is greater
 pub record AreMarks (marks : List ℕ) (number : ℕ) (row : List AttrId) : Type 0 where
@@ -21,3 +21,7 @@ pub record IsMade (size number : ℕ) (row : List AttrId) (d : Draft) : Type 0 w
   pub ids : d.ids.items ≡ row
   pub numbered : d.number ≡ number
   pub count : length d.marks.items ≡ size
+
+-- where the row is one of an entity, it is the whole row of that, in which no attribute stands twice
+abbrev pub IsWholeRow : List (List AttrId) → Draft → Type 0
+IsWholeRow all d = (e : ℕ) → d.of ≡ Some e → (d.ids.items ≡ row_of all e) × AreDistinct (row_of all e)

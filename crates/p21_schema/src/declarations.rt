@@ -1,9 +1,9 @@
 //! The declarations of each attribute.
 
-ghost use Rattle.std.specs.Prelude.{◌≡◌, ◌<◌, ◌↔◌, ◌++◌, ◌∷◌, ℕ, List, [], length, get_or, map, set, IfOk, OnOk, IsTrue, MatchOption};
+ghost use Rattle.std.specs.Prelude.{◌≡◌, ◌<◌, ◌≤◌, ◌+◌, ◌↔◌, ◌++◌, ◌∷◌, ℕ, List, [], None, length, get_or, map, set, IfOk, OnOk, IsTrue, MatchOption};
 ghost use Rattle.p21_express.specs.Plain.{plain_entity, plain_attribute, plain_derived};
 ghost use Rattle.p21_schema.specs.DeclarationTable.{known_schema, IsNotOwn, IsOwnAt, IsOriginAt, IsDeclared, IsDeclarationTable, IsFitting};
-ghost use Rattle.p21_express.specs.WellFormed.{IsIn, IsEntity, IsOrigin, Origin, new_explicit};
+ghost use Rattle.p21_express.specs.WellFormed.{IsIn, IsEntity, IsOrigin, Origin, new_explicit, with_new};
 ghost use Rattle.p21_graph.specs.Graph.{rows_of};
 ghost use Rattle.p21_schema.specs.Ancestry.{entity_id, IsA};
 ghost use Rattle.p21_schema.specs.Declaration.{Written, written_explicit, written_derived, explicit_in, derived_in, written};
@@ -113,15 +113,21 @@ fn again(known: &Known, of: &[u8], name: &[u8]) -> Option<usize>
     attribute_above(known, known.entities.known(of), name)
 }
 
-/// The attribute that an explicit declaration declares.
-fn explicit_attribute(known: &Known, entity: usize, attribute: &AttrDecl) -> Option<usize>
+/// The attribute that an explicit declaration declares: this one, where it is newly declared.
+fn explicit_attribute(
+    known: &Known,
+    entity: usize,
+    attribute: &AttrDecl,
+    new: usize,
+) -> Option<usize>
+    requires new { (plain_attribute attribute.now).of ≡ None → IsOwnAt (known_schema known.now) entity (plain_attribute attribute.now).name new }
     requires known { IsFitting known.now }
     requires entity { entity < length (known_schema known.now).entities }
     requires attribute { IsIn (get_or (known_schema known.now).entities entity no_entity).attributes (plain_attribute attribute.now) }
     ensures { IsDeclared (known_schema known.now) (written_explicit (get_or (known_schema known.now).entities entity no_entity).name (plain_attribute attribute.now)) result }
 {
     match &attribute.of {
-        None => own_attribute(known, entity, &attribute.name),
+        None => Some(new),
         Some(of) => again(known, of, &attribute.name),
     }
 }
@@ -152,6 +158,15 @@ fn add(
     Ok(())
 }
 
+/// The place of the next attribute that is newly declared after this declaration, where this is that of the next one from it on, and all
+/// stand before the end.
+fn place_after(attribute: &AttrDecl, new: usize, end: usize) -> usize
+    requires { new + length (with_new (plain_attribute attribute.now).of (plain_attribute attribute.now).name []) ≤ end }
+    ensures { result ≡ new + length (with_new (plain_attribute attribute.now).of (plain_attribute attribute.now).name []) }
+{
+    if attribute.of.is_none() { new + 1 } else { new }
+}
+
 /// The explicit declarations of an entity after the others.
 fn add_explicit(
     alloc: Global,
@@ -165,14 +180,17 @@ fn add_explicit(
     ensures table { OnOk result ((ws : List Written) → IsDeclarationTable (known_schema known.now) ws (rows_of lists.old) → IsDeclarationTable (known_schema known.now) (ws ++ explicit_in (get_or (known_schema known.now).entities entity no_entity)) (rows_of lists.new)) }
     ensures count { OnOk result (length (rows_of lists.new) ≡ length (rows_of lists.old)) }
 {
+    let own = known.own[entity];
+    let mut new = own.from;
     for attribute in &known.declarations.entities[entity].attributes {
-        if let Some(place) = explicit_attribute(known, entity, attribute) {
+        if let Some(place) = explicit_attribute(known, entity, attribute, new) {
             let texpr = resolve(alloc, known.entities, known.types, &attribute.texpr)?;
             let optional = attribute.optional;
             let form = Form::Explicit { optional, texpr };
             let entity = EntityId { index: entity };
             add(lists, place, Declaration { entity, form })?;
         }
+        new = place_after(attribute, new, own.to);
     }
     Ok(())
 }

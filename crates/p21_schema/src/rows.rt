@@ -173,7 +173,7 @@ impl Rows {
         let mut draft = Draft::new(alloc, count)?;
         for (place, entity) in order.iter().enumerate() {
             let above = &supertypes[*entity];
-            draft.fill(alloc, &rows, above, own[*entity], place + 1)?;
+            draft.fill(alloc, &rows, above, own[*entity], *entity, place + 1)?;
             rows[*entity] = begun(alloc, &rows, above, &draft.ids)?;
         }
         Ok(Rows { rows })

@@ -12,14 +12,13 @@ again-requires-clause-of c =
     let s = known_schema c.args.known.now in
     let of : (plain_attribute c.args.attribute.now).of ≡ Some c.in-Some.of.items = ap (option_map (λ (n : Vec ℕ _). n.items)) c.in-Some.is in
     let r = explicit_redeclares s c.requires.known.well_formed c.args.entity c.requires.entity (plain_attribute c.args.attribute.now) c.in-Some.of.items c.requires.attribute of in
-    rw c.deref-in-Some.ensures.value (ancestor_known s c.requires.known.well_formed r.1.ancestor)
+    rw c.deref.ensures.value (ancestor_known s c.requires.known.well_formed r.1.ancestor)
 
 pub returns-in-None : goal.returns-in-None
 returns-in-None c =
     let s = known_schema c.args.known.now in
     let of : (plain_attribute c.args.attribute.now).of ≡ None = ap (option_map (λ (n : Vec ℕ _). n.items)) c.in-None.is in
-    declared_newly s c.requires.known.well_formed c.args.entity (plain_attribute c.args.attribute.now) c.own_attribute.result c.requires.attribute of
-    (subst (λ (n : List ℕ). MatchOption c.own_attribute.result (IsNotOwn s c.args.entity n) (λ i. IsOwnAt s c.args.entity n i)) c.deref.ensures.value c.own_attribute.ensures)
+    declared_newly s c.requires.known.well_formed c.args.entity (plain_attribute c.args.attribute.now) (Some c.args.new) c.requires.attribute of (c.requires.new of)
 
 pub returns-in-Some : goal.returns-in-Some
 returns-in-Some c =
@@ -28,4 +27,4 @@ returns-in-Some c =
     let of : a.of ≡ Some c.in-Some.of.items = ap (option_map (λ (n : Vec ℕ _). n.items)) c.in-Some.is in
     let r = explicit_redeclares s c.requires.known.well_formed c.args.entity c.requires.entity a c.in-Some.of.items c.requires.attribute of in
     declared_again s c.requires.known.well_formed (written_explicit (get_or s.entities c.args.entity no_entity).name a) c.in-Some.of.items r.0 c.again.result of r.1
-    (rw (c.deref-in-Some.ensures.value, c.deref-in-Some-2.ensures.value) at c.again.ensures)
+    (rw (c.deref.ensures.value, c.deref-in-Some.ensures.value) at c.again.ensures)

@@ -1,27 +1,29 @@
-use Rattle.std.proofs.Common.{◌≡◌, ◌-◌, ◌++◌, ℕ, List, [], get_or, take, sym, ap, ◌∙◌}
-use Rattle.std.proofs.lemmas.List.{take_all}
-use Rattle.std.proofs.lemmas.Result.{on_ok_weaker}
-use Rattle.p21_graph.specs.MemberLaws.{at_place}
+use Rattle.std.proofs.Common.{◌≡◌, ◌-◌, ◌++◌, ◌∷◌, ℕ, List, [], Some, true, length, refl, sym, ap, subst, ◌∙◌}
+use Rattle.p21_schema.specs.declared.ids.AttrId.{AttrId}
+use Rattle.p21_schema.specs.declared.draft.Draft.{Draft}
+use Rattle.p21_schema.specs.Draft.{IsMade}
 use Rattle.p21_schema.specs.RowTable.{joined, row_of, all_kept, ids_from}
-use Rattle.p21_schema.proofs.DraftLemmas.{all_kept_append, made_next, joined_more}
+use Rattle.p21_schema.proofs.DraftLemmas.{all_kept_append, made_next, goes_on, made_of}
 use Rattle.p21_schema.proofs.draft.Draft.fill.Goals as goal
+use Rattle.p21_schema.proofs.draft.Draft.fill.Goals.{then-not-is_of+in_ok-keep_rows, else-not-is_of}
 
-pub keep_row-requires-clause-rows : goal.keep_row-requires-clause-rows
-keep_row-requires-clause-rows c =
-    let k = c.loop-supertype.supertype-index in
-    (c.requires.rows.0, (c.requires.rows.1.0, c.requires.rows.1.1 (get_or c.args.supertypes.now k 0) (at_place c.args.supertypes.now k 0 c.loop-supertype-test.true)))
-
-pub loop-supertype-preserved : goal.loop-supertype-preserved
-loop-supertype-preserved c = λ all t.
-    let k = c.loop-supertype.supertype-index in
-    let es = c.args.supertypes.now in
-    made_next _ _ (all_kept [] (joined (row_of all) (take k es))) _ (λ r. all_kept r (row_of all (get_or es k 0))) c.loop-supertype.self c.keep_row.new.self (c.loop-supertype.invariant all t) (c.in_ok-keep_row.ensures all t) (joined_more (row_of all) es k c.loop-supertype-test.true)
-
-pub returns : goal.returns
-returns c =
-    let es = c.args.supertypes.now in
+pub returns-clause-made : goal.returns-clause-made
+returns-clause-made c = λ all t whole.
+    let old = c.if-not-is_of.self in
+    let new = c.keep_own.new.self in
+    let size = length c.args.self.now.marks.items in
     let own = ids_from c.args.own.from (c.args.own.to - c.args.own.from) in
-    on_ok_weaker c.keep_own.result (λ h all t.
-    let last : take c.loop-supertype.supertype-index es ≡ es = take_all c.loop-supertype.supertype-index es c.loop-supertype-test.false in
-    let is : all_kept (all_kept [] (joined (row_of all) (take c.loop-supertype.supertype-index es))) own ≡ all_kept [] (joined (row_of all) es ++ own) = ap (λ (u : List ℕ). all_kept (all_kept [] (joined (row_of all) u)) own) last ∙ sym (all_kept_append [] (joined (row_of all) es) own) in
-    made_next _ _ (all_kept [] (joined (row_of all) (take c.loop-supertype.supertype-index es))) _ (λ r. all_kept r own) c.loop-supertype.self c.keep_own.new.self (c.loop-supertype.invariant all t) h is) c.keep_own.ensures
+    let this = c.in_ok-keep_own.ensures in
+    elim c.if-not-is_of.branch [
+      | then-not-is_of+in_ok-keep_rows w ↦
+          let rows = all_kept [] (joined (row_of all) c.args.supertypes.now) in
+          let made : IsMade size c.args.number rows old = subst (λ (d : Draft). IsMade size c.args.number rows d) (sym w.self-is) (w.in_ok-keep_rows.ensures all t) in
+          made_of size c.args.number _ new (Some c.args.entity) (made_next size c.args.number rows _ (λ r. all_kept r own) old new made this (sym (all_kept_append [] (joined (row_of all) c.args.supertypes.now) own)))
+      | else-not-is_of w ↦
+          let one = w.if-not-is_of.ensures refl in
+          let only = whole one.0 one.1.0 in
+          let ids : all_kept old.ids.items own ≡ all_kept [] (joined (row_of all) c.args.supertypes.now ++ own) =
+          ap (λ (d : Draft). all_kept d.ids.items own) w.self-is ∙ ap (λ (u : List AttrId). all_kept u own) only.0 ∙ goes_on all one.0 own only.1 ∙ ap (λ (u : List ℕ). all_kept [] (joined (row_of all) u ++ own)) (sym one.1.1) in
+          let made : IsMade size old.number (all_kept [] (joined (row_of all) c.args.supertypes.now ++ own)) new = subst (λ (d : Draft). IsMade (length d.marks.items) old.number (all_kept [] (joined (row_of all) c.args.supertypes.now ++ own)) new) w.self-is (subst (λ (u : List AttrId). IsMade (length old.marks.items) old.number u new) ids this) in
+          made_of size old.number _ new (Some c.args.entity) made
+    ]
