@@ -24,7 +24,7 @@ left_out_by : {s : Schema} {o : Bool} {e : Expr} {t : Tree} {ts : Trees} → o �
 left_out_by {s} {o} {e} {t} {ts} a b h =
     subst (λ (p : Bool). AreElements s p e (cons t ts)) (sym a) (subst (λ (u : Tree). AreElements s true e (cons u ts)) (sym b) (conforms.left_out (subst (λ (p : Bool). AreElements s p e ts) a h)))
 
-elements_more : {s : Schema} {o : Bool} {e : Expr} {t : Tree} {ts : Trees} → IsElement s o e t → AreElements s o e ts → AreElements s o e (cons t ts)
+pub elements_more : {s : Schema} {o : Bool} {e : Expr} {t : Tree} {ts : Trees} → IsElement s o e t → AreElements s o e ts → AreElements s o e (cons t ts)
 elements_more {s} {o} {e} {t} {ts} h hs = ⊎_elim (λ (a : (o ≡ true) × (t ≡ tree.absent)). left_out_by a.0 a.1 hs) (λ (b : Conforms s e t). conforms.more b hs) h
 
 module _ (s : Schema) (o : Bool) (e : Expr) (ps : List Param) where

@@ -41,3 +41,7 @@ pub mod ListsLemmas
 pub mod DistinctLemmas
 pub mod MarkLemmas
 pub mod ReferredLemmas
+pub mod PassedLemmas
+pub mod ShapeLemmas
+pub mod WalkRecordLemmas
+pub mod WalkPieceLemmas

@@ -2,12 +2,18 @@
 use Rattle.std.proofs.Common.{◌≡◌, ℕ, List, sym, ap, subst, ◌∙◌, Vec, Box, Bor, Global}
 use Rattle.p21_tree.specs.declared.params.Param.{Param, Param-F, out-Param, roll-Param, fold-roll-Param, roll-out-Param}
 use Rattle.p21_tree.specs.declared.params.Param.TheOpen as level
-use Rattle.p21_tree.specs.declared.params.Param.TheVariants.{Int, Real, Str, Enumeration, Binary, Ref, rolls-Int, rolls-Real, rolls-Str, rolls-Enumeration, rolls-Binary, rolls-Ref}
+use Rattle.p21_tree.specs.declared.params.Param.TheVariants.{Absent, Derived, Int, Real, Str, Enumeration, Binary, Ref, rolls-Absent, rolls-Derived, rolls-Int, rolls-Real, rolls-Str, rolls-Enumeration, rolls-Binary, rolls-Ref}
 use Rattle.p21_tree.specs.declared.params.Param.TheViews.{Items, Typed, rolls-Items, rolls-Typed}
 use Rattle.p21_tree.specs.Tree.{Tree}
 use Rattle.p21_tree.specs.Tree as tree
 use Rattle.p21_tree.specs.Plain.{plain, plain_all, plain_level}
 use Rattle.p21_check.specs.References.{name_count}
+
+pub plain_absent : {p : Param} → p ≡ Absent → plain p ≡ tree.absent
+plain_absent {p} e = ap plain e ∙ ap plain (sym rolls-Absent) ∙ fold-roll-Param Tree plain_level level.Absent
+
+pub plain_derived : {p : Param} → p ≡ Derived → plain p ≡ tree.derived
+plain_derived {p} e = ap plain e ∙ ap plain (sym rolls-Derived) ∙ fold-roll-Param Tree plain_level level.Derived
 
 pub plain_int : {p : Param} (v : Bor (List ℕ)) → p ≡ Int v → plain p ≡ tree.int v.now
 plain_int {p} v e = ap plain e ∙ ap plain (sym (rolls-Int v)) ∙ fold-roll-Param Tree plain_level (level.Int v)

@@ -20,3 +20,7 @@ pub mod Lists
 pub mod Asked
 pub mod EntityOf
 pub mod Referred
+pub mod Passed
+pub mod Shape
+pub mod WalkRecord
+pub mod WalkPiece

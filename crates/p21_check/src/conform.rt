@@ -139,7 +139,7 @@ fn is_left_out(optional: bool, element: &Param<'_>) -> bool
 
 /// Whether a parameter conforms to a type of the schema.
 #[cycle(conform)]
-fn is_defined(schema: &Schema, id: TypeId, param: &Param<'_>) -> bool
+pub(crate) fn is_defined(schema: &Schema, id: TypeId, param: &Param<'_>) -> bool
     requires known { IsTypeOf schema.now id }
     requires bodies { HasBodies (plain param.now) }
     ensures { IsTrue result ↔ Conforms schema.now (named (type_name schema.now id)) (plain param.now) }

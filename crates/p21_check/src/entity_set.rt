@@ -65,7 +65,7 @@ fn is_keyword(schema: &Schema, records: &[Record<'_>], entity: EntityId) -> bool
 }
 
 /// Whether the entity has this name.
-fn has_name(schema: &Schema, entity: EntityId, name: &[u8]) -> bool
+pub(crate) fn has_name(schema: &Schema, entity: EntityId, name: &[u8]) -> bool
     requires { IsEntityOf schema.now entity }
     ensures { IsTrue result ↔ (name.now ≡ entity_name schema.now entity) }
 {

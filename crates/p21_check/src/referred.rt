@@ -179,7 +179,7 @@ fn push_by_each(
 }
 
 /// Adds the references in a parameter that are asked for.
-fn push_asked<'s>(
+pub(crate) fn push_asked<'s>(
     schema: &'s Schema,
     wanted: Wanted<'s>,
     param: &Param<'_>,
@@ -205,6 +205,25 @@ fn push_asked<'s>(
             let asked = wanted.inside(schema, keyword);
             push_asked(schema, asked, inner, into)
         }
+        _ => Ok(()),
+    }
+}
+
+/// The same of a parameter that is most often no instance name and no list.
+#[inline(always)]
+pub(crate) fn push_asked_of_leaf<'s>(
+    schema: &'s Schema,
+    wanted: Wanted<'s>,
+    param: &Param<'_>,
+    into: &mut References,
+) -> Result<(), AllocError>
+    requires { IsAsked schema.now wanted }
+    ensures { OnOk result (Adds schema.entry.now (Somewhere (Asks schema.entry.now wanted.entry (plain param.now))) into.old.items into.new.items) }
+{
+    match param {
+        Param::Ref(_) => push_asked(schema, wanted, param, into),
+        Param::Items(_) => push_asked(schema, wanted, param, into),
+        Param::Typed(..) => push_asked(schema, wanted, param, into),
         _ => Ok(()),
     }
 }

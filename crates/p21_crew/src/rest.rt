@@ -5,7 +5,11 @@ use std::alloc::{AllocError, Global};
 use std::hint;
 use std::sync::Wait;
 
-/// How often a thread that has nothing to do looks again before it sleeps, two pauses of the processor apart.
+/// How many pauses of the processor stand between two looks: a microsecond or less, since each look costs instructions and what it waits
+/// for takes its maker longer.
+const PAUSES: u32 = 16;
+
+/// How often a thread that has nothing to do looks again before it sleeps.
 #[derive(Clone, Copy)]
 pub(crate) struct Patience {
     looks: u32,
@@ -13,10 +17,10 @@ pub(crate) struct Patience {
 
 impl Patience {
     /// That of a thread with a processor of its own: to be woken costs both sides more than many looks.
-    pub(crate) const LONG: Patience = Patience { looks: 512 };
+    pub(crate) const LONG: Patience = Patience { looks: 64 };
 
     /// That of a thread whose processor others of the crew may want.
-    pub(crate) const SHORT: Patience = Patience { looks: 32 };
+    pub(crate) const SHORT: Patience = Patience { looks: 4 };
 }
 
 /// Where a thread waits that has nothing to do: it looks again for some microseconds, and then sleeps until it is woken. It never yields
@@ -72,8 +76,9 @@ impl Rest {
         if busy {
             self.interrupt();
         } else if self.looks < self.patience.looks {
-            hint::spin_loop();
-            hint::spin_loop();
+            for _ in 0..PAUSES {
+                hint::spin_loop();
+            }
             self.looks += 1;
         } else {
             self.parker.park(rt);

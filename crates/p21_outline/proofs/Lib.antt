@@ -8,3 +8,4 @@ pub mod PartLemmas
 pub mod FaultLemmas
 pub mod KeptLemmas
 pub mod NamelessLemmas
+pub mod WalkedLemmas

@@ -5,11 +5,11 @@ ghost use Rattle.p21_schema.specs.Ancestry.{entity_id};
 ghost use Rattle.p21_schema.specs.Place.{IsEntityOf};
 ghost use Rattle.p21_outline.specs.Rows.{IsWithin, AreWithin-prop, row_behind};
 
+use crate::let_go::LetGo;
 use p21_check::Reference;
 use p21_schema::{EntityId, Schema};
 use p21_tree::RawInstance;
 use std::alloc::{AllocError, Global};
-use std::snapshot::Snapshot;
 
 /// What is kept of an instance, where its references and what is whole stand in other columns. A file has millions, so it takes 12 bytes.
 #[derive(Drop)]
@@ -18,7 +18,7 @@ pub(crate) struct Row<'a> {
     /// Where its references end, which begin where those of the row before end.
     pub(crate) end: u32,
     /// The instance, where it was let go.
-    pub(crate) gone: Snapshot<RawInstance<'a>>,
+    pub(crate) gone: LetGo<RawInstance<'a>>,
 }
 
 const _: () = prove!(size_of::<Row<'static>>() == 12);
@@ -46,7 +46,7 @@ pub(crate) struct Columns<'a> {
 }
 
 impl<'a> Columns<'a> {
-    ghost use Rattle.std.specs.Prelude.{◌<◌, ◌≤◌, [], get_or, slice_range};
+    ghost use Rattle.std.specs.Prelude.{◌<◌, ◌≤◌, ◌^◌, [], get_or, slice_range};
     ghost use Rattle.p21_outline.specs.Rows.{HaveReferences, RefersAt};
     ghost use Rattle.p21_outline.specs.declared.columns.Row.{Row};
     ghost use Rattle.p21_express.specs.Schema.{Schema};
@@ -65,14 +65,15 @@ impl<'a> Columns<'a> {
         }
     }
 
-    /// The same, with room for so many instances. It is refused for lack of memory alone.
+    /// The same, with room for so many instances, and for two references of each, since most have fewer. It is refused for lack of memory
+    /// alone.
     pub(crate) fn with_capacity(alloc: Global, count: usize) -> Result<Columns<'a>, AllocError>
         ensures instances { IfOk result (λ columns. instances_in columns ≡ []) }
         ensures fits { IfOk result (λ columns. (s : Schema) → AreColumns s columns) }
     {
         Ok(Columns {
             rows: Vec::with_capacity(alloc, count)?,
-            references: Vec::with_capacity(alloc, count)?,
+            references: Vec::with_capacity(alloc, count.saturating_mul(2))?,
             wholes: Vec::new(alloc),
             written: 0,
         })
@@ -86,9 +87,10 @@ impl<'a> Columns<'a> {
         written: u64,
         entity: EntityId,
         references: &[Reference],
-        gone: Snapshot<RawInstance<'a>>,
+        gone: LetGo<RawInstance<'a>>,
     ) -> Result<(), AllocError>
         ensures ok { OnOk result (AppendsSimple self.old written entity references.now gone.entry.value self.new) }
+        ensures small { written < 2 ^ 64 }
         ensures err { OnErr result (IsAsItWas self.old self.new) }
     {
         let entity = short(entity.place())?;
@@ -116,7 +118,7 @@ impl<'a> Columns<'a> {
         let place = short(self.wholes.len())?;
         let end = short(self.references.len())?;
         self.rows.reserve(1)?;
-        let gone = Snapshot::of(&whole);
+        let gone = LetGo::of(&whole);
         self.wholes.push(whole)?;
         self.written = self.written.saturating_add(written);
         self.rows.push_reserved(Row {

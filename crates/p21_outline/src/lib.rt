@@ -3,10 +3,12 @@
 
 mod columns;
 mod faults;
+mod let_go;
 mod outline;
 mod outline_list;
 mod tally;
 mod view;
+mod walked;
 
 pub use outline::{Extended, Outline};
 pub use outline_list::{OutlineList, PlacedName};

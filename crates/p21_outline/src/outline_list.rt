@@ -10,13 +10,14 @@ ghost use Rattle.p21_outline.specs.Columns.{Adds, IsAsItWas, instances_in};
 ghost use Rattle.p21_outline.specs.PlacedName.{placed_name};
 
 use crate::columns::Columns;
-use p21_check::{References, push_references};
+use crate::let_go::LetGo;
+use crate::walked::push_passed;
+use p21_check::{References, Walked, push_references};
 use p21_counts::references_in;
 use p21_schema::{EntityId, Schema};
-use p21_tree::RawInstance;
+use p21_tree::{Piece, RawInstance};
 use smallvec::SmallVec;
 use std::alloc::{AllocError, Global};
-use std::snapshot::Snapshot;
 
 /// The name of an instance, and where it stands.
 #[derive(Clone, Copy)]
@@ -40,6 +41,8 @@ impl<'a> OutlineList<'a> {
     ghost use Rattle.std.specs.Prelude.{◌∷◌, ◌++◌, IfOk};
     ghost use Rattle.p21_express.specs.Schema.{Schema};
     ghost use Rattle.p21_outline.specs.OutlineList.{AreListed, listed_instances};
+    ghost use Rattle.p21_tree.specs.declared.instances.RawInstance.{RawInstance};
+    ghost use Rattle.p21_check.specs.WalkPiece.{IsWalked};
 
     /// No outline yet, with room for so many. It is refused for lack of memory alone.
     pub fn with_capacity(alloc: Global, count: usize) -> Result<OutlineList<'a>, AllocError>
@@ -58,7 +61,7 @@ impl<'a> OutlineList<'a> {
     /// entity after 2^32 others of the schema, or one with which 2^32 references are kept; then what is kept is as it was.
     ///
     /// Cost: The names that are written in the instance, and, where there are any, as `push_references`. A list takes
-    /// 44 bytes for each piece, and 16 for each reference that it has more than pieces.
+    /// 60 bytes for each piece, and 16 for each reference that it has more than two for each of them.
     #[inline(always)]
     pub fn push(
         &mut self,
@@ -83,6 +86,35 @@ impl<'a> OutlineList<'a> {
             at: instance.at,
         };
         push_instance(self.alloc, &mut self.columns, schema, entity, instance)?;
+        self.names.push_reserved(named);
+        Ok(())
+    }
+
+    /// Puts the outline of a simple instance after the others, which a walk over this piece passed, so that it was never built. It is refused
+    /// as `push` refuses one; then what is kept is as it was.
+    #[inline(always)]
+    pub fn push_walked(
+        &mut self,
+        schema: &Schema,
+        piece: Piece<'a>,
+        walked: Walked,
+    ) -> Result<(), AllocError>
+        requires { (i : RawInstance) × IsWalked schema.now piece i walked }
+        // The instance that the piece is goes last.
+        ensures instances { OnOk result ((i : RawInstance) × IsWalked schema.now piece.entry i walked × (listed_instances self.new ≡ listed_instances self.old ++ i ∷ [])) }
+        // What was listed by this schema is so with it.
+        ensures fits { OnOk result (AreListed schema.now self.old → AreListed schema.now self.new) }
+        // A refusal leaves the instances as they were.
+        ensures refused { OnErr result (listed_instances self.new ≡ listed_instances self.old) }
+        // And what was listed by a schema is so still.
+        ensures kept { OnErr result ((s : Schema) → AreListed s self.old → AreListed s self.new) }
+    {
+        self.names.reserve(1)?;
+        let named = PlacedName {
+            name: walked.name,
+            at: walked.at,
+        };
+        push_passed(&mut self.columns, schema, piece, walked)?;
         self.names.push_reserved(named);
         Ok(())
     }
@@ -128,7 +160,7 @@ fn push_instance<'a>(
     };
     let mut references = SmallVec::new(alloc);
     push_written(schema, own, written, &instance, &mut references)?;
-    let gone = Snapshot::of(&instance);
+    let gone = LetGo::of(&instance);
     columns.push_simple(written, own, references.as_slice(), gone)
 }
 

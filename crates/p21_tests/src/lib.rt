@@ -20,3 +20,5 @@ mod tables;
 mod text_tests;
 #[cfg(test)]
 mod tree_tests;
+#[cfg(test)]
+mod walk_tests;
