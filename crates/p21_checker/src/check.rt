@@ -76,10 +76,10 @@ impl From<AllocError> for CheckError {
 /// Checks a whole file against a schema, by so many lanes: what is counted of its instances, or its first fault, as `read_lanes` finds
 /// them.
 ///
-/// Pieces are dealt in lists of a quarter of the capacity, and of a lane no more are dealt and not yet gathered than the capacity. Each
-/// worker lets the tree of a simple instance go when it has checked it, and returns the outlines of a list; a complex one is kept whole. It
-/// passes the gate with the number of the first piece of each list. The answer hangs neither on the lanes nor on their capacity. An error is
-/// lack of memory, or of a thread.
+/// Pieces are dealt in lists of a quarter of the capacity, and of a lane no more are dealt and not yet gathered than the capacity. Of most
+/// simple instances a worker builds no tree, as `walk_piece` says, and of the others it lets it go when it has checked it; a complex one is
+/// kept whole. It returns the outlines of a list, and passes the gate with the number of the first piece of each. The answer hangs neither on
+/// the lanes nor on their capacity. An error is lack of memory, or of a thread.
 ///
 /// That no tree of a simple instance is kept, and how many lists are out on a lane, are known by review.
 pub fn check_lanes<'a, G: Gate + Sync, R: Threads + Wait + Sync>(

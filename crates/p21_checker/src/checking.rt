@@ -1,6 +1,8 @@
 //! What a worker does with a list of pieces.
 
-ghost use Rattle.std.specs.Prelude.{◌++◌, ◌∷◌, All, List, [], IfOk, OnOk};
+ghost use Rattle.std.specs.Prelude.{◌≡◌, ◌++◌, ◌∷◌, All, List, [], IfOk, IfSome, OnOk};
+ghost use Rattle.p21_tree.specs.declared.instances.RawInstance.{RawInstance};
+ghost use Rattle.p21_check.specs.WalkPiece.{IsWalked};
 ghost use Rattle.p21_tree.specs.declared.pieces.Piece.{Piece};
 ghost use Rattle.p21_crew.specs.Run.{IsRun};
 ghost use Rattle.p21_reader.specs.Pieces.{AreGiven};
@@ -15,6 +17,7 @@ use crate::checked_list::CheckedList;
 use crate::gathering::Gathering;
 use crate::lists::{PieceList, PieceLists, lists_out, most_together};
 use crossbeam_utils::CachePadded;
+use p21_check::{Lately, Walked, walk_piece};
 use p21_crew::{Gate, Run, Work, run_crew};
 use p21_desk::LaneCount;
 use p21_lanes::Capacity;
@@ -62,9 +65,24 @@ impl ListJudge for Locally<'_> {
         list: PieceList<'a>,
     ) -> Result<CheckedList<'a>, AllocError> {
         let mut checked = CheckedList::with_capacity(alloc, list.others.len().saturating_add(1))?;
-        check(self.schema, reader, list.first, &mut checked)?;
+        let mut lately = Lately::new();
+        check(
+            alloc,
+            self.schema,
+            reader,
+            &mut lately,
+            list.first,
+            &mut checked,
+        )?;
         for piece in list.others.as_slice() {
-            check(self.schema, reader, *piece, &mut checked)?;
+            check(
+                alloc,
+                self.schema,
+                reader,
+                &mut lately,
+                *piece,
+                &mut checked,
+            )?;
         }
         Ok(checked)
     }
@@ -105,18 +123,41 @@ impl<'a, J: ListJudge> Work<PieceList<'a>> for Checking<'_, J> {
 /// Puts what a piece is by itself after what is said of others. It is refused for lack of memory alone.
 #[inline(always)]
 fn check<'a>(
+    alloc: Global,
     schema: &Schema,
     kept: &mut InstanceReader<'a>,
+    lately: &mut Lately,
     piece: Piece<'a>,
     checked: &mut CheckedList<'a>,
 ) -> Result<(), AllocError>
     ensures { OnOk result ((ps : List Piece) → AreStated schema.now ps checked.old → AreStated schema.now (ps ++ piece.entry ∷ []) checked.new) }
 {
+    if let Some(walked) = walk_next(alloc, schema, lately, piece, checked)? {
+        return checked.push_walked(schema, piece, walked);
+    }
     match kept.read(piece) {
         Ok(instance) => checked.push_instance(schema, instance),
         Err(TreeError::Grammar(fault)) => checked.push(Checked::Grammar(fault)),
         Err(TreeError::Memory) => Err(AllocError),
     }
+}
+
+/// Walks over a piece, where no piece before it has a fault by itself. Most pieces are passed so, and no tree is built of them.
+#[inline(always)]
+fn walk_next(
+    alloc: Global,
+    schema: &Schema,
+    lately: &mut Lately,
+    piece: Piece<'_>,
+    checked: &CheckedList<'_>,
+) -> Result<Option<Walked>, AllocError>
+    ensures sound { IfOk result (λ r. IfSome r (λ _. checked.now.rest.items ≡ [])) }
+    ensures walked { IfOk result (λ r. IfSome r (λ w. (i : RawInstance) × IsWalked schema.now piece.entry i w)) }
+{
+    if !checked.rest.is_empty() {
+        return Ok(None);
+    }
+    walk_piece(alloc, schema, lately, piece)
 }
 
 /// The run of a crew that checks pieces by a judge, in lists of a quarter of the capacity. An error is lack of memory, or of a thread.
