@@ -76,7 +76,7 @@ class Names:
         """The first name that is not there, or None; `known` are those that the rule has by where it stands."""
         for tree in trees:
             for it in self.missing_in(tree):
-                if not isinstance(it, Name) or it.name not in known:
+                if isinstance(it, (Attribute, Group)) or it.name not in known:
                     return it.entity if isinstance(it, Group) else it.name
         return None
 
@@ -150,7 +150,7 @@ class Checker:
             for where in declaration.where:
                 self.look(names, declaration.name, where, [where.tree], known)
         for rule in self.schema.rules.values():
-            known = bound_in([rule.algorithm]) | set(rule.entities)
+            known = bound_in(parts(rule.algorithm)) | set(rule.entities)
             for where in rule.where:
                 self.look(names, rule.name, where, [where.tree, rule.algorithm], known)
 

@@ -249,6 +249,7 @@ def tokens_of(text):
     return tokens + [('end', '')]
 
 
+ENDS = {'END', 'END_ALIAS', 'END_CASE', 'END_ENTITY', 'END_FUNCTION', 'END_IF', 'END_PROCEDURE', 'END_REPEAT', 'END_RULE', 'END_TYPE'}
 SIMPLE = {'INTEGER', 'REAL', 'NUMBER', 'STRING', 'BINARY', 'LOGICAL', 'BOOLEAN'}
 RELATIONS = {'=', '<>', '<', '>', '<=', '>=', ':=:', ':<>:', 'IN', 'LIKE'}
 SUMS = {'+', '-', 'OR', 'XOR'}
@@ -282,8 +283,8 @@ class Parser:
             raise Unreadable('%s is wanted before %s' % (' '.join(words), ' '.join(str(it[1]) for it in self.tokens[self.at:self.at + 8])))
 
     def ends(self):
-        """Whether a word END_.. is next."""
-        return (self.now() or '').startswith('END_')
+        """Whether a word that ends something is next."""
+        return self.now() in ENDS
 
     def name(self):
         if self.tokens[self.at][0] != 'name':
@@ -636,7 +637,7 @@ class Parser:
     def statements(self):
         """The statements up to a word that ends them."""
         found = []
-        while self.now() not in ('ELSE', 'OTHERWISE', 'WHERE', 'END') and not self.ends():
+        while self.now() not in ('ELSE', 'OTHERWISE', 'WHERE') and not self.ends():
             found += self.statement()
         return found
 
