@@ -264,7 +264,7 @@ class Checker:
         failed = None
         try:
             evaluator.run(rule.algorithm, frame)
-        except NotDecided as why:
+        except (NotDecided, RecursionError) as why:
             failed = why
         left = evaluator.steps
 

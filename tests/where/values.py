@@ -278,7 +278,7 @@ def union(a, b, touch):
         return None
     for _ in elements:
         touch()
-    return Aggregate(of.kind, distinct(elements, touch) if of.kind == 'SET' else elements, element=of.element)
+    return Aggregate(of.kind, distinct(elements, touch) if of.kind == 'SET' else elements)
 
 
 def bag_or_set(*aggregates):
@@ -294,7 +294,7 @@ def intersection(a, b, touch):
         return None
     left = without(a.elements, b.elements, touch)
     found = without(a.elements, left, touch)
-    return Aggregate(kind, distinct(found, touch) if kind == 'SET' else found, element=a.element or b.element)
+    return Aggregate(kind, distinct(found, touch) if kind == 'SET' else found, element=a.element)
 
 
 def difference(a, b, touch):
