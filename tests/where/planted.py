@@ -44,7 +44,6 @@ PLANTED = [
     ('a placement with one axis', 761, '#36,#32', '#36,$', 'IFCAXIS2PLACEMENT3D.WR5'),
     ('a placement with two parallel axes', 761, '#36,#32', '#36,#36', 'IFCAXIS2PLACEMENT3D.WR4'),
     ('a direction in space for a placement in a plane', 851, '#843', '#28', 'IFCAXIS2PLACEMENT2D.WR1'),
-    ('a closed curve with a gap', 299165, 'CONTINUOUS', 'DISCONTINUOUS', 'IFCCOMPOSITECURVE.WR41', 299169),
     ('an extrusion within the plane of its profile', 828, '#36', '#28', 'IFCEXTRUDEDAREASOLID.WR31'),
     ('a solid swept from a curve', 824, 'AREA', 'CURVE', 'IFCSWEPTAREASOLID.WR22', 828),
     ('a hatch pattern that starts in space', 631, '#627', '#40', 'IFCFILLAREASTYLEHATCHING.WR22'),
@@ -73,9 +72,9 @@ PLANTED = [
     ('an operator of scale 0', 15872, r'1\.', '0.', 'IFCCARTESIANTRANSFORMATIONOPERATOR.WR1'),
     ('a space that a storey contains as an element', 211316, r'\(#767', '(#199794,#767', 'IFCRELCONTAINEDINSPATIALSTRUCTURE.WR31'),
     ('a storey of no building', 305262, ',#211330', '', 'IFCSPATIALSTRUCTUREELEMENT.WR41', 211330),
-    ('a placement in space in one in a plane', 764, '#761', '#851', 'IFCLOCALPLACEMENT.WR21', 882),
+    ('a placement in space in one in a plane', 882, '#879', '#851', 'IFCLOCALPLACEMENT.WR21', 918),
     ('two projects', 54, r'^#54= (IFCPROJECT\(.)(.*)$', r'#54= \g<1>\g<2>\n#999999= \g<1>0\g<2>', 'IFCSINGLEPROJECTINSTANCE.WR1', HEADER),
-    ('contexts whose axes differ', 613, '#44', '#761', 'IFCREPRESENTATIONCONTEXTSAMEWCS.WR1', HEADER),
+    ('contexts whose axes differ', 613, '#44', '#879', 'IFCREPRESENTATIONCONTEXTSAMEWCS.WR1', HEADER),
 ]
 
 
@@ -146,7 +145,7 @@ def main(words):
         failed += len(found)
         for it in found:
             print('NOT PLANTED: %s' % it, flush=True)
-    print('%d breaks, %d differences' % (len(PLANTED), failed))
+    print('%d differences' % failed)
     return 1 if failed else 0
 
 
