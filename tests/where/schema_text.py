@@ -18,180 +18,57 @@ class Node:
         return '%s(%s)' % (type(self).__name__, ', '.join('%r' % it for it in vars(self).values()))
 
 
-def node(fields):
+def node(name, fields, meaning):
     """A class of nodes with these fields, separated by blanks."""
-    return lambda plain: dataclasses.make_dataclass(plain.__name__, fields.split(), bases=(Node,), eq=False, repr=False, namespace={'__doc__': plain.__doc__})
-
-
-@node('name')
-class Simple:
-    """INTEGER, REAL, NUMBER, STRING, BINARY, LOGICAL or BOOLEAN."""
-
-
-@node('name')
-class Named:
-    """A type or an entity of the schema."""
-
-
-@node('kind low high unique optional element')
-class Collection:
-    """ARRAY, BAG, LIST, SET, or AGGREGATE for any of them. A bound is an expression, or None for `?` or where none is written."""
-
-
-@node('items')
-class Enumeration:
-    """The items in their order."""
-
-
-@node('members')
-class Select:
-    """The names of types and entities."""
-
-
-@node('')
-class Generic:
-    """Any value."""
-
-
-@node('value')
-class Literal:
-    """A number, a string, a binary; None is `?`."""
-
-
-@node('name')
-class Name:
-    """A variable, attribute, constant, item, function without parameters, entity .. : which, is found where it is evaluated."""
-
-
-@node('')
-class Itself:
-    """SELF."""
-
-
-@node('of name')
-class Attribute:
-    """of.name"""
-
-
-@node('of entity')
-class Group:
-    r"""of\entity"""
-
-
-@node('of low high')
-class Index:
-    """of[low] where high is None, else of[low:high]."""
-
-
-@node('name arguments')
-class Call:
-    """A function with arguments, or the constructor of an entity."""
-
-
-@node('operator of')
-class Unary:
-    """+, - or NOT."""
-
-
-@node('operator left right')
-class Binary:
-    """An operator between two operands."""
-
-
-@node('low first item second high')
-class Interval:
-    """{low first item second high}, where first and second are < or <=."""
-
-
-@node('variable over condition')
-class Query:
-    """QUERY(variable <* over | condition)"""
-
-
-@node('elements')
-class Initializer:
-    """[..]: pairs of an element and how often it stands there, which is None for once."""
-
-
-@node('target value')
-class Assign:
-    """target := value;"""
-
-
-@node('selector branches otherwise')
-class Case:
-    """Branches are pairs of labels and statements; otherwise is None where it is not there."""
-
-
-@node('condition yes no')
-class If:
-    """IF condition THEN yes ELSE no END_IF;"""
-
-
-@node('variable first last step condition until body')
-class Repeat:
-    """Each of the controls may be None."""
-
-
-@node('value')
-class Return:
-    """RETURN(value); or RETURN; with None."""
-
-
-@node('')
-class Escape:
-    """ESCAPE;"""
-
-
-@node('')
-class Skip:
-    """SKIP;"""
-
-
-@node('name arguments')
-class Invoke:
-    """A call of a procedure."""
-
-
-@node('name target body')
-class Alias:
-    """ALIAS name FOR target; body END_ALIAS;"""
-
-
-@node('label tree')
-class Where:
-    """A rule: its label, which is (N) for the N-th rule without one, and its expression."""
-
-
-@node('name type where')
-class TypeDeclaration:
-    """TYPE name = type; where END_TYPE;"""
-
-
-@node('name kind type optional tree inverse again renamed')
-class Declared:
-    """An attribute: kind is explicit, derived or inverse; tree is that of a derived one; inverse is (entity, attribute) of an inverse one; again is
-    the entity behind SELF where the attribute is declared again, else None."""
-
-
-@node('name abstract above attributes where')
-class Entity:
-    """An entity; above are the names of its supertypes."""
-
-
-@node('name parameters result functions types constants variables body')
-class Algorithm:
-    """A function, a procedure (result is None) or what stands in a global rule. A parameter is (name, type, whether VAR)."""
-
-
-@node('name entities algorithm where')
-class Rule:
-    """RULE name FOR (entities); .. WHERE .. END_RULE;"""
-
-
-@node('name types entities constants functions rules order')
-class Schema:
-    """Dictionaries by name; constants are pairs of a type and an expression; order has types and entities as they stand in the text."""
+    return dataclasses.make_dataclass(name, fields.split(), bases=(Node,), eq=False, repr=False, namespace={'__doc__': meaning})
+
+
+# Types
+Simple = node('Simple', 'name', 'INTEGER, REAL, NUMBER, STRING, BINARY, LOGICAL or BOOLEAN.')
+Named = node('Named', 'name', 'A type or an entity of the schema.')
+Collection = node('Collection', 'kind low high unique optional element',
+                  'ARRAY, BAG, LIST, SET, or AGGREGATE for any of them. A bound is an expression, or None for `?` or where none is written.')
+Enumeration = node('Enumeration', 'items', 'The items in their order.')
+Select = node('Select', 'members', 'The names of types and entities.')
+Generic = node('Generic', '', 'Any value.')
+
+# Expressions
+Literal = node('Literal', 'value', 'A number, a string, a binary; None is `?`.')
+Name = node('Name', 'name', 'A variable, attribute, constant, item, function without parameters, entity .. : which, is found where it is evaluated.')
+Itself = node('Itself', '', 'SELF.')
+Attribute = node('Attribute', 'of name', 'of.name')
+Group = node('Group', 'of entity', r'of\entity')
+Index = node('Index', 'of low high', 'of[low] where high is None, else of[low:high].')
+Call = node('Call', 'name arguments', 'A function with arguments, or the constructor of an entity.')
+Unary = node('Unary', 'operator of', '+, - or NOT.')
+Binary = node('Binary', 'operator left right', 'An operator between two operands.')
+Interval = node('Interval', 'low first item second high', '{low first item second high}, where first and second are < or <=.')
+Query = node('Query', 'variable over condition', 'QUERY(variable <* over | condition)')
+Initializer = node('Initializer', 'elements', '[..]: pairs of an element and how often it stands there, which is None for once.')
+
+# Statements
+Assign = node('Assign', 'target value', 'target := value;')
+Case = node('Case', 'selector branches otherwise', 'Branches are pairs of labels and statements; otherwise is None where it is not there.')
+If = node('If', 'condition yes no', 'IF condition THEN yes ELSE no END_IF;')
+Repeat = node('Repeat', 'variable first last step condition until body', 'Each of the controls may be None.')
+Return = node('Return', 'value', 'RETURN(value); or RETURN; with None.')
+Escape = node('Escape', '', 'ESCAPE;')
+Skip = node('Skip', '', 'SKIP;')
+Invoke = node('Invoke', 'name arguments', 'A call of a procedure.')
+Alias = node('Alias', 'name target body', 'ALIAS name FOR target; body END_ALIAS;')
+
+# Declarations
+Where = node('Where', 'label tree', 'A rule: its label, which is (N) for the N-th rule without one, and its expression.')
+TypeDeclaration = node('TypeDeclaration', 'name type where', 'TYPE name = type; where END_TYPE;')
+Declared = node('Declared', 'name kind type optional tree inverse again renamed',
+                'An attribute: kind is explicit, derived or inverse; tree is that of a derived one; inverse is (entity, attribute) of an inverse one; '
+                'again is the entity behind SELF where the attribute is declared again, else None.')
+Entity = node('Entity', 'name abstract above attributes where', 'An entity; above are the names of its supertypes.')
+Algorithm = node('Algorithm', 'name parameters result functions types constants variables body',
+                 'A function, a procedure (result is None) or what stands in a global rule. A parameter is (name, type, whether VAR).')
+Rule = node('Rule', 'name entities algorithm where', 'RULE name FOR (entities); .. WHERE .. END_RULE;')
+Schema = node('Schema', 'name types entities constants functions rules order',
+              'Dictionaries by name; constants are pairs of a type and an expression; order has types and entities as they stand in the text.')
 
 
 class Bits(str):
