@@ -74,7 +74,7 @@ PLANTED = [
     ('a storey of no building', 305262, ',#211330', '', 'IFCSPATIALSTRUCTUREELEMENT.WR41', 211330),
     ('a placement in space in one in a plane', 882, '#879', '#851', 'IFCLOCALPLACEMENT.WR21', 918),
     ('two projects', 54, r'^#54= (IFCPROJECT\(.)(.*)$', r'#54= \g<1>\g<2>\n#999999= \g<1>0\g<2>', 'IFCSINGLEPROJECTINSTANCE.WR1', HEADER),
-    ('contexts whose axes differ', 613, '#44', '#879', 'IFCREPRESENTATIONCONTEXTSAMEWCS.WR1', HEADER),
+    ('contexts whose axes differ', 613, '#44', '#16114', 'IFCREPRESENTATIONCONTEXTSAMEWCS.WR1', HEADER),
 ]
 
 
