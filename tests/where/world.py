@@ -1,240 +1,232 @@
-"""The instances of a file as a schema sees them: attributes by name, derived and inverse ones, types of values, and who refers to whom."""
+"""What a schema says of its names (Dictionary), and the instances of a file by it (World): their entities, the values of their explicit attributes, and
+which instances mention which."""
 
+import collections
 import functools
 
-import step
-from express import Bits
+import file_text
+from file_text import DERIVED, Item, Reference
+from schema_text import Binary, Collection, Enumeration, Literal, Named, Select, Simple, Unary
 from values import FALSE, TRUE, UNKNOWN, Aggregate, Defined, Enumerated, Instance, Truth, plain
 
-LOGICALS = {'T': TRUE, 'F': FALSE, 'U': UNKNOWN}
+TRUTHS = {'T': TRUE, 'F': FALSE, 'U': UNKNOWN, 'TRUE': TRUE, 'FALSE': FALSE, 'UNKNOWN': UNKNOWN}
+ABOVE_SIMPLE = {'INTEGER': ['INTEGER', 'REAL', 'NUMBER'], 'REAL': ['REAL', 'NUMBER'], 'BOOLEAN': ['BOOLEAN', 'LOGICAL']}
+
+# An attribute as it is newly declared: the entity, and its name there.
+Origin = collections.namedtuple('Origin', 'entity name')
+Mention = collections.namedtuple('Mention', 'instance origin')
 
 
 class Dictionary:
     """What is asked of a schema by name."""
 
     def __init__(self, schema):
-        self.schema = schema
-        self.items = {}
-        for it in schema.types.values():
-            if it.under[0] == 'enumeration':
-                for place, item in enumerate(it.under[1]):
-                    self.items.setdefault(item, []).append((it.name, place))
+        self.schema, self.types, self.entities = schema, schema.types, schema.entities
+        self.items = collections.defaultdict(dict)
+        for it in self.types.values():
+            if isinstance(it.type, Enumeration):
+                for place, item in enumerate(it.type.items):
+                    self.items[item][it.name] = place
+        self.attribute_names = {it.name for entity in self.entities.values() for it in entity.attributes}
 
-    @functools.cache
-    def above(self, name):
-        """The entity and its ancestors."""
-        return frozenset([name]).union(*(self.above(it) for it in self.schema.entities[name].supertypes if it in self.schema.entities))
+    # Entities and attributes
 
-    @functools.cache
-    def depth(self, name):
-        return len(self.above(name))
+    @functools.lru_cache(maxsize=None)
+    def ancestors(self, entity):
+        """The entity and all above it."""
+        return frozenset([entity]).union(*(self.ancestors(it) for it in self.entities[entity].above))
 
-    @functools.cache
-    def row(self, name):
-        """The explicit attributes of an entity's record: pairs of the entity that newly declares each, and its name."""
-        entity = self.schema.entities[name]
-        rows = [it for above in entity.supertypes for it in self.row(above)]
-        return list(dict.fromkeys(rows + self.own(name)))
+    def closed(self, entities):
+        """The entities and all above them."""
+        return frozenset().union(*(self.ancestors(it) for it in entities))
 
-    @functools.cache
-    def own(self, name):
-        """The explicit attributes that an entity newly declares."""
-        return [(name, it.name) for it in self.schema.entities[name].attributes if not it.redeclared and not it.derived and not it.inverse]
+    @functools.lru_cache(maxsize=None)
+    def row(self, entity):
+        """The explicit attributes of an instance that is written as one record: those of the supertypes first, each once."""
+        own = [Origin(entity, it.name) for it in self.entities[entity].attributes if it.kind == 'explicit' and not it.again]
+        return list(dict.fromkeys([it for above in self.entities[entity].above for it in self.row(above)] + own))
 
-    @functools.cache
-    def declared(self, entity, name):
-        """What an entity itself says of an attribute by name; None where nothing."""
-        return next((it for it in self.schema.entities[entity].attributes if it.name == name), None)
+    @functools.lru_cache(maxsize=None)
+    def origins(self, entities, name):
+        """The attributes of this name among entities, the one of an entity with fewest ancestors first, then by the entity's name."""
+        found = set()
+        for entity in entities:
+            for it in self.entities[entity].attributes:
+                if it.name == name:
+                    found.add(self.origin(entity, it))
+        return sorted(found, key=lambda it: (len(self.ancestors(it.entity)), it.entity))
 
-    @functools.cache
-    def owner(self, entity, name):
-        """The entity, this one or an ancestor, that newly declares an attribute of this name; None where there is none."""
-        found = [it for it in self.above(entity) if (self.declared(it, name) or 0) and not self.declared(it, name).redeclared]
-        return min(found, key=lambda it: (self.depth(it), it)) if found else None
+    def origin(self, entity, declared):
+        """Where an attribute is newly declared that is declared here, perhaps again."""
+        if not declared.again:
+            return Origin(entity, declared.name)
+        return self.origins(self.ancestors(declared.again), declared.renamed or declared.name)[0]
 
-    @functools.cache
-    def lowest(self, entities, owner, name):
-        """What counts for an attribute in instances of these entities: of its declarations the one that none stands below."""
-        found = [(it, self.declared(it, name)) for it in entities if owner in self.above(it) and self.declared(it, name)
-                 and (it == owner or self.declared(it, name).redeclared)]
-        derived = [it for it in found if it[1].derived]
-        return max(derived or found, key=lambda it: (self.depth(it[0]), it[0]))[1]
+    @functools.lru_cache(maxsize=None)
+    def in_force(self, entities, origin):
+        """The declaration of an attribute that holds for an instance of these entities: that of the lowest that declares it, and its entity."""
+        found = [(entity, it) for entity in entities for it in self.entities[entity].attributes
+                 if (it.name == origin.name or it.renamed == origin.name or it.again) and self.origin(entity, it) == origin]
+        return max(found, key=lambda it: (len(self.ancestors(it[0])), it[0]))
 
-    @functools.cache
-    def attribute_owner(self, entities, name):
-        """Of the entities of an instance the one whose attribute a name is: that of fewest ancestors, then by name."""
-        found = [it for it in entities if self.declared(it, name) and not self.declared(it, name).redeclared]
-        return min(found, key=lambda it: (self.depth(it), it)) if found else None
+    @functools.lru_cache(maxsize=None)
+    def explicit(self, entities):
+        """The attributes of an instance of these entities that a file gives values for."""
+        own = [Origin(entity, it.name) for entity in sorted(entities) for it in self.entities[entity].attributes if it.kind == 'explicit' and not it.again]
+        return tuple(it for it in own if self.in_force(entities, it)[1].kind == 'explicit')
 
-    @functools.cache
-    def is_select(self, name):
-        return name in self.schema.types and self.schema.types[name].under[0] == 'select'
+    # Types
 
-    @functools.cache
-    def selected(self, name):
-        """What a SELECT reaches: its items, and what the SELECTs among them reach."""
-        found, left = set(), list(self.schema.types[name].under[1])
-        while left:
-            it = left.pop()
-            if it not in found:
-                found.add(it)
-                under = self.schema.types[it].under if it in self.schema.types else ()
-                left += under[1] if under and under[0] == 'select' else []
-        return frozenset(found)
+    def under(self, declared):
+        """The type below names: no defined type, unless it is an enumeration or a SELECT, as the type that it is declared to be."""
+        while isinstance(declared, Named) and declared.name in self.types:
+            declared = self.types[declared.name].type
+        return declared
 
-    @functools.cache
+    @functools.lru_cache(maxsize=None)
+    def enumeration(self, name):
+        """The name of the enumeration that a defined type is, by itself or under other names; None for another."""
+        declared = self.types[name].type
+        if isinstance(declared, Enumeration):
+            return name
+        return self.enumeration(declared.name) if isinstance(declared, Named) and declared.name in self.types else None
+
+    @functools.lru_cache(maxsize=None)
     def selects_of(self, name):
-        """The SELECTs that list a type or an entity, and those that list these."""
-        return frozenset(it for it in self.schema.types if self.is_select(it) and name in self.selected(it))
+        """The SELECTs that have a name in their list, and those that have these."""
+        found = set()
+        for it in self.types.values():
+            if isinstance(it.type, Select) and name in it.type.members:
+                found |= {it.name} | self.selects_of(it.name)
+        return found
+
+    @functools.lru_cache(maxsize=None)
+    def with_selects(self, names):
+        """The names of types as TYPEOF has them, with the SELECTs."""
+        found = set(names).union(*(self.selects_of(it) for it in names))
+        return frozenset('%s.%s' % (self.schema.name, it) for it in found)
+
+    @functools.lru_cache(maxsize=None)
+    def names_of_type(self, name):
+        """What TYPEOF has of a value that was declared of a defined or simple type: this, those below it, and their SELECTs."""
+        names = []
+        while name in self.types:
+            names.append(name)
+            declared = self.types[name].type
+            name = declared.name if isinstance(declared, (Named, Simple)) else declared.kind if isinstance(declared, Collection) else None
+        return self.with_selects(tuple(names)).union(ABOVE_SIMPLE.get(name, [name] if name else []))
+
+    def names_of(self, value):
+        """TYPEOF, as a set of strings."""
+        if isinstance(value, Defined):
+            return self.names_of_type(value.type)
+        value = plain(value)
+        if isinstance(value, Instance):
+            return self.with_selects(tuple(sorted(value.entities)))
+        if isinstance(value, Enumerated):
+            return self.with_selects(tuple(sorted(value.places)))
+        if isinstance(value, Aggregate):
+            return frozenset([value.kind] if value.kind != 'INITIALIZER' else [])
+        if isinstance(value, Truth):
+            return frozenset(['LOGICAL'] if value is UNKNOWN else ABOVE_SIMPLE['BOOLEAN'])
+        if value is None:
+            return frozenset()
+        simple = {int: 'INTEGER', float: 'REAL', str: 'STRING'}.get(type(value), 'BINARY')
+        return frozenset(ABOVE_SIMPLE.get(simple, [simple]))
+
+    @functools.lru_cache(maxsize=None)
+    def bounds(self, collection):
+        """The bounds of an attribute's aggregates, as numbers; None for `?`. Where none are written they are 0 and `?`."""
+        return (0 if collection.low is None else self.number(collection.low)), self.number(collection.high)
+
+    def number(self, tree):
+        """A bound of an attribute: a number, a sign before one, a constant, or what is made of these."""
+        if tree is None or isinstance(tree, Literal):
+            return tree and tree.value
+        if isinstance(tree, Unary):
+            return -self.number(tree.of) if tree.operator == '-' else self.number(tree.of)
+        if isinstance(tree, Binary):
+            return {'+': int.__add__, '-': int.__sub__, '*': int.__mul__}[tree.operator](self.number(tree.left), self.number(tree.right))
+        return self.number(self.schema.constants[tree.name][1])
+
+    def leads_to(self, select, names):
+        """Whether a SELECT has one of the names in its list, or a SELECT that does."""
+        return any(it in names or self.is_select(it) and self.leads_to(self.types[it].type, names) for it in select.members)
+
+    def is_select(self, name):
+        return name in self.types and isinstance(self.types[name].type, Select)
 
 
 class World:
-    """The instances of a file, against a schema."""
+    """The instances of a file by a schema."""
 
     def __init__(self, schema, text):
-        self.dictionary, self.schema = Dictionary(schema), schema
-        records, self.header = step.instances(text)
-        self.by_name, self.instances = {}, []
-        for it in records:
-            names = frozenset(keyword for keyword, _ in it.entities)
-            entities = names.union(*(self.dictionary.above(name) for name in names))
-            instance = Instance(it.name, it.at, entities, {})
-            self.by_name[it.name] = instance
-            self.instances.append(instance)
-        for record, instance in zip(records, self.instances):
-            self.fill(instance, record.entities)
+        self.dictionary = Dictionary(schema)
+        file = file_text.File(text)
+        self.header = file.header
+        self.instances, self.by_name = [], {}
+        for read in file.instances:
+            entities = self.dictionary.closed([it.entity for it in read.records])
+            it = Instance(entities, self.dictionary.explicit(entities), {}, read.name, read.place)
+            self.instances.append(it)
+            self.by_name[read.name] = it
+        self.mentions = collections.defaultdict(list)
+        for instance, read in zip(self.instances, file.instances):
+            for record in read.records:
+                self.fill(instance, record, read.is_complex)
+        self.populations = collections.defaultdict(list)
+        for instance in self.instances:
+            for entity in instance.entities:
+                self.populations[entity].append(instance)
 
-    def fill(self, instance, records):
-        """Gives an instance the values of its parameters."""
-        for keyword, parameters in records:
-            for (owner, name), parameter in zip(self.dictionary.row(keyword) if len(records) == 1 else self.dictionary.own(keyword), parameters):
-                if parameter is not step.DERIVED:
-                    counts = self.dictionary.lowest(instance.entities, owner, name)
-                    instance.given[owner, name] = None if counts.derived else self.value(parameter, counts.type)
+    def fill(self, instance, record, is_complex):
+        """Gives an instance the values of a record: in a complex one, a record has the attributes that its entity newly declares."""
+        origins = self.dictionary.row(record.entity)
+        if is_complex:
+            origins = [it for it in origins if it.entity == record.entity]
+        for origin, parameter in zip(origins, record.parameters):
+            declared = self.dictionary.in_force(instance.entities, origin)[1]
+            if parameter is not DERIVED and declared.kind == 'explicit':
+                instance.values[origin] = self.value(declared.type, parameter)
+                for name in references(parameter):
+                    self.mentions[name].append(Mention(instance, origin))
 
-    def value(self, parameter, declared):
-        """A parameter as a value of its declared type."""
-        if parameter is None or parameter is step.DERIVED:
-            return None
-        if isinstance(parameter, step.Ref):
-            return self.by_name.get(parameter)
-        if declared[0] == 'named' and declared[1] in self.schema.types:
-            return self.value_of_type(parameter, declared[1])
-        if isinstance(parameter, list):
-            return self.aggregate(parameter, declared)
-        if isinstance(parameter, step.Typed):
-            return self.value_of_type(parameter.value, parameter.name)
-        if isinstance(parameter, step.Item):
-            return LOGICALS.get(parameter, Enumerated(str(parameter)))
-        return float(parameter) if declared == ('simple', 'REAL') and isinstance(parameter, int) else parameter
-
-    def value_of_type(self, parameter, name):
-        under = self.schema.types[name].under if name in self.schema.types else ('generic',)
+    def value(self, declared, parameter):
+        """A parameter as a value of a type."""
         if parameter is None:
             return None
-        if under[0] == 'enumeration':
-            return Enumerated(str(parameter), name, under[1].index(parameter) if parameter in under[1] else -1)
-        if under[0] == 'select':
-            if isinstance(parameter, step.Typed):
-                return self.value_of_type(parameter.value, parameter.name)
-            return self.value(parameter, ('generic',))
-        return Defined(name, self.value(parameter, under))
+        if isinstance(parameter, Reference):
+            return self.by_name.get(parameter.name)
+        if isinstance(parameter, file_text.Typed):
+            return self.value(Named(parameter.name), parameter.value)
+        found = self.inner_value(self.dictionary.under(declared), declared, parameter)
+        is_shown = isinstance(declared, Simple) and declared.name not in ('NUMBER', 'LOGICAL') or not isinstance(declared, (Named, Simple))
+        return found if found is None or is_shown or isinstance(found, Enumerated) and declared.name in found.places else Defined(declared.name, found)
 
-    def aggregate(self, parameters, declared):
-        if declared[0] != 'aggregate':
-            return Aggregate('LIST', [self.value(it, ('generic',)) for it in parameters])
-        bounds = tuple(bound(self.schema, it) for it in declared[2:4])
-        low = bounds[0] if declared[1] == 'ARRAY' and bounds[0] is not None else 1
-        return Aggregate(declared[1], [self.value(it, declared[6]) for it in parameters], low, (bounds[0] or 0, bounds[1]))
+    def inner_value(self, under, declared, parameter):
+        """A parameter as a value of the type under names."""
+        if isinstance(parameter, list):
+            bounds = self.dictionary.bounds(under)
+            low = bounds[0] if under.kind == 'ARRAY' else 1
+            return Aggregate(under.kind, [self.value(under.element, it) for it in parameter], low, bounds, under.element)
+        if isinstance(parameter, Item):
+            if isinstance(under, Enumeration):
+                enumeration = self.dictionary.enumeration(declared.name)
+                return Enumerated(parameter.name, {enumeration: under.items.index(parameter.name)})
+            return TRUTHS[parameter.name]
+        if isinstance(parameter, int) and isinstance(under, Simple) and under.name == 'REAL':
+            return float(parameter)
+        return parameter
 
-    # ---- who refers to whom
-
-    @functools.cached_property
-    def mentions(self):
-        """Of each instance, by its identity, those that refer to it, once for each mention, each with the attribute."""
-        found = {}
-
-        def note(value, by):
-            value = plain(value)
-            if isinstance(value, Instance):
-                found.setdefault(id(value), []).append(by)
-            elif isinstance(value, Aggregate):
-                for it in value.items:
-                    note(it, by)
-
-        for instance in self.instances:
-            for (owner, name), value in instance.given.items():
-                note(value, (instance, owner, name))
-        return found
-
-    def used_in(self, instance, role):
-        """The instances that refer to one in a role, as often as they do."""
-        parts = role.split('.')
-        mentions = self.mentions.get(id(instance), [])
-        if role == '':
-            return [by for by, _, _ in mentions]
-        if len(parts) != 3 or parts[0] != self.schema.name or parts[1] not in self.schema.entities:
-            return []
-        owner = self.dictionary.owner(parts[1], parts[2])
-        return [by for by, of, name in mentions if (of, name) == (owner, parts[2]) and parts[1] in by.entities]
-
-    def roles_of(self, instance):
-        return sorted({'%s.%s.%s' % (self.schema.name, owner, name) for _, owner, name in self.mentions.get(id(instance), [])})
-
-    def referring(self, instance, entity, name):
-        """The instances of an entity that refer to one by an attribute, as often as they do."""
-        owner = self.dictionary.owner(entity, name)
-        return [by for by, of, it in self.mentions.get(id(instance), []) if (of, it) == (owner, name) and entity in by.entities]
-
-    def population(self, entity):
-        return [it for it in self.instances if entity in it.entities]
-
-    # ---- types
-
-    def types_of(self, value):
-        """The names of the types of a value, as TYPEOF gives them."""
-        named, found = set(), set()
-        while isinstance(value, Defined):
-            named.add(value.type)
-            value = value.value
-        if isinstance(value, Instance):
-            named |= value.entities
-        elif isinstance(value, Enumerated):
-            named |= {value.type} if value.type else set()
-        elif isinstance(value, Aggregate):
-            found.add(value.kind)
-        else:
-            found |= simple_types(value)
-        for name in list(named):
-            named |= self.dictionary.selects_of(name)
-        return found | {'%s.%s' % (self.schema.name, it) for it in named}
+    def roles(self, instance):
+        """The mentions of an instance in the file, in its order."""
+        return self.mentions[instance.name] if instance.name is not None else []
 
 
-def bound(schema, tree):
-    """The whole number that a bound is, by the constants of the schema, or None where it is none."""
-    kind = tree[0] if tree else None
-    if kind == 'literal':
-        return tree[1] if isinstance(tree[1], int) else None
-    if kind == 'name' and tree[1] in schema.constants:
-        return bound(schema, schema.constants[tree[1]][1])
-    if kind == 'unary' and tree[1] in ('-', '+'):
-        found = bound(schema, tree[2])
-        return -found if tree[1] == '-' and found is not None else found
-    if kind == 'binary' and tree[1] in ('+', '-', '*'):
-        left, right = bound(schema, tree[2]), bound(schema, tree[3])
-        if left is None or right is None:
-            return None
-        return {'+': left + right, '-': left - right, '*': left * right}[tree[1]]
-    return None
-
-
-def simple_types(value):
-    if isinstance(value, Truth):
-        return {'BOOLEAN', 'LOGICAL'} if value != UNKNOWN else {'LOGICAL'}
-    if isinstance(value, Bits):
-        return {'BINARY'}
-    if isinstance(value, str):
-        return {'STRING'}
-    if isinstance(value, int):
-        return {'INTEGER', 'REAL', 'NUMBER'}
-    return {'REAL', 'NUMBER'} if isinstance(value, float) else set()
+def references(parameter):
+    """The names that a parameter refers to, each as often as it does."""
+    if isinstance(parameter, Reference):
+        return [parameter.name]
+    if isinstance(parameter, list):
+        return [name for it in parameter for name in references(it)]
+    return references(parameter.value) if isinstance(parameter, file_text.Typed) else []
