@@ -1,0 +1,135 @@
+//! The operators at some of the points that their definitions decide.
+
+use crate::{
+    BinaryOperator, Budget, ByPlace, Characters, Kind, Stop, Truth, UnaryOperator, Value, binary,
+    unary,
+};
+use std::alloc::{AllocError, Global};
+use std::rc::Rc;
+
+/// What an operator gives of two integers; none where it is no integer.
+fn integer(alloc: Global, op: BinaryOperator, v: i64, w: i64) -> Result<Option<i64>, Stop> {
+    let mut budget = Budget::new(alloc, 100);
+    match binary(
+        op,
+        &Value::Integer(v),
+        &Value::Integer(w),
+        &ByPlace,
+        &mut budget,
+    )? {
+        Value::Integer(n) => Ok(Some(n)),
+        _ => Ok(None),
+    }
+}
+
+/// What an operator gives, as a truth; UNKNOWN where it is none.
+fn truth<'a>(
+    alloc: Global,
+    op: BinaryOperator,
+    v: &Value<'a>,
+    w: &Value<'a>,
+) -> Result<Truth, Stop> {
+    let mut budget = Budget::new(alloc, 100);
+    match binary(op, v, w, &ByPlace, &mut budget)? {
+        Value::Logical(truth) => Ok(truth),
+        _ => Ok(Truth::Unknown),
+    }
+}
+
+/// Whether one text is less than another.
+fn is_less(alloc: Global, v: &[u8], w: &[u8]) -> Result<Truth, Stop> {
+    let v = Value::Text(Characters::Bytes(v));
+    let w = Value::Text(Characters::Bytes(w));
+    truth(alloc, BinaryOperator::Less, &v, &w)
+}
+
+/// An aggregate of two integers.
+fn pair<'a>(alloc: Global, kind: Kind, first: i64, second: i64) -> Result<Value<'a>, AllocError> {
+    let mut values = Vec::new(alloc);
+    values.push(Value::Integer(first))?;
+    values.push(Value::Integer(second))?;
+    Ok(Value::Aggregate(kind, Rc::new(alloc, values)?))
+}
+
+/// Whether two aggregates are equal that have the same integers in another order.
+fn turned_is_equal(alloc: Global, v: Kind, w: Kind) -> Result<Truth, Stop> {
+    let v = pair(alloc, v, 1, 2)?;
+    let w = pair(alloc, w, 2, 1)?;
+    truth(alloc, BinaryOperator::Equal, &v, &w)
+}
+
+/// SIZEOF of what an operator gives of sets of 1 and 2, and of 2 and 3.
+fn size(alloc: Global, op: BinaryOperator) -> Result<Option<i64>, Stop> {
+    let mut budget = Budget::new(alloc, 100);
+    let v = pair(alloc, Kind::Set, 1, 2)?;
+    let w = pair(alloc, Kind::Set, 2, 3)?;
+    let made = binary(op, &v, &w, &ByPlace, &mut budget)?;
+    match unary(UnaryOperator::SizeOf, &made)? {
+        Value::Integer(n) => Ok(Some(n)),
+        _ => Ok(None),
+    }
+}
+
+#[test]
+fn truths(rt: HostRuntime) {
+    assert_eq!(rt; Truth::Unknown.and(Truth::False), Truth::False);
+    assert_eq!(rt; Truth::Unknown.or(Truth::True), Truth::True);
+    assert_eq!(rt; Truth::Unknown.xor(Truth::True), Truth::Unknown);
+}
+
+#[test]
+fn numbers(rt: HostRuntime) {
+    let alloc = rt.alloc();
+    assert_eq!(rt;
+        integer(alloc, BinaryOperator::Quotient, -7, 2),
+        Ok(Some(-3))
+    );
+    assert_eq!(rt;
+        integer(alloc, BinaryOperator::Remainder, 7, -2),
+        Ok(Some(-1))
+    );
+    assert_eq!(rt; integer(alloc, BinaryOperator::Quotient, 1, 0), Ok(None));
+    assert_eq!(rt;
+        integer(alloc, BinaryOperator::Add, i64::MAX, 1),
+        Err(Stop::NotComputed)
+    );
+}
+
+#[test]
+fn comparisons(rt: HostRuntime) {
+    let alloc = rt.alloc();
+    assert_eq!(rt;
+        truth(
+            alloc,
+            BinaryOperator::Equal,
+            &Value::Integer(2),
+            &Value::Real(2.0)
+        ),
+        Ok(Truth::True)
+    );
+    assert_eq!(rt;
+        truth(
+            alloc,
+            BinaryOperator::Equal,
+            &Value::Indeterminate,
+            &Value::Indeterminate
+        ),
+        Ok(Truth::Unknown)
+    );
+    assert_eq!(rt; is_less(alloc, b"ab", b"abc"), Ok(Truth::True));
+}
+
+#[test]
+fn aggregates(rt: HostRuntime) {
+    let alloc = rt.alloc();
+    assert_eq!(rt;
+        turned_is_equal(alloc, Kind::Set, Kind::Bag),
+        Ok(Truth::True)
+    );
+    assert_eq!(rt;
+        turned_is_equal(alloc, Kind::Set, Kind::List),
+        Ok(Truth::False)
+    );
+    assert_eq!(rt; size(alloc, BinaryOperator::Add), Ok(Some(3)));
+    assert_eq!(rt; size(alloc, BinaryOperator::Multiply), Ok(Some(1)));
+}
