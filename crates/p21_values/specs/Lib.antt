@@ -1,6 +1,8 @@
 pub mod Aggregates
 pub mod Arithmetic
+pub mod Elements
 pub mod Ends
+pub mod Pattern
 pub mod Logic
 pub mod Numbers
 pub mod Operators

@@ -4,6 +4,7 @@
 mod aggregates;
 mod arithmetic;
 mod characters;
+mod elements;
 mod instances;
 mod kind;
 mod laws;
@@ -11,6 +12,7 @@ mod numbers;
 mod operators;
 mod order;
 mod parts;
+mod pattern;
 mod same;
 mod sets;
 mod stop;
@@ -18,9 +20,11 @@ mod truth;
 mod value;
 
 pub use characters::Characters;
+pub use elements::{aggregate, with_element};
 pub use instances::{ByPlace, Instances};
 pub use kind::{Item, ItemPlace, Kind};
 pub use laws::{not_turns_and_into_or, not_twice_is_nothing, order_plays_no_part};
+pub use pattern::like;
 pub use operators::{BinaryOperator, UnaryOperator, binary, nvl, unary};
 pub use parts::{index, range};
 pub use stop::{Budget, Stop};

@@ -2,7 +2,7 @@
 
 use crate::{
     BinaryOperator, Budget, ByPlace, Characters, Kind, Stop, Truth, UnaryOperator, Value, binary,
-    unary,
+    index, like, unary, with_element,
 };
 use std::alloc::{AllocError, Global};
 use std::rc::Rc;
@@ -132,4 +132,43 @@ fn aggregates(rt: HostRuntime) {
     );
     assert_eq!(rt; size(alloc, BinaryOperator::Add), Ok(Some(3)));
     assert_eq!(rt; size(alloc, BinaryOperator::Multiply), Ok(Some(1)));
+}
+
+/// Whether a text is like a pattern.
+fn is_like(alloc: Global, text: &[u8], pattern: &[u8]) -> Result<Option<bool>, AllocError> {
+    let text = Value::Text(Characters::Bytes(text));
+    let pattern = Value::Text(Characters::Bytes(pattern));
+    match like(alloc, &text, &pattern)? {
+        Value::Logical(truth) => Ok(Some(truth.is_true())),
+        _ => Ok(None),
+    }
+}
+
+/// The second element of a list of 1 and 2 that was given a 7 at an index.
+fn second(alloc: Global, at: i64) -> Result<Option<i64>, AllocError> {
+    let list = pair(alloc, Kind::List, 1, 2)?;
+    let made = with_element(alloc, &list, &Value::Integer(at), &Value::Integer(7))?;
+    match index(alloc, &made, &Value::Integer(2))? {
+        Value::Integer(n) => Ok(Some(n)),
+        _ => Ok(None),
+    }
+}
+
+#[test]
+fn patterns(rt: HostRuntime) {
+    let alloc = rt.alloc();
+    assert_eq!(rt; is_like(alloc, b"AB12", b"^^##"), Ok(Some(true)));
+    assert_eq!(rt; is_like(alloc, b"AB1x", b"^^##"), Ok(Some(false)));
+    assert_eq!(rt; is_like(alloc, b"part_1.stp", b"*_#.*"), Ok(Some(true)));
+    assert_eq!(rt; is_like(alloc, b"a?", b"@\\?"), Ok(Some(true)));
+    assert_eq!(rt; is_like(alloc, b"ab", b"@\\?"), Ok(Some(false)));
+    assert_eq!(rt; is_like(alloc, b"b", b"!a"), Ok(Some(true)));
+}
+
+#[test]
+fn elements(rt: HostRuntime) {
+    let alloc = rt.alloc();
+    assert_eq!(rt; second(alloc, 2), Ok(Some(7)));
+    assert_eq!(rt; second(alloc, 3), Ok(Some(2)));
+    assert_eq!(rt; second(alloc, 0), Ok(Some(2)));
 }
