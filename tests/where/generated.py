@@ -9,12 +9,13 @@ script finds them; `undecided` has the rules that it does not decide, with why. 
 name: logic, simple, aggregates, types, graph, derived, steps, made, whole, and rare, which has what a program may leave out: LIKE, parts of strings,
 procedures, functions in functions, real powers .. . Some rules are drawn too.
 
-PROGRAM is run as `PROGRAM schema.exp file.stp --rules --all`. It must print the lines of `expected` and no other that begins with `fault`; a rule that it
-does not decide it must not report. What differs is printed, and the status is 1 if something does."""
+PROGRAM is run as `PROGRAM schema.exp file.stp --rules --all --explain=1000`. It must print the lines of `expected` and no other that begins with `fault`, but for rules
+of which it says that they are not checked, or not decided: these it must not report. What differs is printed, and the status is 1 if something does."""
 
 import concurrent.futures
 import pathlib
 import random
+import re
 import subprocess
 import sys
 import threading
@@ -195,22 +196,37 @@ def drawn(seed, place, only):
     return text, file, rules.lines(checker.run()), checker
 
 
+# What a program says of a rule that it does not check, or does not decide of an instance.
+LEFT = re.compile(r'(?:was not decided by rule (\S+) of ([^\s:]+):|: rule (\S+) of (\S+) was not checked:)')
+
+
+def left(text):
+    """The rules that a program's explanations say are left, by their names in capitals."""
+    return {'.'.join([owner or other, label or another]).upper() for label, owner, another, other in LEFT.findall(text)}
+
+
 def faults_of(program, folder):
-    """The lines of a program's report that begin with `fault`, or what is wrong with how it ended."""
+    """The lines of a program's report that begin with `fault`, or what is wrong with how it ended, and the rules that it leaves."""
     try:
-        ran = subprocess.run([program, folder / 'schema.exp', folder / 'file.stp', '--rules', '--all'], stdin=subprocess.DEVNULL, capture_output=True, timeout=SECONDS)
+        words = [program, folder / 'schema.exp', folder / 'file.stp', '--rules', '--all', '--explain=1000']
+        ran = subprocess.run(words, stdin=subprocess.DEVNULL, capture_output=True, timeout=SECONDS)
     except subprocess.TimeoutExpired:
-        return ['it does not end within %d s' % SECONDS]
+        return ['it does not end within %d s' % SECONDS], set()
+    if ran.returncode not in (0, 1):
+        return ['status %d: %s' % (ran.returncode, ran.stderr[:200].decode('latin-1'))], set()
     lines = ran.stdout.decode('latin-1').split('\n')
-    return [it for it in lines if it.startswith('fault')] if ran.returncode in (0, 1) else ['status %d: %s' % (ran.returncode, ran.stderr[:200].decode('latin-1'))]
+    return [it for it in lines if it.startswith('fault')], left(ran.stderr.decode('latin-1'))
 
 
 def differences(program, folder):
-    """What a program reports that is not expected, and what it does not."""
-    wanted, found = (folder / 'expected').read_text().splitlines(), faults_of(program, folder)
-    if sorted(wanted) == sorted(found) and wanted != found:
-        return ['%s: in another order' % folder]
-    return ['%s: not expected: %s' % (folder, it) for it in found if it not in wanted] + ['%s: missing: %s' % (folder, it) for it in wanted if it not in found]
+    """What a program reports that is not expected, and what it does not, but for rules that it leaves; and which these are."""
+    wanted, (found, leaves) = (folder / 'expected').read_text().splitlines(), faults_of(program, folder)
+    missing = [it for it in wanted if it not in found]
+    kept = [it for it in wanted if it in found]
+    if sorted(kept) == sorted(found) and kept != found:
+        return ['%s: in another order' % folder], leaves
+    differ = ['%s: not expected: %s' % (folder, it) for it in found if it not in wanted]
+    return differ + ['%s: missing: %s' % (folder, it) for it in missing if it.split()[-1] not in leaves], leaves
 
 
 def write(seed, count, into, only):
@@ -238,7 +254,7 @@ def main(words, ended):
     found = []
     if len(words) > 3:
         with concurrent.futures.ThreadPoolExecutor(2) as pool:
-            found = [it for them in pool.map(lambda folder: differences(words[3], folder), folders) for it in them]
+            found = [it for them, _ in pool.map(lambda folder: differences(words[3], folder), folders) for it in them]
     for it in found:
         print(it)
     print('%d files, %d lines expected%s' % (len(folders), sum(len((it / 'expected').read_text().splitlines()) for it in folders),

@@ -73,7 +73,7 @@ PLANTED = [
     ('a space that a storey contains as an element', 211316, r'\(#767', '(#199794,#767', 'IFCRELCONTAINEDINSPATIALSTRUCTURE.WR31'),
     ('a storey of no building', 305262, ',#211330', '', 'IFCSPATIALSTRUCTUREELEMENT.WR41', 211330),
     ('a placement in space in one in a plane', 882, '#879', '#851', 'IFCLOCALPLACEMENT.WR21', 918),
-    ('two projects', 54, r'^#54= (IFCPROJECT\(.)(.*)$', r'#54= \g<1>\g<2>\n#999999= \g<1>0\g<2>', 'IFCSINGLEPROJECTINSTANCE.WR1', HEADER),
+    ('two projects', 54, r'^#54= (IFCPROJECT\(.)(.)(.*)$', r'#54= \g<1>\g<2>\g<3>\n#999999= \g<1>0\g<3>', 'IFCSINGLEPROJECTINSTANCE.WR1', HEADER),
     ('contexts whose axes differ', 613, '#44', '#16114', 'IFCREPRESENTATIONCONTEXTSAMEWCS.WR1', HEADER),
 ]
 

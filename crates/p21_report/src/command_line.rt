@@ -350,6 +350,7 @@ where
             rt,
             alloc,
             &options,
+            wanted.steps,
             &mut schema,
             &mut file,
             &mut out,

@@ -1,0 +1,5 @@
+pub mod LengthLemmas
+pub mod LoopLemmas
+pub mod Laws
+pub mod ReaderLemmas
+pub mod FrontLemmas

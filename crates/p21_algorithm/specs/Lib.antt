@@ -1,0 +1,10 @@
+pub mod Tree
+pub mod Plain
+pub mod Names
+pub mod Types
+pub mod Control
+pub mod Statements
+pub mod Declarations
+pub mod Routines
+pub mod Pieces
+pub mod RulesOf
