@@ -350,7 +350,6 @@ where
             rt,
             alloc,
             &options,
-            wanted.steps,
             &mut schema,
             &mut file,
             &mut out,

@@ -1,5 +1,0 @@
-pub mod LengthLemmas
-pub mod LoopLemmas
-pub mod Laws
-pub mod ReaderLemmas
-pub mod FrontLemmas
