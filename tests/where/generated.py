@@ -197,16 +197,30 @@ def drawn(seed, place, only):
 
 
 # What a program says of a rule that it does not check, or does not decide of an instance.
-LEFT = re.compile(r'(?:was not decided by rule (\S+) of ([^\s:]+):|: rule (\S+) of (\S+) was not checked:)')
+LEFT = re.compile(r'(?:(?:: (#\d+) )?was not decided by rule (\S+) of ([^\s:]+):|: rule (\S+) of (\S+) was not checked:)')
 
 
-def left(text):
-    """The rules that a program's explanations say are left, by their names in capitals."""
-    return {'.'.join([owner or other, label or another]).upper() for label, owner, another, other in LEFT.findall(text)}
+def left(text, places):
+    """What a program's explanations say is left: lines as of faults, of a rule that is not checked its name alone, in capitals."""
+    found = set()
+    for instance, label, owner, another, other in LEFT.findall(text):
+        rule = '.'.join([owner or other, label or another]).upper()
+        found.add('fault 18 RuleBroken at %d rule %s' % (places[instance], rule) if instance else rule)
+    return found
+
+
+def is_left(line, leaves):
+    """Whether a line is of what is left."""
+    return line in leaves or line.split()[-1] in leaves
+
+
+def places_of(file):
+    """Where each instance of a drawn file stands."""
+    return {it.group(1): it.start() for it in re.finditer(r'(#\d+)=', file)}
 
 
 def faults_of(program, folder):
-    """The lines of a program's report that begin with `fault`, or what is wrong with how it ended, and the rules that it leaves."""
+    """The lines of a program's report that begin with `fault`, or what is wrong with how it ended, and what it leaves."""
     try:
         words = [program, folder / 'schema.exp', folder / 'file.stp', '--rules', '--all', '--explain=1000']
         ran = subprocess.run(words, stdin=subprocess.DEVNULL, capture_output=True, timeout=SECONDS)
@@ -215,18 +229,18 @@ def faults_of(program, folder):
     if ran.returncode not in (0, 1):
         return ['status %d: %s' % (ran.returncode, ran.stderr[:200].decode('latin-1'))], set()
     lines = ran.stdout.decode('latin-1').split('\n')
-    return [it for it in lines if it.startswith('fault')], left(ran.stderr.decode('latin-1'))
+    return [it for it in lines if it.startswith('fault')], left(ran.stderr.decode('latin-1'), places_of((folder / 'file.stp').read_text()))
 
 
 def differences(program, folder):
-    """What a program reports that is not expected, and what it does not, but for rules that it leaves; and which these are."""
+    """What a program reports that is not expected, and what it does not, but for what it leaves; and what that is."""
     wanted, (found, leaves) = (folder / 'expected').read_text().splitlines(), faults_of(program, folder)
     missing = [it for it in wanted if it not in found]
     kept = [it for it in wanted if it in found]
     if sorted(kept) == sorted(found) and kept != found:
         return ['%s: in another order' % folder], leaves
     differ = ['%s: not expected: %s' % (folder, it) for it in found if it not in wanted]
-    return differ + ['%s: missing: %s' % (folder, it) for it in missing if it.split()[-1] not in leaves], leaves
+    return differ + ['%s: missing: %s' % (folder, it) for it in missing if not is_left(it, leaves)], leaves
 
 
 def write(seed, count, into, only):

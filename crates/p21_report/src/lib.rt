@@ -14,6 +14,7 @@ mod renamed;
 mod rules;
 mod screen;
 mod watched;
+mod where_rules;
 mod words;
 
 pub use command_line::{program, program_with_progress, unreadable_words};
