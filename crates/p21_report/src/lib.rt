@@ -14,7 +14,6 @@ mod renamed;
 mod rules;
 mod screen;
 mod watched;
-mod where_rules;
 mod words;
 
 pub use command_line::{program, program_with_progress, unreadable_words};

@@ -9,7 +9,6 @@ use crate::progress::Progress;
 use crate::words::{Many, Wanted};
 use p21_explain::{Format, explain_device};
 use p21_run::Outcome;
-use p21_where_findings::WhereChecker;
 use std::alloc::{AllocError, Global};
 use std::collections::BTreeSet;
 use std::fs::Files;
@@ -26,10 +25,9 @@ const UNREADABLE: u8 = 4;
 
 /// Runs over each file, in turn: each line of a report begins with the file's name, and so does what is told of one that is not checked. The
 /// answer is the greatest status of a file. Where the output takes nothing more, the run ends.
-pub(crate) fn run_many<R, W, O, E, C, P>(
+pub(crate) fn run_many<R, O, E, C, P>(
     rt: &R,
     alloc: Global,
-    where_checker: &W,
     many: &Many<'_>,
     progress: &Progress<C, P>,
     output: &mut O,
@@ -37,7 +35,6 @@ pub(crate) fn run_many<R, W, O, E, C, P>(
 ) -> Result<u8, ProgramError>
 where
     R: Files + Threads + Wait + Sync,
-    W: WhereChecker,
     O: Write,
     E: Write,
     C: Clock + Sync + Drop,
@@ -55,16 +52,7 @@ where
     for path in &many.paths {
         let files = files_in(rt, alloc, path)?;
         let status = run_files(
-            rt,
-            alloc,
-            where_checker,
-            many,
-            &schemas,
-            &files,
-            &mut told,
-            progress,
-            output,
-            errors,
+            rt, alloc, many, &schemas, &files, &mut told, progress, output, errors,
         )?;
         worst = status.max(worst);
     }
@@ -72,10 +60,9 @@ where
 }
 
 /// The greatest status of some files. Of a schema that is not among those that were told of, it is told how it is mended.
-fn run_files<'s, R, W, O, E, C, P>(
+fn run_files<'s, R, O, E, C, P>(
     rt: &R,
     alloc: Global,
-    where_checker: &W,
     many: &Many<'_>,
     schemas: &'s [NamedSchema],
     files: &[String],
@@ -86,7 +73,6 @@ fn run_files<'s, R, W, O, E, C, P>(
 ) -> Result<u8, ProgramError>
 where
     R: Files + Threads + Wait + Sync,
-    W: WhereChecker,
     O: Write,
     E: Write,
     C: Clock + Sync + Drop,
@@ -103,7 +89,7 @@ where
                     tells_changes: told.insert(schema)?,
                     ..many.each
                 };
-                run_file(rt, alloc, where_checker, &wanted, progress, output, errors)?
+                run_file(rt, alloc, &wanted, progress, output, errors)?
             }
             Err(status) => status,
         };
@@ -146,10 +132,9 @@ fn schema_of<'a, R: Files, E: Write>(
 }
 
 /// Runs over a file; answers the status.
-fn run_file<R, W, O, E, C, P>(
+fn run_file<R, O, E, C, P>(
     rt: &R,
     alloc: Global,
-    where_checker: &W,
     wanted: &Wanted<'_>,
     progress: &Progress<C, P>,
     output: &mut O,
@@ -157,7 +142,6 @@ fn run_file<R, W, O, E, C, P>(
 ) -> Result<u8, ProgramError>
 where
     R: Files + Threads + Wait + Sync,
-    W: WhereChecker,
     O: Write,
     E: Write,
     C: Clock + Sync + Drop,
@@ -168,7 +152,6 @@ where
     let outcome = run_told(
         rt,
         alloc,
-        where_checker,
         wanted,
         progress,
         &mut io::empty(),

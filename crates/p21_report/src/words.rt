@@ -21,10 +21,8 @@ pub(crate) struct Wanted<'a> {
     pub(crate) file: &'a str,
     /// Whether every fault is reported, or only the first.
     pub(crate) all: bool,
-    /// Whether the rules of the schema are checked too: UNIQUE, INVERSE attributes and WHERE.
+    /// Whether the rules UNIQUE and the INVERSE attributes of the schema are checked too.
     pub(crate) ruled: bool,
-    /// How many steps the evaluation of a rule of WHERE may take.
-    pub(crate) steps: u64,
     /// Whether a summary of the faults is written in the place of a line for each.
     pub(crate) summary: bool,
     /// Whether standard error is a terminal.
@@ -91,9 +89,6 @@ const VERSION: &str = "0.2.0";
 
 /// How many faults are explained where no number is given.
 const MOST_EXPLAINED: usize = 20;
-
-/// How many steps a rule of WHERE may take where no number is given.
-const STEPS: u64 = 100_000;
 
 /// What the help says of the exit status.
 const STATUSES: &str = "\
@@ -265,7 +260,6 @@ fn wanted_of<'a>(
         file,
         all: matches.get_flag("all") || matches.get_flag("summary"),
         ruled: matches.get_flag("rules"),
-        steps: matches.get_one::<u32>("steps").map_or(STEPS, u64::from),
         summary: matches.get_flag("summary"),
         is_terminal: screen.is_terminal,
         any_name: false,
@@ -364,9 +358,7 @@ fn with_options<'a>(alloc: Global, command: Command<'a>) -> Result<Command<'a>, 
     let command = with_lanes(alloc, command)?
         .arg(all(alloc))?
         .arg(summary(alloc))?;
-    let command = with_rules(alloc, command)?
-        .arg(rules(alloc))?
-        .arg(steps(alloc))?;
+    let command = with_rules(alloc, command)?.arg(rules(alloc))?;
     with_telling(alloc, command)
 }
 
@@ -467,16 +459,8 @@ fn summary<'a>(alloc: Global) -> Arg<'a> {
 
 fn rules<'a>(alloc: Global) -> Arg<'a> {
     flag(alloc, "rules").help(
-        "also report instances that break a rule of the schema: UNIQUE, the bounds of an INVERSE attribute, or WHERE",
+        "also report instances that break a rule UNIQUE or an INVERSE attribute of the schema",
     )
-}
-
-fn steps<'a>(alloc: Global) -> Arg<'a> {
-    number(alloc, "steps")
-        .value_parser(value_parser!(u32).range(1..=1000000000))
-        .help(
-            "with --rules, the most steps that a rule WHERE takes for an instance [default: 100000]",
-        )
 }
 
 fn distinct<'a>(alloc: Global) -> Arg<'a> {

@@ -1,4 +1,3 @@
 pub mod RuleFault
 pub mod FaultLine
-pub mod BrokenLine
 pub mod Ruled

@@ -2,7 +2,6 @@
 #![tactic(auto)]
 
 use p21_report::{Screen, program_with_progress, unreadable_words};
-use p21_where_text::TextChecker;
 use std::env;
 use std::io::IsTerminal;
 use std::process::ExitCode;
@@ -15,18 +14,14 @@ fn main(rt: HostRuntime) -> ExitCode {
         Ok(words) => words,
         Err(error) => return ExitCode::from(unreadable_words(rt.alloc(), &error, &mut rt.stderr())),
     };
-    let where_checker = TextChecker { rt: &rt };
-    let status = program_with_progress(
+    ExitCode::from(program_with_progress(
         &rt,
         rt.alloc(),
-        &where_checker,
         words.as_slice(),
         &mut rt.stdin(),
         &mut rt.stdout(),
         &mut rt.stderr(),
         rt.stderr(),
         Screen::new(&rt, rt.stderr().is_terminal()),
-    );
-    let TextChecker { rt: _ } = where_checker;
-    ExitCode::from(status)
+    ))
 }

@@ -1,6 +1,0 @@
-pub mod Literals
-pub mod Ends
-pub mod Combine
-pub mod Make
-pub mod Meaning
-pub mod Laws

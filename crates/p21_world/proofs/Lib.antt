@@ -1,2 +1,0 @@
-mod Bodies
-pub mod Crossing
