@@ -9,8 +9,9 @@ script finds them; `undecided` has the rules that it does not decide, with why. 
 name: logic, simple, aggregates, types, graph, derived, steps, made, whole, and rare, which has what a program may leave out: LIKE, parts of strings,
 procedures, functions in functions, real powers .. . Some rules are drawn too.
 
-PROGRAM is run as `PROGRAM schema.exp file.stp --rules --all --explain=1000`. It must print the lines of `expected` and no other that begins with `fault`, but for rules
-of which it says that they are not checked, or not decided: these it must not report. What differs is printed, and the status is 1 if something does."""
+PROGRAM is run as `PROGRAM schema.exp file.stp --rules --all --explain=1000`. It must print the lines of `expected` and no other that begins with `fault`, but
+for a rule of which it says that it is not checked, and for an instance of which it says that the rule is not decided. What differs is printed, and the status
+is 1 if something does."""
 
 import concurrent.futures
 import pathlib
