@@ -10,14 +10,14 @@ _p21check() {
     --color) mapfile -t COMPREPLY < <(compgen -W 'auto always never' -- "$word") && return ;;
     esac
     if [[ $word == -* ]]; then
-        mapfile -t COMPREPLY < <(compgen -W '--schemas --any-schema-name --mend --write-schema --lanes --capacity --all --summary --distinct --rules --explain --format --color --progress --help --version' -- "$word")
+        mapfile -t COMPREPLY < <(compgen -W '--schemas --any-schema-name --mend --write-schema --lanes --capacity --all --summary --distinct --rules --steps --explain --format --color --progress --help --version' -- "$word")
         return
     fi
     # The first word that is no option and no value of one is the schema, the second the file.
     for ((index = 1; index < COMP_CWORD; index++)); do
         case ${COMP_WORDS[index]} in
         --schemas) ((index++, place++)) ;;
-        --write-schema | --lanes | --capacity | --format | --color) ((index++)) ;;
+        --write-schema | --lanes | --capacity | --steps | --format | --color) ((index++)) ;;
         --*) ;;
         *) ((place++)) ;;
         esac

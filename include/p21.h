@@ -40,7 +40,7 @@ enum {
     P21_HANDLE = 4  /* the handle is null, or one of another kind */
 };
 
-/* The kinds of fault: 1 to 15 of a file, as in docs/FORMAT.md; 16 and 17 of a file by the rules of its schema; of a schema 100 more than the number in
+/* The kinds of fault: 1 to 15 of a file, as in docs/FORMAT.md; 16 to 18 of a file by the rules of its schema; of a schema 100 more than the number in
  * docs/SCHEMAS.md. */
 enum {
     P21_BAD_TOKEN = 1,
@@ -60,6 +60,7 @@ enum {
     P21_REPEATED_REFERENCE = 15,
     P21_NOT_UNIQUE = 16,
     P21_INVERSE_COUNT = 17,
+    P21_RULE_BROKEN = 18,
     P21_SYNTAX = 101,
     P21_NOT_SUPPORTED = 102,
     P21_REPEATED = 103,
@@ -72,7 +73,7 @@ enum {
 typedef struct {
     uint32_t kind;      /* P21_BAD_TOKEN and so on */
     uint64_t at;        /* its place, in bytes from the first byte: of the instance, or of the token that does not fit */
-    uint64_t record;    /* of kinds 11 to 15, the record of the instance, from 0; of kinds 16 and 17, the number of the rule */
+    uint64_t record;    /* of kinds 11 to 15, the record of the instance, from 0; of kinds 16 to 18, the number of the rule among those of its kind */
     uint64_t attribute; /* of kinds 12 to 15, the attribute of the record, from 0 */
     uint64_t name;      /* of kinds 13 and 14, the instance name that is referred to; of kind 16, the first instance that has the same values; of kind 17,
                            how many refer to the instance */
@@ -181,22 +182,24 @@ int p21_change_count(const p21_mended *mended, uint64_t *count);
  * changed and why the meaning is the same, in a sentence. */
 int p21_change(const p21_mended *mended, uint64_t number, uint64_t *at, uint8_t *room, size_t room_size, uint64_t *length);
 
-/* ---- rules: UNIQUE, and the bounds of INVERSE attributes ---- */
+/* ---- rules: UNIQUE, the bounds of INVERSE attributes, and WHERE ---- */
 
 /* Reads the rules of a schema from its text, which must be that of the schema. The bytes of the text are not copied: they, and the schema, must stay where
  * they are, unchanged, until the rules are freed. P21_OK: *rules is a new handle. P21_FAULT: *fault says why they are refused. */
 int p21_rules_read(const p21_schema *schema, const uint8_t *text, size_t size, p21_rules **rules, p21_fault *fault);
 
-/* The faults of a model by rules, sorted by their places; of one place those of UNIQUE first. The model must be of the same schema. It writes as many as fit
- * into the room; *count is how many there are, 0 if the model keeps all rules. */
+/* The faults of a model by rules: those of UNIQUE and INVERSE sorted by their places, of one place those of UNIQUE first; after them those of WHERE, in the
+ * order of the instances, and of one instance in that of the schema; those of a RULE last. The model must be of the same schema. It writes as many as fit
+ * into the room; *count is how many there are, 0 if the model breaks no rule. docs/FORMAT.md says which rules WHERE are not checked, or not decided of an
+ * instance: they give no fault. Rules WHERE take up to STACK of stack. */
 int p21_rules_check(const p21_rules *rules, const p21_model *model, p21_fault *room, size_t room_size, uint64_t *count);
 
 /* Explains a fault by a rule as p21_explain explains other faults. `file` is the file of the model. P21_NONE: it is no fault by one of these rules. */
 int p21_rules_explain(const p21_rules *rules, const uint8_t *file, size_t size, const uint8_t *path, size_t path_size, const p21_fault *fault,
                       uint8_t *room, size_t room_size, uint64_t *length);
 
-/* The rule that a fault breaks: the entity that has it, and the label of the rule UNIQUE (its number in the entity if it has none) or the name of the INVERSE
- * attribute, in upper case: IfcRoot.UR1. P21_NONE: it is no fault by one of these rules. */
+/* The rule that a fault breaks: the entity, the type or the RULE that has it, and in upper case the label of the rule UNIQUE (its number in the entity if it
+ * has none), the name of the INVERSE attribute, or the label of the rule WHERE ((2) for the second without one): IfcRoot.UR1. P21_NONE: it is no fault by one of these rules. */
 int p21_rules_name(const p21_rules *rules, const p21_fault *fault, uint8_t *room, size_t room_size, uint64_t *length);
 
 /* ---- a schema, without a model: entities and types have numbers, from 0, in the order of its text ---- */

@@ -5,7 +5,8 @@
 #include <string.h>
 
 static const char *const KINDS[] = {"", "BadToken", "Unexpected", "Truncated", "TooDeep", "HeaderEntities", "WrongSchema", "DuplicateName", "UnknownEntity",
-    "AbstractEntity", "BadComplex", "WrongCount", "BadAttribute", "MissingReference", "WrongReference", "RepeatedReference", "NotUnique", "InverseCount"};
+    "AbstractEntity", "BadComplex", "WrongCount", "BadAttribute", "MissingReference", "WrongReference", "RepeatedReference", "NotUnique", "InverseCount",
+    "RuleBroken"};
 static const char *const KINDS_OF_SCHEMA[] = {"", "Syntax", "NotSupported", "Repeated", "UnknownName", "Cycle", "BadRedeclaration"};
 
 #define NUMBER(n) ((unsigned long long)(n))
@@ -49,8 +50,10 @@ static int tell_rule_fault(const p21_rules *rules, const p21_fault *fault) {
     uint64_t length = 0;
     if (!is(p21_rules_name(rules, fault, (uint8_t *)name, sizeof name, &length), P21_OK) || length > sizeof name) return 9;
     for (uint64_t i = 0; i < length; i++) name[i] -= name[i] >= 'a' && name[i] <= 'z' ? 32 : 0;
-    printf("fault %u %s at %llu %s %.*s %s%llu\n", fault->kind, KINDS[fault->kind], NUMBER(fault->at), is_unique ? "rule" : "inverse", (int)length, name,
-           is_unique ? "name #" : "count ", NUMBER(fault->name));
+    printf("fault %u %s at %llu %s %.*s", fault->kind, KINDS[fault->kind], NUMBER(fault->at), fault->kind == P21_INVERSE_COUNT ? "inverse" : "rule", (int)length,
+           name);
+    if (fault->kind != P21_RULE_BROKEN) printf(" %s%llu", is_unique ? "name #" : "count ", NUMBER(fault->name));
+    printf("\n");
     return 1;
 }
 

@@ -8,7 +8,7 @@
             print(wall.id, wall.is_a(), wall.Name, wall.ObjectPlacement.RelativePlacement)
 
 Only a file without a fault becomes a model; of another, `Schema.read` raises a `Fault` that explains what is wrong and where. With `rules=True` it
-also checks the rules UNIQUE and INVERSE of the schema.
+also checks the rules UNIQUE, INVERSE and WHERE of the schema.
 
 Some forms of EXPRESS are not supported. `Schema.open(path, mend=True)` writes those of them another way that have the same meaning then, and
 `schema.changes` tells what was changed.

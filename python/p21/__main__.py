@@ -50,7 +50,7 @@ def counts(model: Model) -> List[str]:
 def fault_line(fault: Fault) -> str:
     """The line of the report that is a fault."""
     rule = fault.rule.upper() if fault.rule else None
-    of_rule = " rule %s" if fault.kind == "NotUnique" else " inverse %s"
+    of_rule = " inverse %s" if fault.kind == "InverseCount" else " rule %s"
     more = ((" rec %d", fault.record), (" attr %d", fault.attribute), (of_rule, rule), (" name #%d", fault.name), (" count %d", fault.count))
     return "fault %d %s at %d%s" % (NUMBERS[fault.kind], fault.kind, fault.at, "".join(text % value for text, value in more if value is not None))
 
@@ -77,7 +77,7 @@ def wanted(words: List[str]) -> argparse.Namespace:
                                      epilog=STATUSES, formatter_class=argparse.RawDescriptionHelpFormatter)
     parser.add_argument("schema", metavar="SCHEMA", help="EXPRESS schema to check against")
     parser.add_argument("file", metavar="FILE", help="STEP file to check; - is standard input")
-    parser.add_argument("--rules", action="store_true", help="also check rules UNIQUE and INVERSE attributes")
+    parser.add_argument("--rules", action="store_true", help="also check rules UNIQUE and WHERE and INVERSE attributes")
     parser.add_argument("--mend", action="store_true", help="write forms of the schema that are not supported another way with the same meaning")
     parser.add_argument("--version", action="version", version="p21 %s" % __version__)
     return parser.parse_args(words)

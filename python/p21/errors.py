@@ -21,6 +21,7 @@ KINDS = {
     15: "RepeatedReference",
     16: "NotUnique",
     17: "InverseCount",
+    18: "RuleBroken",
     101: "Syntax",
     102: "NotSupported",
     103: "Repeated",
@@ -65,8 +66,8 @@ class Fault(Error):
     of the instance, counted from 0, and the name that a reference gives, where the kind has them, else None; explanation: what is wrong in words,
     with the line of the file; line and column: where to look, from 1 on.
 
-    Of a fault by a rule of the schema, "NotUnique" or "InverseCount", rule is the rule, such as "IfcRoot.UR1"; of the first kind, name is the first
-    instance that has the same values; of the second, count is how many refer to the instance. Else rule and count are None.
+    Of a fault by a rule of the schema, "NotUnique", "InverseCount" or "RuleBroken", rule is the rule, such as "IfcRoot.UR1"; of the first kind, name is the
+    first instance that has the same values; of the second, count is how many refer to the instance. Else rule and count are None.
     """
 
     def __init__(self, kind, at, record, attribute, name, explanation, rule=None, count=None):

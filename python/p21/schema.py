@@ -91,8 +91,8 @@ class Schema(library.Kept):
     # ---- reading files
 
     def read(self, path: Path, rules: bool = False) -> Model:
-        """Reads a file; raises Fault if it does not conform to the schema. With rules it also raises Fault if the file breaks a rule UNIQUE or the bounds of
-        an INVERSE attribute of the schema, and SchemaFault if these are refused."""
+        """Reads a file; raises Fault if it does not conform to the schema. With rules it also raises Fault if the file breaks a rule UNIQUE, the bounds of an
+        INVERSE attribute or a rule WHERE of the schema, and SchemaFault if rules UNIQUE or INVERSE are refused."""
         self._ready(rules)
         with _open(path, "rb") as file:
             return self.read_bytes(file.read(), os.fspath(path), rules)

@@ -439,6 +439,16 @@ class Rules(unittest.TestCase):
         other = pickle.loads(pickle.dumps(fault))
         self.assertEqual((str(other), vars(other)), (str(fault), vars(fault)))
 
+    def test_where(self):
+        schema = p21.Schema(self.TEXT.replace(b'UNIQUE UR1 : Id;', b"UNIQUE UR1 : Id; WHERE WR1 : Id <> 'b'; EXISTS(Host);"))
+        self.assertEqual(len(schema.read_bytes(of_data(b"#1=PART('a',#1);"), rules=True)), 1)
+        for data, rule, text in ((b"#1=PART('b',#1);", 'Part.WR1', "WR1 : Id <> 'b'"), (b"#1=PART('a',$);", 'Part.(2)', 'EXISTS(Host)')):
+            with self.assertRaises(p21.Fault) as raised:
+                schema.read_bytes(of_data(data), 'x.stp', rules=True)
+            fault = raised.exception
+            self.assertEqual((fault.kind, fault.at, fault.name, fault.rule, fault.count), ('RuleBroken', of_data(data).index(b'#1='), None, rule, None))
+            self.assertIn(text, fault.explanation)
+
     def test_behind_other_faults(self):
         self.assertEqual(self.fault(self.SAME.replace(b"#1=PART('a',$)", b'#1=PART(7,$)'), rules=True).kind, 'BadAttribute')
 

@@ -16,6 +16,7 @@ use Rattle.p21_json.specs.contracts.terms.Terms as Terms
 use Rattle.p21_mend.specs.contracts.mending.MendedText as MendedText
 use Rattle.p21_rule_text.specs.contracts.rules.Rules as Rules
 use Rattle.p21_spelling.specs.contracts.declared.Spellings as Spellings
+use Rattle.p21_where_findings.specs.contracts.findings.WhereRule as WhereRule
 use Rattle.p21_c.specs.contracts.handle.Handle as Handle
 use Rattle.p21_c.specs.contracts.held.Held as Held
 use Rattle.p21_c.specs.contracts.held.HeldModel as HeldModel
@@ -41,8 +42,11 @@ HeldModel-sync = search (sendable, crosses, Terms-sync, Model-sync) depth 80 fit
 Rules-sync : IsSync Rules.the_field.row
 Rules-sync = search (sendable, crosses) depth 80 fits 20000
 
+WhereRule-sync : IsSync WhereRule.the_row
+WhereRule-sync = search (sendable, crosses) depth 80 fits 20000
+
 HeldRules-sync : IsSync HeldRules.the_field.row
-HeldRules-sync = search (sendable, crosses, HeldSchema-sync, Rules-sync) depth 80 fits 20000
+HeldRules-sync = search (sendable, crosses, HeldSchema-sync, Rules-sync, WhereRule-sync) depth 80 fits 20000
 
 MendedText-sync : IsSync MendedText.the_field.row
 MendedText-sync = search (sendable, crosses) depth 80 fits 20000

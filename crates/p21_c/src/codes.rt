@@ -3,6 +3,7 @@
 use p21_express::SchemaError;
 use p21_rules::{InverseCount, NotUnique};
 use p21_tree::{Fault, FaultKind};
+use p21_where_findings::BrokenRule;
 
 /// The call did what it says.
 pub(crate) const OK: i32 = 0;
@@ -27,8 +28,8 @@ pub struct CFault {
     pub kind: u32,
     /// Its place, in bytes from the first byte of the text or the file.
     pub at: u64,
-    /// The record, the attribute, and the name that a reference gives; 0 where the kind has none. Of a fault by a rule the number of the rule,
-    /// 0, and the name of the earlier instance or how many refer.
+    /// The record, the attribute, and the name that a reference gives; 0 where the kind has none. Of a fault by a rule the number of the rule
+    /// among those of its kind, 0, and the name of the earlier instance, how many refer, or 0.
     pub record: u64,
     pub attribute: u64,
     pub name: u64,
@@ -147,6 +148,8 @@ pub(crate) const NOT_UNIQUE: u32 = 16;
 
 pub(crate) const INVERSE_COUNT: u32 = 17;
 
+pub(crate) const RULE_BROKEN: u32 = 18;
+
 /// The fault of an instance by a rule UNIQUE, as C sees it.
 pub(crate) fn unique_fault(fault: &NotUnique) -> CFault {
     of_attribute(NOT_UNIQUE, fault.at, fault.rule as u64, 0, fault.earlier)
@@ -155,4 +158,9 @@ pub(crate) fn unique_fault(fault: &NotUnique) -> CFault {
 /// The fault of an instance by an INVERSE attribute, as C sees it.
 pub(crate) fn inverse_fault(fault: &InverseCount) -> CFault {
     of_attribute(INVERSE_COUNT, fault.at, fault.rule as u64, 0, fault.count)
+}
+
+/// The fault of an instance by a rule WHERE, as C sees it.
+pub(crate) fn where_fault(broken: &BrokenRule) -> CFault {
+    of_attribute(RULE_BROKEN, broken.at, broken.rule as u64, 0, 0)
 }

@@ -12,6 +12,7 @@ use p21_mend::MendedText;
 use p21_rule_text::Rules;
 use p21_schema::Schema;
 use p21_spelling::Spellings;
+use p21_where_findings::WhereRule;
 
 /// A schema, and how its text spells its names.
 #[derive(Drop)]
@@ -37,6 +38,8 @@ pub struct HeldRules {
     pub schema: &'static HeldSchema,
     pub text: &'static [u8],
     pub rules: Rules,
+    /// Those of WHERE, in the order of the text.
+    pub by_where: Vec<WhereRule>,
     pub ghost unique: { AreRulesOf schema.now.schema rules.unique.items },
     pub ghost inverse: { AreInverseRulesOf schema.now.schema rules.inverse.items },
 }

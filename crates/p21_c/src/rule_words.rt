@@ -1,12 +1,13 @@
 //! Rules and their faults, as they are explained.
 
-use crate::codes::{CFault, INVERSE_COUNT, NOT_UNIQUE};
+use crate::codes::{CFault, INVERSE_COUNT, NOT_UNIQUE, RULE_BROKEN};
 use crate::held::HeldRules;
 use p21_explain::{
     BrokenInverse, BrokenUnique, Format, Lines, NamedInstances, Rule, RuleForm, Subject,
     explain_inverse_count, explain_not_unique,
 };
 use p21_rule_text::Rules;
+use p21_where_findings::{BrokenRule, CheckedFile, Stated, WhereRule, explain_broken};
 use std::alloc::{AllocError, Global};
 use std::str::from_utf8;
 
@@ -28,6 +29,24 @@ pub(crate) fn rule_of<'a>(rules: &'a Rules, fault: &CFault) -> Option<Rule<'a>> 
     }
 }
 
+/// The rule WHERE that a fault breaks; `None` where it breaks none of these.
+pub(crate) fn where_rule_of<'a>(held: &'a HeldRules, fault: &CFault) -> Option<&'a WhereRule> {
+    if fault.kind != RULE_BROKEN {
+        return None;
+    }
+    held.by_where.get(usize::try_from(fault.record).ok()?)
+}
+
+/// The schema, as its rules of WHERE are told of.
+pub(crate) fn stated<'a>(held: &'a HeldRules) -> Stated<'a> {
+    Stated {
+        path: "schema",
+        text: held.text,
+        schema: &held.schema.schema,
+        spellings: &held.schema.spellings,
+    }
+}
+
 /// A fault by a rule, explained as `p21check` explains it; `None` where it breaks none of the rules.
 pub(crate) fn explained(
     alloc: Global,
@@ -36,6 +55,9 @@ pub(crate) fn explained(
     path: &[u8],
     fault: &CFault,
 ) -> Result<Option<String>, AllocError> {
+    if let Some(rule) = where_rule_of(held, fault) {
+        return where_explained(alloc, held, file, path, rule, fault);
+    }
     let Some(rule) = rule_of(&held.rules, fault) else {
         return Ok(None);
     };
@@ -81,6 +103,36 @@ fn unique_explained(
     };
     let mut lines = Lines::new(subject.file);
     let said = explain_not_unique(alloc, subject, &mut lines, &broken, Format::Text)?;
+    Ok(Some(said))
+}
+
+/// A fault by a rule WHERE.
+fn where_explained(
+    alloc: Global,
+    held: &HeldRules,
+    file: &[u8],
+    path: &[u8],
+    rule: &WhereRule,
+    fault: &CFault,
+) -> Result<Option<String>, AllocError> {
+    let checked = CheckedFile {
+        path: from_utf8(path).unwrap_or("file"),
+        bytes: file,
+    };
+    let broken = BrokenRule {
+        at: fault.at,
+        rule: fault.record as usize,
+    };
+    let mut lines = Lines::new(file);
+    let said = explain_broken(
+        alloc,
+        checked,
+        stated(held),
+        &mut lines,
+        rule,
+        broken,
+        Format::Text,
+    )?;
     Ok(Some(said))
 }
 

@@ -17,6 +17,7 @@ use crate::watched::Watched;
 use crate::words::{Asked, Wanted, not_text, replaces_input, what_is_wanted};
 use p21_rule_run::run_rules;
 use p21_run::{Options, Outcome, Source, Stream, run_heard};
+use p21_where_findings::WhereChecker;
 use std::alloc::{AllocError, Global};
 use std::fs::Files;
 use std::io::{self, Read, Write};
@@ -38,9 +39,10 @@ use std::time::Clock;
 /// to `errors` changes no status. No progress is shown.
 ///
 /// Options, messages and exit statuses are tested.
-pub fn program<R, I, O, E>(
+pub fn program<R, W, I, O, E>(
     rt: &R,
     alloc: Global,
+    where_checker: &W,
     words: &[String],
     input: &mut I,
     output: &mut O,
@@ -48,6 +50,7 @@ pub fn program<R, I, O, E>(
 ) -> u8
 where
     R: Files + Threads + Wait + Sync,
+    W: WhereChecker,
     I: Read,
     O: Write,
     E: Write,
@@ -57,7 +60,7 @@ where
         out: io::sink(),
         screen: Screen::none(),
     };
-    run_words(rt, alloc, words, input, output, errors, told)
+    run_words(rt, alloc, where_checker, words, input, output, errors, told)
 }
 
 /// The same as `program`, which shows its progress on a line of `progress`, where that is a terminal or `--progress` is given: what it is
@@ -65,9 +68,10 @@ where
 /// `progress` is a terminal, as `screen` says, faults are explained unless `--explain=0` is given, and in colours where it has some.
 ///
 /// So is the progress line.
-pub fn program_with_progress<R, I, O, E, P>(
+pub fn program_with_progress<R, W, I, O, E, P>(
     rt: &R,
     alloc: Global,
+    where_checker: &W,
     words: &[String],
     input: &mut I,
     output: &mut O,
@@ -77,6 +81,7 @@ pub fn program_with_progress<R, I, O, E, P>(
 ) -> u8
 where
     R: Files + Threads + Wait + Clock + Sync,
+    W: WhereChecker,
     I: Read,
     O: Write,
     E: Write,
@@ -87,7 +92,7 @@ where
         out: progress,
         screen,
     };
-    run_words(rt, alloc, words, input, output, errors, told)
+    run_words(rt, alloc, where_checker, words, input, output, errors, told)
 }
 
 /// By what it is told how far a run is.
@@ -99,9 +104,10 @@ struct Told<C, P> {
 }
 
 /// The status of what the words ask for; what is wrong, and what is to be said of it, is told on `errors`.
-fn run_words<R, I, O, E, C, P>(
+fn run_words<R, W, I, O, E, C, P>(
     rt: &R,
     alloc: Global,
+    where_checker: &W,
     words: &[String],
     input: &mut I,
     output: &mut O,
@@ -110,6 +116,7 @@ fn run_words<R, I, O, E, C, P>(
 ) -> u8
 where
     R: Files + Threads + Wait + Sync,
+    W: WhereChecker,
     I: Read,
     O: Write,
     E: Write,
@@ -117,7 +124,17 @@ where
     P: Write + Send + Drop,
 {
     let mut said = String::new(alloc);
-    let status = match report(rt, alloc, words, input, output, errors, told, &mut said) {
+    let status = match report(
+        rt,
+        alloc,
+        where_checker,
+        words,
+        input,
+        output,
+        errors,
+        told,
+        &mut said,
+    ) {
         Ok(status) => status,
         Err(error) => tell(&error, output, errors),
     };
@@ -138,9 +155,10 @@ pub fn unreadable_words<E: Write>(alloc: Global, error: &io::Error, errors: &mut
 }
 
 /// Runs over the schema and the file that the words name, and keeps what is to be said of faults, and of devices that failed.
-fn report<R, I, O, E, C, P>(
+fn report<R, W, I, O, E, C, P>(
     rt: &R,
     alloc: Global,
+    where_checker: &W,
     words: &[String],
     input: &mut I,
     output: &mut O,
@@ -150,6 +168,7 @@ fn report<R, I, O, E, C, P>(
 ) -> Result<u8, ProgramError>
 where
     R: Files + Threads + Wait + Sync,
+    W: WhereChecker,
     I: Read,
     O: Write,
     E: Write,
@@ -164,9 +183,18 @@ where
             if is_input(rt, wanted) {
                 return Err(replaces_input(alloc));
             }
-            status_of(run_told(rt, alloc, wanted, &progress, input, output, said))
+            status_of(run_told(
+                rt,
+                alloc,
+                where_checker,
+                wanted,
+                &progress,
+                input,
+                output,
+                said,
+            ))
         }
-        Asked::Many(many) => run_many(rt, alloc, many, &progress, output, errors),
+        Asked::Many(many) => run_many(rt, alloc, where_checker, many, &progress, output, errors),
     }
 }
 
@@ -179,9 +207,10 @@ fn is_input<R: Files>(rt: &R, wanted: &Wanted<'_>) -> bool {
 }
 
 /// Mends the schema if that is wanted, runs over it and the file, tells how far it is, and keeps what is to be said.
-pub(crate) fn run_told<R, I, O, C, P>(
+pub(crate) fn run_told<R, W, I, O, C, P>(
     rt: &R,
     alloc: Global,
+    where_checker: &W,
     wanted: &Wanted<'_>,
     progress: &Progress<C, P>,
     input: &mut I,
@@ -190,6 +219,7 @@ pub(crate) fn run_told<R, I, O, C, P>(
 ) -> Outcome
 where
     R: Files + Threads + Wait + Sync,
+    W: WhereChecker,
     I: Read,
     O: Write,
     C: Clock + Sync + Drop,
@@ -212,9 +242,27 @@ where
         ..*wanted
     };
     let outcome = if wanted.summary {
-        run_summed(rt, alloc, &wanted, progress, input, output, &mut explainer)
+        run_summed(
+            rt,
+            alloc,
+            where_checker,
+            &wanted,
+            progress,
+            input,
+            output,
+            &mut explainer,
+        )
     } else {
-        run_from(rt, alloc, &wanted, progress, input, output, &mut explainer)
+        run_from(
+            rt,
+            alloc,
+            where_checker,
+            &wanted,
+            progress,
+            input,
+            output,
+            &mut explainer,
+        )
     };
     if wanted.is_terminal && outcome == Outcome::Complete {
         explainer.hear_clean(LookedAt {
@@ -239,9 +287,10 @@ fn mending_of<'a>(wanted: &Wanted<'a>) -> Mending<'a> {
 }
 
 /// Runs over the schema and the file, and writes the summary of the faults in the place of a line for each, or the report where there is none.
-fn run_summed<R, I, O, C, P>(
+fn run_summed<R, W, I, O, C, P>(
     rt: &R,
     alloc: Global,
+    where_checker: &W,
     wanted: &Wanted<'_>,
     progress: &Progress<C, P>,
     input: &mut I,
@@ -250,13 +299,23 @@ fn run_summed<R, I, O, C, P>(
 ) -> Outcome
 where
     R: Files + Threads + Wait + Sync,
+    W: WhereChecker,
     I: Read,
     O: Write,
     C: Clock + Sync + Drop,
     P: Write + Send + Drop,
 {
     let mut report = Vec::new(alloc);
-    let outcome = run_from(rt, alloc, wanted, progress, input, &mut report, explainer);
+    let outcome = run_from(
+        rt,
+        alloc,
+        where_checker,
+        wanted,
+        progress,
+        input,
+        &mut report,
+        explainer,
+    );
     match write_either(output, explainer.summary().as_bytes(), &report) {
         Ok(()) => outcome,
         Err(error) => {
@@ -273,9 +332,10 @@ fn write_either<O: Write>(output: &mut O, summary: &[u8], report: &[u8]) -> io::
 }
 
 /// Runs over the schema and the file, which is the standard input where its path is `-`.
-fn run_from<R, I, O, C, P>(
+fn run_from<R, W, I, O, C, P>(
     rt: &R,
     alloc: Global,
+    where_checker: &W,
     wanted: &Wanted<'_>,
     progress: &Progress<C, P>,
     input: &mut I,
@@ -284,6 +344,7 @@ fn run_from<R, I, O, C, P>(
 ) -> Outcome
 where
     R: Files + Threads + Wait + Sync,
+    W: WhereChecker,
     I: Read,
     O: Write,
     C: Clock + Sync + Drop,
@@ -292,17 +353,47 @@ where
     let schema = Opened::schema(rt, wanted.schema).with_text(wanted.text);
     if wanted.file == "-" {
         let file = Stream::new(input);
-        return run_over(rt, alloc, wanted, progress, schema, file, output, explainer);
+        return run_over(
+            rt,
+            alloc,
+            where_checker,
+            wanted,
+            progress,
+            schema,
+            file,
+            output,
+            explainer,
+        );
     }
     let file = Opened::file(rt, wanted.file);
     if wanted.any_name {
         if let Some(renamed) = renamed_for(rt, alloc, wanted) {
             explainer.hear_renamed(&renamed.name);
             let schema = Opened::schema(rt, wanted.schema).with_text(Some(&renamed.text));
-            return run_over(rt, alloc, wanted, progress, schema, file, output, explainer);
+            return run_over(
+                rt,
+                alloc,
+                where_checker,
+                wanted,
+                progress,
+                schema,
+                file,
+                output,
+                explainer,
+            );
         }
     }
-    run_over(rt, alloc, wanted, progress, schema, file, output, explainer)
+    run_over(
+        rt,
+        alloc,
+        where_checker,
+        wanted,
+        progress,
+        schema,
+        file,
+        output,
+        explainer,
+    )
 }
 
 /// By what names the run is told of.
@@ -316,9 +407,10 @@ fn names_of<'a>(wanted: &Wanted<'a>) -> Names<'a> {
 }
 
 /// Runs over the schema and the file as it is wanted, and has the explainer hear the end.
-fn run_over<R, S, F, O, C, P>(
+fn run_over<R, W, S, F, O, C, P>(
     rt: &R,
     alloc: Global,
+    where_checker: &W,
     wanted: &Wanted<'_>,
     progress: &Progress<C, P>,
     schema: S,
@@ -328,6 +420,7 @@ fn run_over<R, S, F, O, C, P>(
 ) -> Outcome
 where
     R: Files + Threads + Wait + Sync,
+    W: WhereChecker,
     S: Source + LastError + Drop,
     F: Source + LastError + Drop,
     O: Write,
@@ -350,6 +443,8 @@ where
             rt,
             alloc,
             &options,
+            where_checker,
+            wanted.steps,
             &mut schema,
             &mut file,
             &mut out,

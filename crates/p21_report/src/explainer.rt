@@ -2,7 +2,8 @@
 
 use crate::progress::{Progress, Stage};
 use crate::rules::{
-    broken_inverse, broken_unique, counts_of, earlier_names, unchecked, unchecked_count,
+    broken_inverse, broken_unique, checked_count, counts_of, earlier_names, unchecked,
+    unchecked_count, unevaluated_count,
 };
 use crate::words::Options;
 use p21_explain::{
@@ -13,11 +14,14 @@ use p21_explain::{
 use p21_express::SchemaError;
 use p21_mend::{Change, mended};
 use p21_render::{fault_line, schema_fault_line};
-use p21_rule_run::{RuleFault, RuleListener};
+use p21_rule_run::{RuleFault, RuleListener, Ruled};
 use p21_rule_text::Rules;
 use p21_run::{Listener, Outcome};
 use p21_schema::Schema;
 use p21_tree::Fault;
+use p21_where_findings::{
+    CheckedFile, Stated, broken_summary, explain_broken, explain_undecided, explain_unevaluated,
+};
 use std::alloc::{AllocError, Global};
 use std::io::{self, Write};
 use std::mem::forget;
@@ -311,12 +315,11 @@ impl<'a, C: Clock, P: Write> Explainer<'a, C, P> {
     fn add_ruled(
         &mut self,
         schema: &Schema,
-        rules: &Rules,
         file: &[u8],
-        faults: &[RuleFault],
+        ruled: Ruled<'_>,
     ) -> Result<(), AllocError> {
         let spellings = spell_names(self.alloc, &self.text, schema.declared())?;
-        let explained = faults.get(..self.most).unwrap_or(faults);
+        let explained = ruled.faults.get(..self.most).unwrap_or(ruled.faults);
         let subject = Subject {
             schema,
             spellings: &spellings,
@@ -330,23 +333,100 @@ impl<'a, C: Clock, P: Write> Explainer<'a, C, P> {
         };
         let mut lines = Lines::new(file);
         for fault in explained {
-            let told = self.explained(subject, &mut lines, rules, fault)?;
+            let told = self.explained(subject, &mut lines, ruled.rules, fault)?;
             self.say_found(told)?;
         }
-        let is_told = faults.len() > 1 && self.most > 0 && self.format == Format::Text;
+        let most = self.most.saturating_sub(explained.len());
+        self.add_broken(subject, ruled, most)?;
+        self.add_undecided(subject, ruled)?;
+        let count = ruled.faults.len().saturating_add(ruled.broken.len());
+        let is_told = count > 1 && self.most > 0 && self.format == Format::Text;
         if is_told || self.is_summed {
-            let counts = counts_of(self.alloc, rules, faults)?;
-            let told = rule_summary(self.alloc, &self.text, &spellings, counts)?;
-            if self.is_summed {
-                self.summary = told;
-            } else {
+            self.add_rule_summary(schema, &spellings, ruled)?;
+        }
+        if self.most > 0 {
+            self.add_passed_over(&spellings, ruled.rules)?;
+            self.add_unevaluated(schema, &spellings, ruled)?;
+        }
+        Ok(())
+    }
+
+    /// Adds the first broken rules of WHERE, at most so many.
+    fn add_broken(
+        &mut self,
+        subject: Subject<'_>,
+        ruled: Ruled<'_>,
+        most: usize,
+    ) -> Result<(), AllocError> {
+        let mut lines = Lines::new(subject.file);
+        for broken in ruled.broken.get(..most).unwrap_or(ruled.broken) {
+            if let Some(rule) = ruled.by_where.rules.get(broken.rule) {
+                let stated = self.stated(subject.schema, subject.spellings);
+                let told = explain_broken(
+                    self.alloc,
+                    checked_file(subject),
+                    stated,
+                    &mut lines,
+                    rule,
+                    *broken,
+                    self.format,
+                )?;
+                self.say_found(told)?;
+            }
+        }
+        Ok(())
+    }
+
+    /// Adds the first rules of WHERE that are not decided of instances.
+    fn add_undecided(&mut self, subject: Subject<'_>, ruled: Ruled<'_>) -> Result<(), AllocError> {
+        let undecided = ruled.by_where.undecided.as_slice();
+        let mut lines = Lines::new(subject.file);
+        for one in undecided.get(..self.most).unwrap_or(undecided) {
+            if let Some(rule) = ruled.by_where.rules.get(one.rule) {
+                let stated = self.stated(subject.schema, subject.spellings);
+                let told = explain_undecided(
+                    self.alloc,
+                    checked_file(subject),
+                    stated,
+                    &mut lines,
+                    rule,
+                    *one,
+                    self.format,
+                )?;
                 say(&mut self.said, told)?;
             }
         }
-        if self.most > 0 {
-            self.add_passed_over(&spellings, rules)?;
-        }
         Ok(())
+    }
+
+    /// The schema, as its rules of WHERE are told of.
+    fn stated<'s>(&'s self, schema: &'s Schema, spellings: &'s Spellings) -> Stated<'s> {
+        Stated {
+            path: self.names.schema,
+            text: &self.text,
+            schema,
+            spellings,
+        }
+    }
+
+    /// Adds how many faults break each rule.
+    fn add_rule_summary(
+        &mut self,
+        schema: &Schema,
+        spellings: &Spellings,
+        ruled: Ruled<'_>,
+    ) -> Result<(), AllocError> {
+        let counts = counts_of(self.alloc, ruled.rules, ruled.faults)?;
+        let told = rule_summary(self.alloc, &self.text, spellings, counts)?;
+        let stated = self.stated(schema, spellings);
+        let rules = ruled.by_where.rules.as_slice();
+        let behind = broken_summary(self.alloc, stated, rules, ruled.broken)?;
+        if self.is_summed {
+            self.summary = told;
+            return self.summary.push_str(behind.as_str());
+        }
+        say(&mut self.said, told)?;
+        say(&mut self.said, behind)
     }
 
     /// Adds the rules that were not checked.
@@ -356,6 +436,24 @@ impl<'a, C: Clock, P: Write> Explainer<'a, C, P> {
             let rule = unchecked(rule);
             let told = explain_passed_over(self.alloc, path, text, spellings, &rule, self.format)?;
             say(&mut self.said, told)?;
+        }
+        Ok(())
+    }
+
+    /// Adds the rules of WHERE that are not evaluated.
+    fn add_unevaluated(
+        &mut self,
+        schema: &Schema,
+        spellings: &Spellings,
+        ruled: Ruled<'_>,
+    ) -> Result<(), AllocError> {
+        for rule in &ruled.by_where.rules {
+            if rule.in_the_way.is_some() {
+                let stated = self.stated(schema, spellings);
+                let mut lines = Lines::new(stated.text);
+                let told = explain_unevaluated(self.alloc, stated, &mut lines, rule, self.format)?;
+                say(&mut self.said, told)?;
+            }
         }
         Ok(())
     }
@@ -460,12 +558,11 @@ impl<C: Clock, P: Write> Listener for Explainer<'_, C, P> {
 }
 
 impl<C: Clock, P: Write> RuleListener for Explainer<'_, C, P> {
-    fn hear_ruled(&mut self, schema: &Schema, rules: &Rules, file: &[u8], faults: &[RuleFault]) {
-        let unique = rules.unique.len() as u64;
-        self.checked = unique.saturating_add(rules.inverse.len() as u64);
-        self.passed_over = unchecked_count(rules);
+    fn hear_ruled(&mut self, schema: &Schema, file: &[u8], ruled: Ruled<'_>) {
+        self.checked = checked_count(ruled);
+        self.passed_over = unchecked_count(ruled.rules).saturating_add(unevaluated_count(ruled));
         if self.is_heard() {
-            let _ = self.add_ruled(schema, rules, file, faults);
+            let _ = self.add_ruled(schema, file, ruled);
         }
     }
 }
@@ -490,4 +587,12 @@ fn kind_in(line: &[u8]) -> &[u8] {
         kind = word;
     }
     kind
+}
+
+/// The file that a fault is in.
+fn checked_file<'a>(subject: Subject<'a>) -> CheckedFile<'a> {
+    CheckedFile {
+        path: subject.path,
+        bytes: subject.file,
+    }
 }

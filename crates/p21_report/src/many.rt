@@ -9,6 +9,7 @@ use crate::progress::Progress;
 use crate::words::{Many, Wanted};
 use p21_explain::{Format, explain_device};
 use p21_run::Outcome;
+use p21_where_findings::WhereChecker;
 use std::alloc::{AllocError, Global};
 use std::collections::BTreeSet;
 use std::fs::Files;
@@ -25,9 +26,10 @@ const UNREADABLE: u8 = 4;
 
 /// Runs over each file, in turn: each line of a report begins with the file's name, and so does what is told of one that is not checked. The
 /// answer is the greatest status of a file. Where the output takes nothing more, the run ends.
-pub(crate) fn run_many<R, O, E, C, P>(
+pub(crate) fn run_many<R, W, O, E, C, P>(
     rt: &R,
     alloc: Global,
+    where_checker: &W,
     many: &Many<'_>,
     progress: &Progress<C, P>,
     output: &mut O,
@@ -35,6 +37,7 @@ pub(crate) fn run_many<R, O, E, C, P>(
 ) -> Result<u8, ProgramError>
 where
     R: Files + Threads + Wait + Sync,
+    W: WhereChecker,
     O: Write,
     E: Write,
     C: Clock + Sync + Drop,
@@ -52,7 +55,16 @@ where
     for path in &many.paths {
         let files = files_in(rt, alloc, path)?;
         let status = run_files(
-            rt, alloc, many, &schemas, &files, &mut told, progress, output, errors,
+            rt,
+            alloc,
+            where_checker,
+            many,
+            &schemas,
+            &files,
+            &mut told,
+            progress,
+            output,
+            errors,
         )?;
         worst = status.max(worst);
     }
@@ -60,9 +72,10 @@ where
 }
 
 /// The greatest status of some files. Of a schema that is not among those that were told of, it is told how it is mended.
-fn run_files<'s, R, O, E, C, P>(
+fn run_files<'s, R, W, O, E, C, P>(
     rt: &R,
     alloc: Global,
+    where_checker: &W,
     many: &Many<'_>,
     schemas: &'s [NamedSchema],
     files: &[String],
@@ -73,6 +86,7 @@ fn run_files<'s, R, O, E, C, P>(
 ) -> Result<u8, ProgramError>
 where
     R: Files + Threads + Wait + Sync,
+    W: WhereChecker,
     O: Write,
     E: Write,
     C: Clock + Sync + Drop,
@@ -89,7 +103,7 @@ where
                     tells_changes: told.insert(schema)?,
                     ..many.each
                 };
-                run_file(rt, alloc, &wanted, progress, output, errors)?
+                run_file(rt, alloc, where_checker, &wanted, progress, output, errors)?
             }
             Err(status) => status,
         };
@@ -132,9 +146,10 @@ fn schema_of<'a, R: Files, E: Write>(
 }
 
 /// Runs over a file; answers the status.
-fn run_file<R, O, E, C, P>(
+fn run_file<R, W, O, E, C, P>(
     rt: &R,
     alloc: Global,
+    where_checker: &W,
     wanted: &Wanted<'_>,
     progress: &Progress<C, P>,
     output: &mut O,
@@ -142,6 +157,7 @@ fn run_file<R, O, E, C, P>(
 ) -> Result<u8, ProgramError>
 where
     R: Files + Threads + Wait + Sync,
+    W: WhereChecker,
     O: Write,
     E: Write,
     C: Clock + Sync + Drop,
@@ -152,6 +168,7 @@ where
     let outcome = run_told(
         rt,
         alloc,
+        where_checker,
         wanted,
         progress,
         &mut io::empty(),

@@ -1,7 +1,7 @@
 //! Rules and their faults, as they are explained.
 
 use p21_explain::{BrokenInverse, BrokenUnique, Reason, Rule, RuleCount, RuleForm, UncheckedRule};
-use p21_rule_run::RuleFault;
+use p21_rule_run::{RuleFault, Ruled};
 use p21_rule_text::{PassedOver, RuleKind, Rules};
 use p21_rules::{InverseCount, NotUnique};
 use std::alloc::{AllocError, Global};
@@ -69,6 +69,25 @@ pub(crate) fn unchecked_count(rules: &Rules) -> u64 {
     for rule in &rules.passed_over {
         // A rule UNIQUE over what another entity derives is checked in all other instances.
         if matches!(rule.kind, RuleKind::Inverse) || rule.subtype.is_empty() {
+            count = count.saturating_add(1);
+        }
+    }
+    count
+}
+
+/// How many rules were checked.
+pub(crate) fn checked_count(ruled: Ruled<'_>) -> u64 {
+    let unique = ruled.rules.unique.len() as u64;
+    let placed = unique.saturating_add(ruled.rules.inverse.len() as u64);
+    let stated = ruled.by_where.rules.len() as u64;
+    placed.saturating_add(stated.saturating_sub(unevaluated_count(ruled)))
+}
+
+/// How many rules of WHERE are not evaluated.
+pub(crate) fn unevaluated_count(ruled: Ruled<'_>) -> u64 {
+    let mut count: u64 = 0;
+    for rule in &ruled.by_where.rules {
+        if rule.in_the_way.is_some() {
             count = count.saturating_add(1);
         }
     }

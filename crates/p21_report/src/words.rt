@@ -8,6 +8,7 @@ use p21_desk::LaneCount;
 use p21_explain::Format;
 use p21_lanes::Capacity;
 use p21_schema::Rules;
+use p21_where_findings::STEPS;
 use std::alloc::{AllocError, Global};
 
 /// What the arguments ask for.
@@ -21,8 +22,10 @@ pub(crate) struct Wanted<'a> {
     pub(crate) file: &'a str,
     /// Whether every fault is reported, or only the first.
     pub(crate) all: bool,
-    /// Whether the rules UNIQUE and the INVERSE attributes of the schema are checked too.
+    /// Whether the rules of the schema are checked too: UNIQUE, INVERSE attributes and WHERE.
     pub(crate) ruled: bool,
+    /// How many steps the evaluation of a rule of WHERE may take.
+    pub(crate) steps: u64,
     /// Whether a summary of the faults is written in the place of a line for each.
     pub(crate) summary: bool,
     /// Whether standard error is a terminal.
@@ -260,6 +263,7 @@ fn wanted_of<'a>(
         file,
         all: matches.get_flag("all") || matches.get_flag("summary"),
         ruled: matches.get_flag("rules"),
+        steps: matches.get_one::<u32>("steps").map_or(STEPS, u64::from),
         summary: matches.get_flag("summary"),
         is_terminal: screen.is_terminal,
         any_name: false,
@@ -358,7 +362,9 @@ fn with_options<'a>(alloc: Global, command: Command<'a>) -> Result<Command<'a>, 
     let command = with_lanes(alloc, command)?
         .arg(all(alloc))?
         .arg(summary(alloc))?;
-    let command = with_rules(alloc, command)?.arg(rules(alloc))?;
+    let command = with_rules(alloc, command)?
+        .arg(rules(alloc))?
+        .arg(steps(alloc))?;
     with_telling(alloc, command)
 }
 
@@ -459,8 +465,16 @@ fn summary<'a>(alloc: Global) -> Arg<'a> {
 
 fn rules<'a>(alloc: Global) -> Arg<'a> {
     flag(alloc, "rules").help(
-        "also report instances that break a rule UNIQUE or an INVERSE attribute of the schema",
+        "also report instances that break a rule of the schema: UNIQUE, the bounds of an INVERSE attribute, or WHERE",
     )
+}
+
+fn steps<'a>(alloc: Global) -> Arg<'a> {
+    number(alloc, "steps")
+        .value_parser(value_parser!(u32).range(1..=1000000000))
+        .help(
+            "with --rules, the most steps that a rule WHERE takes for an instance [default: 100000]",
+        )
 }
 
 fn distinct<'a>(alloc: Global) -> Arg<'a> {

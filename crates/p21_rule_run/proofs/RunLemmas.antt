@@ -1,6 +1,6 @@
 -- Reports of models, and of faults.
 use Rattle.std.proofs.Common.{◌≡◌, ◌≢◌, ℕ, Bool, true, false, List, [], ◌∷◌, Result, Ok, Err, IfOk, inl, inr, length, refl, sym, ap, subst, ◌∙◌}
-use Rattle.std.specs.Prelude.{◌==◌}
+use Rattle.std.specs.Prelude.{◌==◌, MatchBool}
 use Rattle.std.proofs.lemmas.Bool.{eqb-true, false≢true}
 use Rattle.p21_express.specs.Schema.{Schema}
 use Rattle.p21_tree.specs.Sentence.{Instance}
@@ -35,11 +35,18 @@ is_some xs empty e f none = false≢true (sym f ∙ e ∙ ap (λ l. length l == 
 pub of_kept : (all : Bool) (s : Schema) (rules : Rules) (is : List Instance) (fs : List RuleFault) (o : Outcome) (text : List ℕ) → AreRuleFaults s rules is fs → fs ≡ [] → o ≡ outcome.Complete → IsModelText s is text → IsOfModel all s rules is o text
 of_kept all s rules is fs o text found none complete model = subst (λ (x : Outcome). IsOfModel all s rules is x text) (sym complete) (ruled.kept (subst (AreRuleFaults s rules is) none found) model)
 
+-- what holds where nothing is broken, and where something is
+pub kept_of : (P Q : Type 0) (b : Bool) → MatchBool b P Q → b ≡ true → P
+kept_of P Q b m e = subst (λ x. MatchBool x P Q) e m
+
+pub broken_of : (P Q : Type 0) (b : Bool) → MatchBool b P Q → b ≡ false → Q
+broken_of P Q b m e = subst (λ x. MatchBool x P Q) e m
+
 -- the report of a file is of one that is complete or faulty
 
 model_of_file : (all : Bool) (s : Schema) (rules : Rules) (is : List Instance) (o : Outcome) (text : List ℕ) → IsOfModel all s rules is o text → IsOfFile o
 model_of_file all s rules is o text (ruled.kept none counted) = inl refl
-model_of_file all s rules is o text (ruled.broken found some lines) = inr refl
+model_of_file all s rules is o text (ruled.broken ws found some lines) = inr refl
 
 first_of_file : (s : Schema) (rules : Rules) (file : List ℕ) (o : Outcome) (text : List ℕ) → IsFirstRuled s rules file o text → IsOfFile o
 first_of_file s rules file o text (IsFirstRuled.faulty of line) = inr refl

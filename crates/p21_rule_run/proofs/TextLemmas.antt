@@ -9,6 +9,10 @@ use Rattle.p21_schema.specs.declared.ids.EntityId.{EntityId}
 pub all_behind : (old a b c d e f g u v w x y z new : List ℕ) → u ≡ old ++ a → v ≡ u ++ b → w ≡ v ++ c → x ≡ w ++ d → y ≡ x ++ e → z ≡ y ++ f → new ≡ z ++ g → new ≡ old ++ (a ++ (b ++ (c ++ (d ++ (e ++ (f ++ g))))))
 all_behind old a b c d e f g u v w x y z new p q r s k l m = rw (m, l, k, s, r, q, p) (simp append_assoc)
 
+-- five texts after another
+pub lines_behind : (old a b c d e u v w x new : List ℕ) → u ≡ old ++ a → v ≡ u ++ b → w ≡ v ++ c → x ≡ w ++ d → new ≡ x ++ e → new ≡ old ++ (a ++ (b ++ (c ++ (d ++ e))))
+lines_behind old a b c d e u v w x new p q r s k = rw (k, s, r, q, p) (simp append_assoc)
+
 -- ---- the entities of rules
 
 -- what is so of each item is so of the one at a place, if there is one

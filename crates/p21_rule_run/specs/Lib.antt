@@ -1,3 +1,4 @@
 pub mod RuleFault
 pub mod FaultLine
+pub mod BrokenLine
 pub mod Ruled

@@ -1,5 +1,5 @@
 -- The report of a file against a schema and the rules that are looked at.
-use Rattle.std.specs.Prelude.{◌≡◌, ◌≢◌, ℕ, Bool, true, false, List, [], Ok, Err, take}
+use Rattle.std.specs.Prelude.{◌≡◌, ◌≢◌, ◌⊎◌, ◌++◌, ℕ, Bool, true, false, List, [], Ok, Err, take}
 use Rattle.p21_express.specs.Schema.{Schema}
 use Rattle.p21_tree.specs.Sentence.{Instance}
 use Rattle.p21_tree.specs.declared.faults.Fault.{Fault}
@@ -9,11 +9,14 @@ use Rattle.p21_render.specs.FaultLine.{fault_lines, fault_text}
 use Rattle.p21_render.specs.ReadingText.{IsModelText}
 use Rattle.p21_rule_text.specs.Rules.{AreRules, HasNoRules}
 use Rattle.p21_rule_text.specs.declared.rules.Rules.{Rules}
+use Rattle.p21_where_findings.specs.declared.findings.BrokenRule.{BrokenRule}
+use Rattle.p21_where_findings.specs.declared.findings.WhereRule.{WhereRule}
 use Rattle.p21_run.specs.Run.{Statement}
 use Rattle.p21_run.specs.declared.input.InputError.TheVariants.{Memory}
 use Rattle.p21_run.specs.declared.outcome.Outcome.{Outcome}
 use Rattle.p21_run.specs.declared.outcome.Outcome.TheVariants as outcome
 use Rattle.p21_rule_run.specs.FaultLine.{rule_fault_lines}
+use Rattle.p21_rule_run.specs.BrokenLine.{rule_broken_lines, told_after}
 use Rattle.p21_rule_run.specs.RuleFault.{AreRuleFaults, AreRulesIn}
 use Rattle.p21_rule_run.specs.declared.rule_fault.RuleFault.{RuleFault}
 
@@ -22,10 +25,11 @@ abbrev pub told : (all : Bool) → List RuleFault → List RuleFault
 told true fs = fs
 told false fs = take 1 fs
 
--- The report of a model: its counts where it keeps all rules, and else the lines of its faults.
+-- The report of a model: its counts where it keeps all rules, and else the lines of its faults, those of rules of WHERE after them. Which rules of
+-- WHERE are broken is not said here.
 pub data IsOfModel (all : Bool) (s : Schema) (rules : Rules) (is : List Instance) : Outcome → List ℕ → Type 0 where
   kept : {text : List ℕ} → AreRuleFaults s rules is [] → IsModelText s is text → IsOfModel all s rules is outcome.Complete text
-  broken : {fs : List RuleFault} {text : List ℕ} → AreRuleFaults s rules is fs → fs ≢ [] → text ≡ rule_fault_lines s rules (told all fs) → IsOfModel all s rules is outcome.Faulty text
+  broken : {fs : List RuleFault} (ws : List WhereRule) {bs : List BrokenRule} {text : List ℕ} → AreRuleFaults s rules is fs → (fs ≢ []) ⊎ (bs ≢ []) → text ≡ rule_fault_lines s rules (told all fs) ++ rule_broken_lines ws (told_after all fs bs) → IsOfModel all s rules is outcome.Faulty text
 
 -- The report of a file: the line of the fault of its reading, or the report of its model.
 pub data IsFirstRuled (s : Schema) (rules : Rules) (file : List ℕ) : Outcome → List ℕ → Type 0 where

@@ -2,6 +2,7 @@
 #![tactic(auto)]
 
 use p21_report::{Screen, program_with_progress, unreadable_words};
+use p21_where_text::TextChecker;
 use std::env;
 use std::io::IsTerminal;
 use std::process::ExitCode;
@@ -14,14 +15,16 @@ fn main(rt: HostRuntime) -> ExitCode {
         Ok(words) => words,
         Err(error) => return ExitCode::from(unreadable_words(rt.alloc(), &error, &mut rt.stderr())),
     };
-    ExitCode::from(program_with_progress(
+    let status = program_with_progress(
         &rt,
         rt.alloc(),
+        &TextChecker,
         words.as_slice(),
         &mut rt.stdin(),
         &mut rt.stdout(),
         &mut rt.stderr(),
         rt.stderr(),
         Screen::new(&rt, rt.stderr().is_terminal()),
-    ))
+    );
+    ExitCode::from(status)
 }

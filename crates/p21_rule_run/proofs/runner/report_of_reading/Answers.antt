@@ -17,4 +17,4 @@ returns-in-Ok g c =
 pub returns-in_ok-text-in-Err : goal.returns-in_ok-text-in-Err
 returns-in_ok-text-in-Err g c =
     let read = subst (λ (a : Result Model Fault). IsReading c.args.schema.now c.args.file.now (plain_answer a)) c.in-Err.is c.requires.read in
-    subst (λ (r : Answer). IsFirstRuled c.args.schema.now c.args.rules.now c.args.file.now r.outcome r.text.items) (sym c.faulty.ensures) (ruled.faulty read c.in_ok-text-in-Err.ensures)
+    subst (λ (r : Answer). IsFirstRuled c.args.schema.now c.args.by.rules.now c.args.file.now r.outcome r.text.items) (sym c.faulty.ensures) (ruled.faulty read c.in_ok-text-in-Err.ensures)

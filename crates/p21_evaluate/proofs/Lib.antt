@@ -1,0 +1,5 @@
+pub mod Rows
+pub mod Steps
+pub mod Depth
+pub mod Queries
+pub mod Operands

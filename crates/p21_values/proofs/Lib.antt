@@ -1,0 +1,9 @@
+pub mod AggregateLemmas
+pub mod EndLemmas
+pub mod NumberLemmas
+pub mod OperatorLemmas
+pub mod SameLemmas
+pub mod SetLemmas
+pub mod TextLemmas
+pub mod PatternLemmas
+pub mod LogicLaws

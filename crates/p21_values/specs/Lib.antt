@@ -1,0 +1,13 @@
+pub mod Aggregates
+pub mod Arithmetic
+pub mod Elements
+pub mod Ends
+pub mod Pattern
+pub mod Logic
+pub mod Numbers
+pub mod Operators
+pub mod Order
+pub mod Parts
+pub mod Plain
+pub mod Same
+pub mod Sets
