@@ -185,13 +185,14 @@ int p21_change(const p21_mended *mended, uint64_t number, uint64_t *at, uint8_t 
 /* ---- rules: UNIQUE, the bounds of INVERSE attributes, and WHERE ---- */
 
 /* Reads the rules of a schema from its text, which must be that of the schema. The bytes of the text are not copied: they, and the schema, must stay where
- * they are, unchanged, until the rules are freed. P21_OK: *rules is a new handle. P21_FAULT: *fault says why they are refused. */
+ * they are, unchanged, until the rules are freed. P21_OK: *rules is a new handle. P21_FAULT: *fault says why they are refused. A rule
+ * WHERE whose text has no reading refuses nothing. It takes up to 4 MB of stack. */
 int p21_rules_read(const p21_schema *schema, const uint8_t *text, size_t size, p21_rules **rules, p21_fault *fault);
 
 /* The faults of a model by rules: those of UNIQUE and INVERSE sorted by their places, of one place those of UNIQUE first; after them those of WHERE, in the
  * order of the instances, and of one instance in that of the schema; those of a RULE last. The model must be of the same schema. It writes as many as fit
  * into the room; *count is how many there are, 0 if the model breaks no rule. docs/FORMAT.md says which rules WHERE are not checked, or not decided of an
- * instance: they give no fault. Rules WHERE take up to STACK of stack. */
+ * instance: they give no fault. It takes up to 4 MB of stack. */
 int p21_rules_check(const p21_rules *rules, const p21_model *model, p21_fault *room, size_t room_size, uint64_t *count);
 
 /* Explains a fault by a rule as p21_explain explains other faults. `file` is the file of the model. P21_NONE: it is no fault by one of these rules. */
@@ -199,7 +200,8 @@ int p21_rules_explain(const p21_rules *rules, const uint8_t *file, size_t size, 
                       uint8_t *room, size_t room_size, uint64_t *length);
 
 /* The rule that a fault breaks: the entity, the type or the RULE that has it, and in upper case the label of the rule UNIQUE (its number in the entity if it
- * has none), the name of the INVERSE attribute, or the label of the rule WHERE ((2) for the second without one): IfcRoot.UR1. P21_NONE: it is no fault by one of these rules. */
+ * has none), the name of the INVERSE attribute, or the label of the rule WHERE ((2) for the second without one): IfcRoot.UR1. P21_NONE: it is no fault by
+ * one of these rules. */
 int p21_rules_name(const p21_rules *rules, const p21_fault *fault, uint8_t *room, size_t room_size, uint64_t *length);
 
 /* ---- a schema, without a model: entities and types have numbers, from 0, in the order of its text ---- */

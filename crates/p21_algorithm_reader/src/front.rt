@@ -67,9 +67,27 @@ fn behind_semicolon<'t, 'a>(words: &'t [Word<'a>]) -> Result<&'t [Word<'a>], Ref
     Err(Refusal::syntax(0))
 }
 
+/// The words after a statement: behind its semicolon, or, where that is missing, from the end of the declaration on.
+fn behind_statement<'t, 'a>(words: &'t [Word<'a>]) -> Result<&'t [Word<'a>], Refusal> {
+    for place in 0..words.len() {
+        if words[place].is_symbol(b';') {
+            return Ok(&words[place + 1..]);
+        }
+        if place > 0 && is_end(words[place]) {
+            return Ok(&words[place..]);
+        }
+    }
+    Err(Refusal::syntax(0))
+}
+
+/// Whether a word ends a declaration.
+fn is_end(word: Word) -> bool {
+    matches!(section_word(word), SectionWord::End)
+}
+
 /// A statement of a section.
 fn statement<'t, 'a>(section: Section<'a>, words: &'t [Word<'a>]) -> Result<Step<'t, 'a>, Refusal> {
-    let rest = behind_semicolon(words)?;
+    let rest = behind_statement(words)?;
     let piece = Piece {
         part: section.part,
         owner: section.owner,

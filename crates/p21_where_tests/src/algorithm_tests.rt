@@ -193,7 +193,18 @@ fn at_most_256_stand_within_one_another(rt: HostRuntime) -> Result<(), Fail> {
 /// What has no reading is passed over, and what stands beside it is read.
 #[test]
 fn passed_over(rt: HostRuntime) -> Result<(), Fail> {
-    let texts: [(&[u8], usize, usize); 9] = [
+    let texts: [(&[u8], usize, usize); 12] = [
+        (
+            b"ENTITY e; a : INTEGER; WHERE v : a = a; w : a = a END_ENTITY;",
+            1,
+            1,
+        ),
+        (b"TYPE t = INTEGER; WHERE v : SELF > 0; w : END_TYPE;", 1, 1),
+        (
+            b"CONSTANT c : INTEGER := 1; d : INTEGER := END_CONSTANT; ENTITY e; a : INTEGER; WHERE v : a = a; END_ENTITY;",
+            2,
+            1,
+        ),
         (
             b"ENTITY e; a : INTEGER; WHERE a + ; v : a = a; END_ENTITY;",
             1,

@@ -81,7 +81,7 @@ fn found_by_words<'w, D: Division>(
         unless_refused(rules_of(alloc, words))?,
         unless_refused(pieces(alloc, words))?,
     ) else {
-        return Ok(nothing(alloc));
+        return unread(alloc, source, words);
     };
     let program = program_of(alloc, schema, &found, &parts, source, texts)?;
     let entities = ModelEntities::new(alloc, schema, model)?;
@@ -132,7 +132,7 @@ fn rules_by_words<'w>(
     where_rules(alloc, schema, source, &program)
 }
 
-/// What was read. Of a schema that was read there is no other refusal than memory, so that nothing is told of another.
+/// What was read; `None` where it is refused.
 fn unless_refused<T: Drop>(read: Result<T, Refusal>) -> Result<Option<T>, AllocError> {
     match read {
         Ok(read) => Ok(Some(read)),
@@ -146,14 +146,38 @@ fn source_of<'s>(text: &'s [u8], places: &'s [usize]) -> Source<'s> {
     Source { text, places }
 }
 
-/// No rules, and nothing found.
-fn nothing(alloc: Global) -> WhereFindings {
-    WhereFindings {
-        rules: Vec::new(alloc),
+/// Of a schema whose declarations do not end as rules want it: nothing is found, and one rule, which stands for all, has no reading.
+fn unread(
+    alloc: Global,
+    source: Source<'_>,
+    words: &[Word<'_>],
+) -> Result<WhereFindings, AllocError> {
+    let mut rules = Vec::new(alloc);
+    rules.push(WhereRule {
+        owner: RuleOwner::Schema,
+        name: Vec::from_slice(alloc, b"the schema.(all)")?,
+        from: 0,
+        to: 0,
+        in_the_way: Some(InTheWay {
+            reason: WhyUnchecked::NoReading,
+            at: unread_from(alloc, source, words)?,
+        }),
+    })?;
+    Ok(WhereFindings {
+        rules,
         broken: Vec::new(alloc),
         undecided: Vec::new(alloc),
         another_schema: None,
         evaluations: 0,
+    })
+}
+
+/// From where on the declarations of a schema are refused.
+fn unread_from(alloc: Global, source: Source<'_>, words: &[Word<'_>]) -> Result<u64, AllocError> {
+    match pieces(alloc, words) {
+        Ok(_) => Ok(0),
+        Err(Refusal::Memory) => Err(AllocError),
+        Err(Refusal::Refused(_, left)) => Ok(source.byte_of(left) as u64),
     }
 }
 
@@ -296,7 +320,7 @@ fn push_owner(
             Some(global) => name.extend_from_slice(global.name),
             None => Ok(()),
         },
-        Owner::Nothing => Ok(()),
+        Owner::Nothing => name.extend_from_slice(b"the schema"),
     }
 }
 
