@@ -72,7 +72,7 @@ def options(words: List[str]) -> argparse.Namespace:
     parser.add_argument('folders', metavar='FOLDER', nargs='+', help='folder to search for STEP files, or one such file')
     parser.add_argument('--schemas', metavar='FOLDER', required=True, help='folder with the EXPRESS schemas, *.exp')
     parser.add_argument('--all', action='store_true', help='tell every fault of a file, %d at most, instead of only the first' % MOST_FAULTS)
-    parser.add_argument('--rules', action='store_true', help='also check rules UNIQUE and INVERSE attributes, as p21check --rules does')
+    parser.add_argument('--rules', action='store_true', help='also check rules UNIQUE and WHERE and INVERSE attributes, as p21check --rules does')
     parser.add_argument('--mend', action='store_true', help='write forms of the schemas that are not supported another way with the same meaning, as p21check --mend does')
     parser.add_argument('--limit', metavar='SIZE', type=size, default=Bounds.bytes, help='most bytes that a compressed file may have when it is decompressed, as 500M or 8G [default: 4G]')
     parser.add_argument('--seconds', metavar='N', type=count, default=Bounds.seconds, help='most seconds for one file [default: %(default)s]')
