@@ -396,6 +396,11 @@ impl<'a, C: Clock, P: Write> Explainer<'a, C, P> {
                 say(&mut self.said, told)?;
             }
         }
+        let left = undecided.len().saturating_sub(self.most);
+        if left > 0 && self.most > 0 && self.format == Format::Text {
+            let more = format!(in self.alloc; "{left} more were not decided by rules.")?;
+            self.add_line(subject.path, more.as_str())?;
+        }
         Ok(())
     }
 

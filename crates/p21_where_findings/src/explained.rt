@@ -199,12 +199,13 @@ fn spelled_rule(alloc: Global, text: &[u8], rule: &WhereRule) -> Result<Vec<u8>,
 /// Why an evaluation ended without a value.
 fn cause_of(why: WhyUndecided) -> &'static str {
     match why {
-        WhyUndecided::Steps => "it takes more steps than --steps allows.",
+        WhyUndecided::Steps => "it takes more steps than it may.",
         WhyUndecided::TooDeep => "expressions in it are nested too deeply.",
         WhyUndecided::NotCompared => {
             "it compares an integer beyond 2^53 with a real, or an instance that it makes with one of the file."
         },
-        WhyUndecided::NotComputed => "a number in it is out of range.",
+        WhyUndecided::NotComputed =>
+            "a number in it is out of range, or it asks for what is not computed.",
         WhyUndecided::Memory => "memory ran out.",
     }
 }
@@ -215,7 +216,7 @@ fn reason_of(reason: WhyUnchecked) -> &'static str {
         WhyUnchecked::NoReading => "its text has no reading.",
         WhyUnchecked::TooDeep => "expressions in it are nested too deeply.",
         WhyUnchecked::TooLarge => "it is too large.",
-        WhyUnchecked::UnknownName => "nothing has a name that it uses.",
+        WhyUnchecked::UnknownName => "nothing that has a reading has a name that it uses.",
         WhyUnchecked::AnotherSchema => "a string of it names another schema.",
         WhyUnchecked::NotComputed => "it has a form or a function that is not computed.",
         WhyUnchecked::WrongCount => "it calls a function with another number of parameters.",
