@@ -41,6 +41,7 @@ pub struct Span {
 }
 
 /// What the text says.
+#[derive(Drop)]
 pub enum Item<'a> {
     DomainRule(DomainRule<'a>),
     Derived(Derived<'a>),
@@ -54,6 +55,7 @@ pub enum Item<'a> {
 }
 
 /// A rule, a derived attribute, a constant, a function, a procedure or a RULE of the text.
+#[derive(Drop)]
 pub struct Found<'a> {
     pub owner: Owner<'a>,
     pub span: Span,
@@ -61,6 +63,7 @@ pub struct Found<'a> {
 }
 
 /// The rules and algorithms of a schema, in the order of the text.
+#[derive(Drop)]
 pub struct SchemaRules<'a> {
     pub found: Vec<Found<'a>>,
 }
@@ -74,33 +77,4 @@ pub struct Piece<'t, 'a> {
     pub words: &'t [Word<'a>],
     /// How many words stand after it.
     pub after: usize,
-}
-
-impl Drop for Item<'_> {
-    fn drop(self) {
-        match self {
-            Item::DomainRule(_part) => {}
-            Item::Derived(_part) => {}
-            Item::Constant(_part) => {}
-            Item::Routine(_part) => {}
-            Item::GlobalRule(_part) => {}
-            Item::PassedOver(_, _part1, _) => {}
-        }
-    }
-}
-
-impl Drop for Found<'_> {
-    fn drop(self) {
-        let Found {
-            owner: _owner,
-            span: _,
-            item: _item,
-        } = self;
-    }
-}
-
-impl Drop for SchemaRules<'_> {
-    fn drop(self) {
-        let SchemaRules { found: _found } = self;
-    }
 }

@@ -16,6 +16,7 @@ pub enum SimpleType {
 }
 
 /// The width of a BINARY or a STRING, in bits or characters, or the precision of a REAL, in digits.
+#[derive(Drop)]
 pub struct Width<'a> {
     pub count: Expression<'a>,
     /// Whether FIXED stands after it: the width is exact.
@@ -32,12 +33,14 @@ pub enum AggregateKind {
 }
 
 /// The bounds of an aggregate. `?` as the upper one says that there is none.
+#[derive(Drop)]
 pub struct Bounds<'a> {
     pub low: Expression<'a>,
     pub high: Expression<'a>,
 }
 
 /// What stands before the elements' type in that of an aggregate.
+#[derive(Drop)]
 pub struct Layer<'a> {
     pub kind: AggregateKind,
     /// `None` where none are written.
@@ -49,6 +52,7 @@ pub struct Layer<'a> {
 }
 
 /// The type of a parameter, a variable, a constant or a derived attribute.
+#[derive(Drop)]
 pub enum TypeTree<'a> {
     Simple(SimpleType, Option<Width<'a>>),
     /// An entity or a type by its name.
@@ -65,12 +69,14 @@ pub enum TypeTree<'a> {
 }
 
 /// What a statement changes: a variable or parameter, or what its qualifiers, from the left, name of it.
+#[derive(Drop)]
 pub struct Target<'a> {
     pub name: Name<'a>,
     pub qualifiers: Vec<Qualifier<'a>>,
 }
 
 /// How a variable of REPEAT counts.
+#[derive(Drop)]
 pub struct Increment<'a> {
     pub name: Name<'a>,
     /// Its first value.
@@ -82,6 +88,7 @@ pub struct Increment<'a> {
 }
 
 /// How often a REPEAT is run. Where nothing of it is there, until an ESCAPE or RETURN.
+#[derive(Drop)]
 pub struct Control<'a> {
     pub increment: Option<Increment<'a>>,
     /// WHILE: what is to be TRUE before each run.
@@ -92,6 +99,7 @@ pub struct Control<'a> {
 
 /// A statement.
 #[cycle(statements)]
+#[derive(Drop)]
 pub enum Statement<'a> {
     /// The semicolon alone, which does nothing, at its place.
     Null(usize),
@@ -119,6 +127,7 @@ pub enum Statement<'a> {
 
 /// What CASE does for values.
 #[cycle(statements)]
+#[derive(Drop)]
 pub struct Action<'a> {
     /// One at least.
     pub labels: Vec<Expression<'a>>,
@@ -126,6 +135,7 @@ pub struct Action<'a> {
 }
 
 /// Parameters of one type.
+#[derive(Drop)]
 pub struct Parameters<'a> {
     /// Whether VAR stands before them: what the procedure assigns to them, its caller sees.
     pub is_variable: bool,
@@ -135,6 +145,7 @@ pub struct Parameters<'a> {
 }
 
 /// Variables of LOCAL, of one type.
+#[derive(Drop)]
 pub struct Variables<'a> {
     /// One at least.
     pub names: Vec<Name<'a>>,
@@ -144,6 +155,7 @@ pub struct Variables<'a> {
 }
 
 /// A constant.
+#[derive(Drop)]
 pub struct ConstantTree<'a> {
     pub name: Name<'a>,
     pub of: TypeTree<'a>,
@@ -151,6 +163,7 @@ pub struct ConstantTree<'a> {
 }
 
 /// An attribute of DERIVE, newly declared or declared again.
+#[derive(Drop)]
 pub struct Derived<'a> {
     /// The entity after SELF, where the attribute is declared again.
     pub redeclared_of: Option<Name<'a>>,
@@ -164,6 +177,7 @@ pub struct Derived<'a> {
 
 /// What a function, a procedure or a rule declares and does.
 #[cycle(routines)]
+#[derive(Drop)]
 pub struct Block<'a> {
     /// The functions and procedures within it.
     pub routines: Vec<Routine<'a>>,
@@ -174,6 +188,7 @@ pub struct Block<'a> {
 
 /// A function or a procedure.
 #[cycle(routines)]
+#[derive(Drop)]
 pub struct Routine<'a> {
     pub name: Name<'a>,
     pub parameters: Vec<Parameters<'a>>,
@@ -183,6 +198,7 @@ pub struct Routine<'a> {
 }
 
 /// A RULE.
+#[derive(Drop)]
 pub struct GlobalRule<'a> {
     pub name: Name<'a>,
     /// The entities after FOR: in the rule each such name is the set of the entity's instances. One at least.
@@ -190,182 +206,4 @@ pub struct GlobalRule<'a> {
     pub block: Block<'a>,
     /// The rules after WHERE. One at least.
     pub rules: Vec<DomainRule<'a>>,
-}
-
-impl Drop for Width<'_> {
-    fn drop(self) {
-        let Width {
-            count: _count,
-            is_fixed: _,
-        } = self;
-    }
-}
-
-impl Drop for Bounds<'_> {
-    fn drop(self) {
-        let Bounds {
-            low: _low,
-            high: _high,
-        } = self;
-    }
-}
-
-impl Drop for Layer<'_> {
-    fn drop(self) {
-        let Layer {
-            kind: _,
-            bounds: _bounds,
-            is_optional: _,
-            is_unique: _,
-        } = self;
-    }
-}
-
-impl Drop for TypeTree<'_> {
-    fn drop(self) {
-        match self {
-            TypeTree::Simple(_, _part1) => {}
-            TypeTree::Named(_) => {}
-            TypeTree::Aggregation(_part0, _part1) => {}
-            TypeTree::Aggregate(_, _part1) => {}
-            TypeTree::Generic(_) => {}
-            TypeTree::GenericEntity(_) => {}
-        }
-    }
-}
-
-impl Drop for Target<'_> {
-    fn drop(self) {
-        let Target {
-            name: _name,
-            qualifiers: _qualifiers,
-        } = self;
-    }
-}
-
-impl Drop for Increment<'_> {
-    fn drop(self) {
-        let Increment {
-            name: _name,
-            from: _from,
-            to: _to,
-            by: _by,
-        } = self;
-    }
-}
-
-impl Drop for Control<'_> {
-    fn drop(self) {
-        let Control {
-            increment: _increment,
-            condition: _condition,
-            until: _until,
-        } = self;
-    }
-}
-
-impl Drop for Statement<'_> {
-    #[cycle(statements)]
-    fn drop(self) {
-        match self {
-            Statement::Null(_) => {}
-            Statement::Assign(_part0, _part1) => {}
-            Statement::Call(_, _part1) => {}
-            Statement::If(_part0, _part1, _part2) => {}
-            Statement::Case(_part0, _part1, _part2) => {}
-            Statement::Repeat(_part0, _part1) => {}
-            Statement::Alias(_, _part1, _part2) => {}
-            Statement::Compound(_part) => {}
-            Statement::Return(_, _part1) => {}
-            Statement::Skip(_) => {}
-            Statement::Escape(_) => {}
-        }
-    }
-}
-
-impl Drop for Action<'_> {
-    #[cycle(statements)]
-    fn drop(self) {
-        let Action {
-            labels: _labels,
-            statement: _statement,
-        } = self;
-    }
-}
-
-impl Drop for Parameters<'_> {
-    fn drop(self) {
-        let Parameters {
-            is_variable: _,
-            names: _names,
-            of: _of,
-        } = self;
-    }
-}
-
-impl Drop for Variables<'_> {
-    fn drop(self) {
-        let Variables {
-            names: _names,
-            of: _of,
-            value: _value,
-        } = self;
-    }
-}
-
-impl Drop for ConstantTree<'_> {
-    fn drop(self) {
-        let ConstantTree {
-            name: _name,
-            of: _of,
-            value: _value,
-        } = self;
-    }
-}
-
-impl Drop for Derived<'_> {
-    fn drop(self) {
-        let Derived {
-            redeclared_of: _redeclared_of,
-            name: _name,
-            renamed: _renamed,
-            of: _of,
-            value: _value,
-        } = self;
-    }
-}
-
-impl Drop for Block<'_> {
-    #[cycle(routines)]
-    fn drop(self) {
-        let Block {
-            routines: _routines,
-            constants: _constants,
-            locals: _locals,
-            statements: _statements,
-        } = self;
-    }
-}
-
-impl Drop for Routine<'_> {
-    #[cycle(routines)]
-    fn drop(self) {
-        let Routine {
-            name: _name,
-            parameters: _parameters,
-            result: _result,
-            block: _block,
-        } = self;
-    }
-}
-
-impl Drop for GlobalRule<'_> {
-    fn drop(self) {
-        let GlobalRule {
-            name: _name,
-            entities: _entities,
-            block: _block,
-            rules: _rules,
-        } = self;
-    }
 }

@@ -11,6 +11,7 @@ use p21_express::{Refusal, Word, begins_name, begins_symbol, symbol};
 use std::alloc::Global;
 
 /// A rule of a WHERE clause.
+#[derive(Drop)]
 pub struct DomainRule<'a> {
     pub label: Option<Name<'a>>,
     /// What is not to be FALSE.
@@ -111,13 +112,4 @@ pub fn domain_rules<'t, 'a>(
     ensures same { Gives (λ x. (map plain_rule x.0.items, words_of x.1.now)) result (rules_at last.now (words_of words.now)) }
 {
     rules_up_to(alloc, words, last)
-}
-
-impl Drop for DomainRule<'_> {
-    fn drop(self) {
-        let DomainRule {
-            label: _label,
-            condition: _condition,
-        } = self;
-    }
 }

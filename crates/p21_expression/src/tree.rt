@@ -95,6 +95,7 @@ pub enum IntervalOperator {
 
 /// An expression. A place is the number of words that stand from there on.
 #[cycle(tree)]
+#[derive(Drop)]
 pub enum Expression<'a> {
     /// A whole number, with its value where it has at most 18 digits, and its place.
     Integer(Option<u64>, usize),
@@ -123,6 +124,7 @@ pub enum Expression<'a> {
 
 /// What is read of a value.
 #[cycle(tree)]
+#[derive(Drop)]
 pub enum Qualifier<'a> {
     /// `.a`
     Attribute(Name<'a>),
@@ -136,6 +138,7 @@ pub enum Qualifier<'a> {
 
 /// An operator, and the operand on its right.
 #[cycle(tree)]
+#[derive(Drop)]
 pub struct Operation<'a> {
     pub operator: BinaryOperator,
     /// The place of the operator.
@@ -145,6 +148,7 @@ pub struct Operation<'a> {
 
 /// An element of an aggregate.
 #[cycle(tree)]
+#[derive(Drop)]
 pub enum Element<'a> {
     Once(Expression<'a>),
     /// An element, and how often it stands there.
@@ -153,78 +157,11 @@ pub enum Element<'a> {
 
 /// `{ low < item < high }`
 #[cycle(tree)]
+#[derive(Drop)]
 pub struct Interval<'a> {
     pub low: Expression<'a>,
     pub above: IntervalOperator,
     pub item: Expression<'a>,
     pub below: IntervalOperator,
     pub high: Expression<'a>,
-}
-
-impl Drop for Expression<'_> {
-    #[cycle(tree)]
-    fn drop(self) {
-        match self {
-            Expression::Integer(_, _) => {}
-            Expression::Real(_) => {}
-            Expression::Text(_) => {}
-            Expression::Binary(_) => {}
-            Expression::Truth(_) => {}
-            Expression::Constant(_) => {}
-            Expression::Name(_) => {}
-            Expression::Call(_, _part1) => {}
-            Expression::Qualified(_part0, _part1) => {}
-            Expression::Unary(_, _part1) => {}
-            Expression::Operations(_part0, _part1) => {}
-            Expression::Aggregate(_part) => {}
-            Expression::Interval(_part) => {}
-            Expression::Query(_, _part1, _part2) => {}
-        }
-    }
-}
-
-impl Drop for Qualifier<'_> {
-    #[cycle(tree)]
-    fn drop(self) {
-        match self {
-            Qualifier::Attribute(_) => {}
-            Qualifier::Group(_) => {}
-            Qualifier::Index(_part) => {}
-            Qualifier::Range(_part0, _part1) => {}
-        }
-    }
-}
-
-impl Drop for Operation<'_> {
-    #[cycle(tree)]
-    fn drop(self) {
-        let Operation {
-            operator: _,
-            place: _,
-            right: _right,
-        } = self;
-    }
-}
-
-impl Drop for Element<'_> {
-    #[cycle(tree)]
-    fn drop(self) {
-        match self {
-            Element::Once(_part) => {}
-            Element::Repeated(_part0, _part1) => {}
-        }
-    }
-}
-
-impl Drop for Interval<'_> {
-    #[cycle(tree)]
-    fn drop(self) {
-        let Interval {
-            low: _low,
-            above: _,
-            item: _item,
-            below: _,
-            high: _high,
-        } = self;
-    }
 }
